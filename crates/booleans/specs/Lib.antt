@@ -1,0 +1,3 @@
+-- Definitions, in the order of reading.
+pub mod Tests
+pub mod Laws

@@ -1,0 +1,7 @@
+-- Definitions, in the order of reading.
+mod Nodes
+pub mod Answers
+pub mod Demand
+pub mod Cases
+-- What is proved of them.
+pub mod Laws

@@ -1,0 +1,52 @@
+-- Document 01, "Simplification": closed and symbol-free.
+use mathlib.Core.Bool.{Bool, true, false}
+use Prim.Native.Nat.{ℕ}
+use lib.Dec.{leb, ltb}
+use Rattle.evaluate.specs.Nodes.{Limit, Unlimited, AtMost, Kind, Number, Plain, Symbol, Block, Sequence, Choice, Loop}
+use Rattle.booleans.specs.Tests.{_and_}
+use Rattle.table.specs.Numbers.{wholeRun}
+use Rattle.table.specs.Trees.{Tree, node, Forest, nil, _▸_, rest, around}
+
+-- ---- closed, symbol-free, byte-equal
+
+-- a limit names one of d loops
+unfoldable pub stays : Limit → ℕ → Bool
+stays Unlimited d = true
+stays (AtMost k m) d = leb 1 k and leb k d and ltb k wholeRun
+
+-- no limit names the whole run or a loop outside, d of the loops around counting as inside; closed is closed t 0
+unfoldable mutual
+  pub closed : Tree → ℕ → Bool
+  closed (node n f) d = stays (n .limit) d and closedIn (n .kind) f d
+
+  pub closedIn : Kind → Forest → ℕ → Bool
+  closedIn k nil d = true
+  closedIn k (t ▸ f) d = closed t (around k d) and closedIn (rest k) f d
+
+unfoldable pub isPlain : Number → Bool
+isPlain (Plain n) = true
+isPlain (Symbol s) = false
+
+unfoldable pub plainKind : Kind → Bool
+plainKind (Block t) = isPlain t
+plainKind Sequence = true
+plainKind Choice = true
+plainKind (Loop n) = isPlain n
+
+unfoldable pub plainLimit : Limit → Bool
+plainLimit Unlimited = true
+plainLimit (AtMost k m) = isPlain m
+
+unfoldable mutual
+  pub symbolFree : Tree → Bool
+  symbolFree (node n f) = plainKind (n .kind) and plainLimit (n .limit) and symbolFreeIn f
+
+  pub symbolFreeIn : Forest → Bool
+  symbolFreeIn nil = true
+  symbolFreeIn (t ▸ f) = symbolFree t and symbolFreeIn f
+
+-- ---- parts
+
+unfoldable pub isUnlimited : Limit → Bool
+isUnlimited Unlimited = true
+isUnlimited (AtMost k m) = false

@@ -1,0 +1,97 @@
+-- Document 01, "Evaluation": a node's value is an endless list that never rises, with the loop it names.
+use mathlib.Core.Bool.{cond, Bool, true}
+use Prim.Native.Nat.{ℕ, min, _-_}
+use lib.Dec.{leb}
+use Rattle.evaluate.specs.Nodes.{Number, Plain, Symbol, Limit, Unlimited, AtMost, Kind, Block, Sequence, Choice, Loop}
+use Rattle.booleans.specs.Tests.{_and_}
+use Rattle.table.specs.Numbers.{wholeRun, mostTime}
+use Rattle.table.specs.Trees.{Tree, node, Forest, nil, _▸_, rest}
+use Rattle.lists.specs.Streams.{Stream, cap, const, group, add, merge}
+
+-- what the symbols stand for
+abbrev pub Values : Type 0
+Values = ℕ → ℕ
+
+unfoldable pub num : Values → Number → ℕ
+num v (Plain n) = n
+num v (Symbol k) = v k
+
+-- ---- the named loop: 1 and on the loops around, counted outward; the whole run is the largest, so that the inner of two is the smaller
+
+unfoldable pub inner : Limit → ℕ → ℕ
+inner Unlimited k = k
+inner (AtMost j m) k = min j k
+
+-- a name inside a loop's body, seen from outside: the loop itself gives way to the whole run
+unfoldable pub outward : ℕ → ℕ
+outward k = cond (leb k 1) wholeRun (cond (leb wholeRun k) wholeRun (k - 1))
+
+unfoldable pub seen : Kind → ℕ → ℕ
+seen (Block t) k = k
+seen Sequence k = k
+seen Choice k = k
+seen (Loop n) k = outward k
+
+unfoldable mutual
+  pub name : Tree → ℕ
+  name (node n f) = inner (n .limit) (nameIn (n .kind) f)
+
+  pub nameIn : Kind → Forest → ℕ
+  nameIn k nil = wholeRun
+  nameIn k (t ▸ f) = min (seen k (name t)) (nameIn (rest k) f)
+
+-- ---- the list
+
+unfoldable pub limit : Values → Limit → Stream → Stream
+limit v Unlimited f = f
+limit v (AtMost k m) f = cap (num v m) f
+
+-- a loop of bound n over a body that names loop k: only the first sum, for ever, where that is this very loop
+unfoldable pub rounds : ℕ → ℕ → Stream → Stream
+rounds k n f = cond (leb k 1) (const (group n f 0)) (group n f)
+
+-- what the first child, whose list f names loop k, comes to
+unfoldable pub turns : Values → Kind → ℕ → Stream → Stream
+turns v (Block t) k f = f
+turns v Sequence k f = f
+turns v Choice k f = f
+turns v (Loop n) k f = rounds k (num v n) f
+
+-- a choice takes the lists' members together; the others are added
+unfoldable pub join : Kind → Stream → Stream → Stream
+join (Block t) f g = add f g
+join Sequence f g = add f g
+join Choice f g = merge f g
+join (Loop n) f g = add f g
+
+-- without children
+unfoldable pub start : Values → Kind → Stream
+start v (Block t) = const (num v t)
+start v Sequence = const 0
+start v Choice = const 0
+start v (Loop n) = const 0
+
+unfoldable mutual
+  pub list : Values → Tree → Stream
+  list v (node n f) = limit v (n .limit) (before v (n .kind) f)
+
+  -- before the node's own limit
+  pub before : Values → Kind → Forest → Stream
+  before v k nil = start v k
+  before v k (t ▸ f) = join k (turns v k (name t) (list v t)) (before v (rest k) f)
+
+unfoldable pub figure : Values → Tree → ℕ
+figure v t = list v t 0
+
+-- question 10: every node's first member, before its own limit, is at most the ceiling
+unfoldable mutual
+  pub fits : Values → Tree → Bool
+  fits v (node n f) = leb (before v (n .kind) f 0) mostTime and fitsIn v f
+
+  pub fitsIn : Values → Forest → Bool
+  fitsIn v nil = true
+  fitsIn v (t ▸ f) = fits v t and fitsIn v f
+
+-- question 10 of simplifying puts every symbol 0
+abbrev pub zeros : Values
+zeros k = 0

@@ -1,0 +1,8 @@
+-- Laws, in the order in which they lean on each other.
+pub mod Monotone
+pub mod Constant
+pub mod PairCount
+pub mod Settled
+pub mod ListPairs
+pub mod Covered
+pub mod Reached

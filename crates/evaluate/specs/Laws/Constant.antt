@@ -1,0 +1,190 @@
+-- A closed tree's list is constant and names the whole run; a symbol-free tree's list is the same at all values.
+use mathlib.Core.Path.{_≡_, refl, ap, _∙_, ap₂, sym}
+use mathlib.Core.Bool.{false, cond, Bool, true}
+use Prim.Native.Nat.{ℕ, _≤_, _-_, _<_, suc}
+use native.Mathlib.Omega.{arith}
+use lib.Dec.{leb, T, ltb→lt, leb→le}
+use borrow.Author.Tests.{leb-true, leb-false}
+use Rattle.evaluate.specs.Nodes.{Kind, Block, Sequence, Choice, Loop, Limit, Unlimited, AtMost, Number, Plain, Symbol}
+use Rattle.booleans.specs.Laws.{by-cond, both}
+use Rattle.table.specs.Numbers.{wholeRun}
+use Rattle.table.specs.Trees.{Tree, node, Forest, nil, _▸_, rest, around}
+use Rattle.lists.specs.Streams.{Stream, group, add, merge, const, cap}
+use Rattle.lists.specs.Laws.MergeLaws.{Const, group-const, add-consts, merge-consts}
+use Rattle.evaluate.specs.Evaluate.{rounds, outward, Values, num, seen, turns, join, start, inner, limit, name, nameIn, list, before}
+use Rattle.evaluate.specs.Closed.{isUnlimited, stays, closed, closedIn, isPlain, plainKind, plainLimit, symbolFree, symbolFreeIn}
+use Rattle.evaluate.specs.Laws.Monotone.{name-le, nameIn-le}
+
+rounds-const : (k n : ℕ) (f : Stream) → (leb k 1 ≡ false → Const f) → Const (rounds k n f)
+unfolding rounds
+rounds-const k n f h =
+    by-cond Const (leb k 1) _ _ (λ e. (_, refl)) (λ e. let (c, q) = h e in (_, ap (group n) q ∙ group-const n c))
+
+-- what a name seen from outside says of the name inside
+outward-run : (k : ℕ) → wholeRun ≤ outward k → leb k 1 ≡ false → wholeRun ≤ k
+unfolding outward
+outward-run k h e = go (leb 255 k) refl (rw e at h)
+  where
+    go : (c : Bool) → leb 255 k ≡ c → 255 ≤ cond c 255 (k - 1) → 255 ≤ k
+    go true e₂ h = leb-true 255 k e₂
+    go false e₂ h = let h₁ : 255 ≤ k - 1 = h in omega arith
+
+turns-const : (v : Values) (k : Kind) (n : ℕ) (f : Stream) → wholeRun ≤ seen k n → (wholeRun ≤ n → Const f) → Const (turns v k n f)
+unfolding turns seen
+turns-const v (Block t) n f h g = g h
+turns-const v Sequence n f h g = g h
+turns-const v Choice n f h g = g h
+turns-const v (Loop m) n f h g = rounds-const n (num v m) f (λ e. g (outward-run n h e))
+
+join-const : (k : Kind) (f g : Stream) → Const f → Const g → Const (join k f g)
+unfolding join
+join-const (Block t) f g (a, p) (b, q) = (_, ap₂ add p q ∙ add-consts a b)
+join-const Sequence f g (a, p) (b, q) = (_, ap₂ add p q ∙ add-consts a b)
+join-const Choice f g (a, p) (b, q) = (_, ap₂ merge p q ∙ merge-consts a b)
+join-const (Loop n) f g (a, p) (b, q) = (_, ap₂ add p q ∙ add-consts a b)
+
+start-const : (v : Values) (k : Kind) → Const (start v k)
+unfolding start
+start-const v (Block t) = (_, refl)
+start-const v Sequence = (_, refl)
+start-const v Choice = (_, refl)
+start-const v (Loop n) = (_, refl)
+
+limit-const : (v : Values) (l : Limit) (d : ℕ) (f : Stream) (k : ℕ) → T (stays l d) → wholeRun ≤ inner l k → (wholeRun ≤ k → Const f) → Const (limit v l f)
+unfolding limit inner stays
+limit-const v Unlimited d f k t h g = g h
+limit-const v (AtMost j m) d f k t h g = let (a, b) = both _ _ t in absurd (omega (arith, ltb→lt j wholeRun b))
+
+mutual
+  unfolding list name closed
+
+  pub list-const : (v : Values) (t : Tree) (d : ℕ) → T (closed t d) → wholeRun ≤ name t → Const (list v t)
+  list-const v (node n f) d r h =
+      let (a, b) = both _ _ r in
+      limit-const v (n .limit) d _ _ a h (λ m. before-const v (n .kind) f d b m)
+
+  pub before-const : (v : Values) (k : Kind) (f : Forest) (d : ℕ) → T (closedIn k f d) → wholeRun ≤ nameIn k f → Const (before v k f)
+  before-const v k nil d r h = start-const v k
+  before-const v k (t ▸ f) d r h =
+      let (a, b) = both _ _ r in
+      join-const k _ _
+      (turns-const v k (name t) _ (omega arith) (λ m. list-const v t (around k d) a m))
+      (before-const v (rest k) f d b (omega arith))
+
+-- ---- the name of a closed tree: one of the d loops around, or the whole run
+
+record Named (d k : ℕ) : Type 0 where
+  low : 1 ≤ k
+  high : d < k → wholeRun ≤ k
+
+outward-named : (d k : ℕ) → Named (suc d) k → Named d (outward k)
+unfolding outward
+outward-named d k h = go (leb k 1) refl (leb 255 k) refl
+  where
+    go : (b : Bool) → leb k 1 ≡ b → (c : Bool) → leb 255 k ≡ c → Named d (cond b 255 (cond c 255 (k - 1)))
+    go true e c q = record { low = omega arith; high = λ g. omega arith }
+    go false e true q = record { low = omega arith; high = λ g. omega arith }
+    go false e false q =
+        let l : 1 < k = leb-false k 1 e in
+        let r : Named d (k - 1) = record { low = omega arith; high = λ g. absurd (omega (arith, h .high (omega arith), leb-false 255 k q)) } in
+        r
+
+seen-named : (k : Kind) (d n : ℕ) → Named (around k d) n → Named d (seen k n)
+unfolding seen around
+seen-named (Block t) d n h = h
+seen-named Sequence d n h = h
+seen-named Choice d n h = h
+seen-named (Loop m) d n h = outward-named d n h
+
+inner-named : (d : ℕ) (l : Limit) (k : ℕ) → T (stays l d) → Named d k → Named d (inner l k)
+unfolding stays inner
+inner-named d Unlimited k r h = h
+inner-named d (AtMost j m) k r h =
+    let (q, z) = both _ _ r in
+    let (x, y) = both _ _ q in
+    record { low = omega (arith, leb→le 1 j x, h .low); high = λ g. omega (arith, leb→le j d y) }
+
+mutual
+  unfolding closed name
+
+  closed-named : (t : Tree) (d : ℕ) → T (closed t d) → Named d (name t)
+  closed-named (node n f) d r = let (a, b) = both _ _ r in inner-named d (n .limit) _ a (closedIn-named (n .kind) f d b)
+
+  closedIn-named : (k : Kind) (f : Forest) (d : ℕ) → T (closedIn k f d) → Named d (nameIn k f)
+  closedIn-named k nil d r = record { low = omega arith; high = λ g. omega arith }
+  closedIn-named k (t ▸ f) d r =
+      let (x, y) = both _ _ r in
+      let i = seen-named k d _ (closed-named t (around k d) x) in
+      let j = closedIn-named (rest k) f d y in
+      record { low = omega (arith, i .low, j .low); high = λ g. omega (arith, i .high (omega arith), j .high (omega arith)) }
+
+pub closed-run : (t : Tree) → T (closed t 0) → name t ≡ wholeRun
+closed-run t r = let n = closed-named t 0 r in omega (arith, n .high (n .low), name-le t)
+
+pub closedIn-run : (k : Kind) (f : Forest) → T (closedIn k f 0) → nameIn k f ≡ wholeRun
+closedIn-run k f r = let n = closedIn-named k f 0 r in omega (arith, n .high (n .low), nameIn-le k f)
+
+pub closed-const : (v : Values) (t : Tree) → T (closed t 0) → Const (list v t)
+closed-const v t r = list-const v t 0 r (omega (arith, closed-run t r))
+
+pub closedIn-const : (v : Values) (k : Kind) (f : Forest) → T (closedIn k f 0) → before v k f ≡ const (before v k f 0)
+unfolding const
+closedIn-const v k f r =
+    let (c, e) = before-const v k f 0 r (omega (arith, closedIn-run k f r)) in
+    e ∙ ap const (sym (ap (λ s. s 0) e))
+
+-- ---- symbol-free
+
+module _ (v w : Values) where
+  num-free : (n : Number) → T (isPlain n) → num v n ≡ num w n
+  unfolding isPlain num
+  num-free (Plain n) h = refl
+  num-free (Symbol k) h = absurd h
+
+  limit-free : (l : Limit) (f : Stream) → T (plainLimit l) → limit v l f ≡ limit w l f
+  unfolding plainLimit limit
+  limit-free Unlimited f h = refl
+  limit-free (AtMost k m) f h = ap (λ n. cap n f) (num-free m h)
+
+  start-free : (k : Kind) → T (plainKind k) → start v k ≡ start w k
+  unfolding plainKind start
+  start-free (Block t) h = ap const (num-free t h)
+  start-free Sequence h = refl
+  start-free Choice h = refl
+  start-free (Loop n) h = refl
+
+  turns-free : (k : Kind) (n : ℕ) (f : Stream) → T (plainKind k) → turns v k n f ≡ turns w k n f
+  unfolding plainKind turns
+  turns-free (Block t) n f h = refl
+  turns-free Sequence n f h = refl
+  turns-free Choice n f h = refl
+  turns-free (Loop m) n f h = ap (λ x. rounds n x f) (num-free m h)
+
+  rest-plain : (k : Kind) → T (plainKind (rest k))
+  unfolding plainKind rest
+  rest-plain (Block t) = tt
+  rest-plain Sequence = tt
+  rest-plain Choice = tt
+  rest-plain (Loop n) = tt
+
+  mutual
+    unfolding symbolFree list
+
+    pub list-free : (t : Tree) → T (symbolFree t) → list v t ≡ list w t
+    list-free (node n f) h =
+        let (p, c) = both _ _ h in
+        let (a, b) = both _ _ p in
+        limit-free (n .limit) _ b ∙ ap (limit w (n .limit)) (before-free (n .kind) f a c)
+
+    pub before-free : (k : Kind) (f : Forest) → T (plainKind k) → T (symbolFreeIn f) → before v k f ≡ before w k f
+    before-free k nil h g = start-free k h
+    before-free k (t ▸ f) h g =
+        let (a, b) = both _ _ g in
+        ap₂ (join k) (turns-free k (name t) _ h ∙ ap (turns w k (name t)) (list-free t a)) (before-free (rest k) f (rest-plain k) b)
+
+-- ---- unlimited
+
+pub unlimited-is : (l : Limit) → T (isUnlimited l) → l ≡ Unlimited
+unfolding isUnlimited
+unlimited-is Unlimited h = refl
+unlimited-is (AtMost k m) h = absurd h

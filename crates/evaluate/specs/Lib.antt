@@ -1,0 +1,8 @@
+-- Definitions, in the order of reading.
+mod Nodes
+pub mod Evaluate
+pub mod Closed
+pub mod Runs
+pub mod ListPairs
+-- What is proved of them.
+pub mod Laws

@@ -1,0 +1,34 @@
+-- The list call's pairs of a tree.
+use mathlib.Core.Bool.{cond}
+use mathlib.Core.List.{List}
+use Prim.Native.Nat.{ℕ, _+_}
+use lib.Dec.{leb}
+use Rattle.evaluate.specs.Nodes.{Limit, Unlimited, AtMost, Kind, Block, Sequence, Choice, Loop}
+use Rattle.table.specs.Trees.{Tree, node, Forest, nil, _▸_, rest}
+use Rattle.lists.specs.Pairs.{Pair, pairs}
+use Rattle.evaluate.specs.Evaluate.{Values, num, name, list}
+
+-- ---- how far to look
+
+-- a place from which a tree's list is constant
+unfoldable pub placeOf : Values → Limit → ℕ → ℕ
+placeOf v Unlimited p = p
+placeOf v (AtMost k m) p = num v m
+
+unfoldable pub turned : Kind → ℕ → ℕ → ℕ
+turned (Block t) k p = p
+turned Sequence k p = p
+turned Choice k p = p
+turned (Loop n) k p = cond (leb k 1) 0 p
+
+unfoldable mutual
+  pub place : Values → Tree → ℕ
+  place v (node n f) = placeOf v (n .limit) (placeIn v (n .kind) f)
+
+  pub placeIn : Values → Kind → Forest → ℕ
+  placeIn v k nil = 0
+  placeIn v k (t ▸ f) = turned k (name t) (place v t) + placeIn v (rest k) f
+
+-- what the list call writes
+unfoldable pub listPairs : Values → Tree → List Pair
+listPairs v t = pairs (list v t) (place v t)

@@ -1,0 +1,7 @@
+-- Laws, in the order in which they lean on each other.
+pub mod Sums
+pub mod Merge
+pub mod MergeLaws
+pub mod Falls
+pub mod Settled
+pub mod Pairs

@@ -1,0 +1,291 @@
+-- Rules 4, 8 and 9.
+use mathlib.Core.Path.{_≡_, sym, ap, _∙_, refl, ap₂, subst}
+use mathlib.Core.Bool.{not, true, Bool, false, _||_}
+use Prim.Native.Nat.{ℕ, _≤_, suc, min, max, _+_, _<_}
+use native.Mathlib.Omega.{arith}
+use lib.Dec.{T, leb→le, eqb→eq, le→leb, leb, eqb}
+use borrow.Author.Tests.{eqb-true}
+use Rattle.simplify.specs.Nodes.{Kind, Block, Sequence, Choice, Loop, Node, Unlimited, Limit, Plain}
+use Rattle.booleans.specs.Tests.{_and_}
+use Rattle.booleans.specs.Laws.{both, join-and, by-cond}
+use Rattle.table.specs.Numbers.{mostTime, wholeRun}
+use Rattle.table.specs.Trees.{Forest, nil, _▸_, size, records, recordsIn, node, Tree, rest, around}
+use Rattle.table.specs.Questions.{arity, listed, depth, loops, named, weight, listedIn, depthIn, loopsIn, namedIn, weightIn, kindInRange, limitInRange, nameOk, share}
+use Rattle.table.specs.Laws.Trees.{some-records}
+use Rattle.lists.specs.Streams.{const, add, merge, Stream, S, group}
+use Rattle.lists.specs.Laws.Sums.{const-falls, add-falls}
+use Rattle.lists.specs.Laws.MergeLaws.{merge-zero, merge-lift}
+use Rattle.evaluate.specs.Evaluate.{Values, num, inner, name, limit, start, list, before, fits, zeros, seen, nameIn, turns, join, fitsIn, rounds, outward}
+use Rattle.evaluate.specs.Closed.{closedIn, symbolFree, closed}
+use Rattle.evaluate.specs.Laws.Monotone.{name-le, list-falls, before-falls}
+use Rattle.evaluate.specs.Laws.Constant.{closedIn-run, closedIn-const, before-free, closed-const, unlimited-is}
+use Rattle.simplify.specs.Same.{same, sameIn}
+use Rattle.simplify.specs.Rules.{isBlock, leaf, children, isPair, headOf, tailOf, firstOf, secondOf, allPairs, firsts, shares, sharedOut}
+use Rattle.simplify.specs.Laws.Refines.{Refines}
+use Rattle.simplify.specs.Laws.RulesSplice.{at, kind-is, limit-is, node-is, add-zero-r, add-zero-l}
+use Rattle.simplify.specs.Laws.RulesBlocks.{leaf-fits, leaf-listed, leaf-depth, leaf-loops, leaf-records}
+
+-- ---- rule 4
+
+arity-some : (k : Kind) (c : ℕ) → T (not (isBlock k)) → T (arity k c) → 1 ≤ c
+unfolding isBlock arity
+arity-some (Block t) c h a = absurd h
+arity-some Sequence c h a = leb→le 1 c (both _ _ a .0)
+arity-some Choice c h a = leb→le 1 c (both _ _ a .0)
+arity-some (Loop n) c h a = omega (arith, eqb→eq c 2 a)
+
+pub records-some : (f : Forest) → size f ≤ recordsIn f
+unfolding size records
+records-some nil = omega arith
+records-some (t ▸ f) = omega (arith, some-records t, records-some f)
+
+pub rule4-refines : (n : Node) (f : Forest) → T (symbolFree (node n f)) → T (not (isBlock (n .kind))) → T (closedIn (n .kind) f 0)
+    → Refines (leaf (before zeros (n .kind) f 0) (n .limit)) (node n f)
+rule4-refines n f h i r = record {
+  sameName = unfold name in unfold leaf in ap (inner (n .limit)) (sym (closedIn-run k f r));
+  sameList = λ v. unfold list in unfold leaf in unfold start in unfold num in ap (limit v (n .limit)) (sym (closedIn-const v k f r ∙ ap const (first v)));
+  stillFits = λ v q. leaf-fits v x (n .limit) (few v q);
+  stillListed = λ q l. leaf-listed x (n .limit) (few zeros q) (unfold listed in both _ _ (both _ _ (both _ _ l .0) .0) .1);
+  deep = unfold depth in omega (arith, leaf-depth x (n .limit));
+  nested = λ d. unfold loops in omega (arith, leaf-loops x (n .limit) d);
+  stillNamed = λ d q. unfold named in unfold leaf in join-and _ _ (both _ _ q .0) tt;
+  weighed = λ d. unfold weight in unfold leaf in omega arith;
+  fewer = λ l. unfold records in omega (arith, leaf-records x (n .limit), records-some f, arity-some k (size f) i (unfold listed in both _ _ (both _ _ l .0) .1));
+}
+  where
+    k : Kind
+    k = n .kind
+
+    x : ℕ
+    x = before zeros (n .kind) f 0
+
+    first : (v : Values) → before v (n .kind) f 0 ≡ before zeros (n .kind) f 0
+    first v = ap (λ s. s 0) (before-free v zeros (n .kind) f (unfold symbolFree in both _ _ (both _ _ h .0) .0) (unfold symbolFree in both _ _ h .1))
+
+    few : (v : Values) → T (fits v (node n f)) → before zeros (n .kind) f 0 ≤ mostTime
+    few v q = rw (first v) at (leb→le (before v (n .kind) f 0) mostTime (unfold fits in both _ _ q .0))
+
+-- ---- rule 8
+
+mutual
+  unfolding same
+
+  pub same-is : (t u : Tree) → T (same t u) → t ≡ u
+  same-is (node n f) (node m g) h =
+      let (p, c) = both _ _ h in
+      let (a, b) = both _ _ p in
+      ap₂ node (node-is n _ _ (kind-is _ _ a) (limit-is _ _ b)) (sameIn-is f g c)
+
+  pub sameIn-is : (f g : Forest) → T (sameIn f g) → f ≡ g
+  sameIn-is nil nil h = refl
+  sameIn-is nil (u ▸ g) h = absurd h
+  sameIn-is (t ▸ f) nil h = absurd h
+  sameIn-is (t ▸ f) (u ▸ g) h = let (a, b) = both _ _ h in ap₂ _▸_ (same-is t u a) (sameIn-is f g b)
+
+-- two-child sequences
+abbrev pub pair : Tree → Tree → Tree
+pair a x = node (at Sequence Unlimited) (a ▸ x ▸ nil)
+
+unfoldable pub withEach : Forest → Tree → Forest
+withEach nil x = nil
+withEach (t ▸ c) x = pair t x ▸ withEach c x
+
+pair-is : (t : Tree) → T (isPair t) → t ≡ pair (firstOf t) (secondOf t)
+unfolding isPair firstOf secondOf children headOf tailOf
+pair-is (node n nil) h = absurd h
+pair-is (node n (a ▸ nil)) h = absurd h
+pair-is (node n (a ▸ x ▸ nil)) h = let (p, q) = both _ _ h in ap (λ m. node m (a ▸ x ▸ nil)) (node-is n Sequence Unlimited (kind-is _ _ p) (unlimited-is _ q))
+pair-is (node n (a ▸ x ▸ y ▸ f)) h = absurd h
+
+pub pairs-are : (x : Tree) (f : Forest) → T (allPairs x f) → f ≡ withEach (firsts f) x
+unfolding allPairs firsts withEach
+pairs-are x nil h = refl
+pairs-are x (t ▸ f) h =
+    let (p, r) = both _ _ h in
+    let (a, b) = both _ _ p in
+    ap₂ _▸_ (pair-is t a ∙ ap (pair (firstOf t)) (same-is (secondOf t) x b)) (pairs-are x f r)
+
+each-size : (c : Forest) (x : Tree) → size (withEach c x) ≡ size c
+unfolding withEach size
+each-size nil x = refl
+each-size (t ▸ c) x = ap suc (each-size c x)
+
+each-name : (t : Tree) (c : Forest) (x : Tree) → nameIn Choice (withEach (t ▸ c) x) ≡ min (nameIn Choice (t ▸ c)) (name x)
+unfolding withEach name seen rest inner
+each-name t nil x = omega (arith, name-le x, name-le t)
+each-name t (u ▸ c) x = shuffle (name t) (nameIn Choice (u ▸ c)) (name x) _ (name-le x) (each-name u c x)
+  where
+    shuffle : (a b x y : ℕ) → x ≤ 255 → y ≡ min b x → min (min a (min x 255)) y ≡ min (min a b) x
+    shuffle a b x y h e = omega arith
+
+each-list : (v : Values) (t : Tree) (c : Forest) (x : Tree) (k : ℕ) → list v x ≡ const k
+    → before v Choice (withEach (t ▸ c) x) ≡ add (before v Choice (t ▸ c)) (list v x)
+unfolding withEach list limit start turns join rest
+each-list v t nil x k e =
+    rw (add-zero-r, merge-zero (list v t) (list-falls v t), e)
+    (merge-zero _ (add-falls _ _ (list-falls v t) (const-falls k)))
+each-list v t (u ▸ c) x k e =
+    ap₂ merge (ap (add (list v t)) (add-zero-r (list v x))) (each-list v u c x k e)
+    ∙ rw e (merge-lift k (list v t) (before v Choice (u ▸ c)) (list-falls v t) (before-falls v Choice (u ▸ c)))
+
+each-fits : (v : Values) (c : Forest) (x : Tree) → T (fitsIn v (withEach c x)) → T (fitsIn v c)
+unfolding withEach fits
+each-fits v nil x h = tt
+each-fits v (t ▸ c) x h = let (p, q) = both _ _ h in join-and _ _ (both _ _ (both _ _ p .1) .0) (each-fits v c x q)
+
+each-listed : (c : Forest) (x : Tree) → T (listedIn (withEach c x)) → T (listedIn c)
+unfolding withEach listed
+each-listed nil x h = tt
+each-listed (t ▸ c) x h = let (p, q) = both _ _ h in join-and _ _ (both _ _ (both _ _ p .1) .0) (each-listed c x q)
+
+each-depth : (t : Tree) (c : Forest) (x : Tree) → suc (depthIn (t ▸ c)) ≤ depthIn (withEach (t ▸ c) x)
+unfolding withEach depth
+each-depth t nil x = omega arith
+each-depth t (u ▸ c) x = shape (depth t) (depthIn (u ▸ c)) (depth x) _ (each-depth u c x)
+  where
+    shape : (a b x y : ℕ) → suc b ≤ y → suc (max a b) ≤ max (suc (max a (max x 0))) y
+    shape a b x y h = omega arith
+
+each-loops : (c : Forest) (x : Tree) (d : ℕ) → loopsIn Choice c d ≤ loopsIn Choice (withEach c x) d
+unfolding withEach loops around rest
+each-loops nil x d = omega arith
+each-loops (t ▸ c) x d = omega (arith, each-loops c x d)
+
+each-named : (c : Forest) (x : Tree) (d : ℕ) → T (namedIn Choice (withEach c x) d) → T (namedIn Choice c d)
+unfolding withEach named around rest
+each-named nil x d h = tt
+each-named (t ▸ c) x d h = let (p, q) = both _ _ h in join-and _ _ (both _ _ (both _ _ p .1) .0) (each-named c x d q)
+
+each-weight : (c : Forest) (x : Tree) (d : ℕ) → weightIn Choice c d ≤ weightIn Choice (withEach c x) d
+unfolding withEach weight around rest
+each-weight nil x d = omega arith
+each-weight (t ▸ c) x d = omega (arith, each-weight c x d)
+
+each-records : (c : Forest) (x : Tree) → recordsIn c + size c ≤ recordsIn (withEach c x)
+unfolding withEach records size
+each-records nil x = omega arith
+each-records (t ▸ c) x = omega (arith, each-records c x)
+
+-- the second child, and the first members
+shared-list : (v : Values) (t : Tree) (c : Forest) (x : Tree) → T (closed x 0)
+    → before v Sequence (node (at Choice Unlimited) (t ▸ c) ▸ x ▸ nil) ≡ before v Choice (withEach (t ▸ c) x)
+shared-list v t c x r =
+    let (k, e) = closed-const v x r in
+    sym (each-list v t c x k e ∙ unfold list in unfold limit in unfold start in unfold turns in unfold join in unfold rest in ap (add (before v Choice (t ▸ c))) (sym (add-zero-r (list v x))))
+
+shared-first : (v : Values) (c : Forest) (x : Tree) → before v Choice c 0 ≤ before v Sequence (node (at Choice Unlimited) c ▸ x ▸ nil) 0
+unfolding list limit turns join rest add
+shared-first v c x = omega arith
+
+-- a sequence of a choice of the first children and the second
+abbrev pub factored : Limit → Forest → Tree → Tree
+factored l c x = node (at Sequence l) (node (at Choice Unlimited) c ▸ x ▸ nil)
+
+shared-fits : (v : Values) (l : Limit) (t : Tree) (c : Forest) (x : Tree) → T (closed x 0)
+    → T (fits v (node (at Choice l) (withEach (t ▸ c) x))) → T (fits v (factored l (t ▸ c) x))
+unfolding fits withEach
+shared-fits v l t c x r h =
+    let (a, b) = both _ _ h in
+    let (p, q) = both _ _ b in
+    let e : before v Sequence (node (at Choice Unlimited) (t ▸ c) ▸ x ▸ nil) 0 ≡ before v Choice (withEach (t ▸ c) x) 0 = ap (λ s. s 0) (shared-list v t c x r) in
+    let m : before v Choice (withEach (t ▸ c) x) 0 ≤ mostTime = leb→le _ _ a in
+    let i : before v Choice (t ▸ c) 0 ≤ mostTime = omega (arith, shared-first v (t ▸ c) x) in
+    let j : before v Sequence (node (at Choice Unlimited) (t ▸ c) ▸ x ▸ nil) 0 ≤ mostTime = omega arith in
+    let y = both _ _ (both _ _ p .1) .1 in
+    join-and _ _ (le→leb _ _ j) (join-and _ _ (join-and _ _ (le→leb _ _ i) (each-fits v (t ▸ c) x b)) y)
+
+shared-listed : (l : Limit) (t : Tree) (c : Forest) (x : Tree) → T (listed (node (at Choice l) (withEach (t ▸ c) x))) → T (listed (factored l (t ▸ c) x))
+unfolding listed withEach kindInRange limitInRange
+shared-listed l t c x h =
+    let (a, b) = both _ _ h in
+    let (p, q) = both _ _ b in
+    let (i, j) = both _ _ a in
+    let y = both _ _ (both _ _ p .1) .1 in
+    let w : T (arity Sequence (size (node (at Choice Unlimited) (t ▸ c) ▸ x ▸ nil))) = unfold size in unfold arity in unfold _and_ in tt in
+    let g : T (arity Choice (size (t ▸ c))) = subst (λ k. T (arity Choice k)) (each-size (t ▸ c) x) j in
+    let u : T (listed (node (at Choice Unlimited) (t ▸ c))) = join-and _ _ (join-and _ _ (join-and true true tt tt) g) (each-listed (t ▸ c) x b) in
+    join-and _ _ (join-and _ _ i w) (join-and _ _ u y)
+
+shared-loops : (l : Limit) (t : Tree) (c : Forest) (x : Tree) (d : ℕ) → loops (factored l (t ▸ c) x) d ≤ loops (node (at Choice l) (withEach (t ▸ c) x)) d
+shared-loops l t c x d = unfold loops in unfold around in unfold rest in shape d (loopsIn Choice (t ▸ c) d) (loops x d) _ (each-loops (t ▸ c) x d) top
+  where
+    top : loops x d ≤ loopsIn Choice (withEach (t ▸ c) x) d
+    top = unfold withEach in unfold loops in unfold around in unfold rest in omega arith
+
+    shape : (d a x y : ℕ) → a ≤ y → x ≤ y → max d (max (max d a) (max x 0)) ≤ max d y
+    shape d a x y h i = omega arith
+
+shared-named : (l : Limit) (t : Tree) (c : Forest) (x : Tree) (d : ℕ) → T (named (node (at Choice l) (withEach (t ▸ c) x)) d) → T (named (factored l (t ▸ c) x) d)
+unfolding named withEach nameOk around rest
+shared-named l t c x d h =
+    let (a, b) = both _ _ h in
+    let (p, q) = both _ _ b in
+    let y = both _ _ (both _ _ p .1) .1 in
+    join-and _ _ a (join-and _ _ (join-and _ _ tt (each-named (t ▸ c) x d b)) y)
+
+shared-weight : (l : Limit) (t : Tree) (c : Forest) (x : Tree) (d : ℕ) → weight (factored l (t ▸ c) x) d ≤ weight (node (at Choice l) (withEach (t ▸ c) x)) d
+unfolding weight withEach share around rest
+shared-weight l t c x d = omega (arith, each-weight c x d)
+
+shared-records : (l : Limit) (t : Tree) (c : Forest) (x : Tree) → 1 ≤ size c → records (factored l (t ▸ c) x) < records (node (at Choice l) (withEach (t ▸ c) x))
+unfolding records withEach
+shared-records l t c x z = omega (arith, each-records c x)
+
+pub shared-refines : (l : Limit) (t : Tree) (c : Forest) (x : Tree) → T (closed x 0) → 1 ≤ size c
+    → Refines (factored l (t ▸ c) x) (node (at Choice l) (withEach (t ▸ c) x))
+shared-refines l t c x r z = record {
+  sameName = unfold name in unfold seen in unfold rest in unfold inner in ap (inner l) (omega (arith, each-name t c x, name-le x));
+  sameList = λ v. unfold list in ap (limit v l) (shared-list v t c x r);
+  stillFits = λ v h. shared-fits v l t c x r h;
+  stillListed = λ h q. shared-listed l t c x q;
+  deep = unfold depth in omega (arith, each-depth t c x, deeper);
+  nested = shared-loops l t c x;
+  stillNamed = shared-named l t c x;
+  weighed = shared-weight l t c x;
+  fewer = λ q. shared-records l t c x z;
+}
+  where
+    deeper : depth x ≤ depthIn (withEach (t ▸ c) x)
+    deeper = unfold withEach in unfold depth in omega arith
+
+firsts-size : (f : Forest) → size (firsts f) ≡ size f
+unfolding firsts size
+firsts-size nil = refl
+firsts-size (t ▸ f) = ap suc (firsts-size f)
+
+pub rule8-refines : (l : Limit) (f : Forest) → T (shares f) → Refines (sharedOut l f) (node (at Choice l) f)
+unfolding shares sharedOut headOf size
+rule8-refines l nil h = absurd (both _ _ (both _ _ h .0) .0)
+rule8-refines l (t ▸ f) h =
+    let (p, q) = both _ _ h in
+    let (a, b) = both _ _ p in
+    let z : 1 ≤ size (firsts f) = omega (arith, leb→le 2 (suc (size f)) a, firsts-size f) in
+    subst (λ g. Refines (factored l (firsts (t ▸ f)) (secondOf t)) (node (at Choice l) g)) (sym (pairs-are (secondOf t) (t ▸ f) q))
+    (unfold firsts in shared-refines l (firstOf t) (firsts f) (secondOf t) b z)
+
+-- ---- rule 9
+
+rounds-zero : (k : ℕ) (f : Stream) → rounds k 0 f ≡ const 0
+unfolding rounds group S const
+rounds-zero k f = by-cond (λ g. g ≡ const 0) (leb k 1) _ _ (λ e. refl) (λ e. refl)
+
+pub names-run : (k : ℕ) → T (eqb k 1 || eqb k wholeRun) → outward k ≡ wholeRun
+names-run k h = go (eqb k 1) refl h
+  where
+    go : (b : Bool) → eqb k 1 ≡ b → T (b || eqb k wholeRun) → outward k ≡ wholeRun
+    go true e h = ap outward (eqb-true k 1 e) ∙ unfold outward in refl
+    go false e h = ap outward (eqb→eq k wholeRun h) ∙ unfold outward in refl
+
+pub rule9-refines : (b e : Tree) → outward (name b) ≡ wholeRun → Refines e (node (at (Loop (Plain 0)) Unlimited) (b ▸ e ▸ nil))
+unfolding name seen rest inner list limit turns start num join fits listed depth loops around named weight share records
+rule9-refines b e h = record {
+  sameName = omega (arith, name-le e);
+  sameList = λ v. sym (ap₂ add (rounds-zero (name b) (list v b)) (add-zero-r (list v e)) ∙ add-zero-l _);
+  stillFits = λ v q. both _ _ (both _ _ (both _ _ q .1) .1) .0;
+  stillListed = λ q l. both _ _ (both _ _ (both _ _ l .1) .1) .0;
+  deep = omega arith;
+  nested = λ d. omega arith;
+  stillNamed = λ d q. both _ _ (both _ _ (both _ _ q .1) .1) .0;
+  weighed = λ d. omega arith;
+  fewer = λ l. omega arith;
+}

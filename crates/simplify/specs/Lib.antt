@@ -1,0 +1,7 @@
+-- Definitions, in the order of reading.
+mod Nodes
+pub mod Same
+pub mod Rules
+pub mod Steps
+-- What is proved of them.
+pub mod Laws

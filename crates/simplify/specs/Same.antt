@@ -1,0 +1,47 @@
+-- Two trees with the same bytes.
+use mathlib.Core.Bool.{Bool, false, true}
+use lib.Dec.{eqb}
+use Rattle.simplify.specs.Nodes.{Number, Plain, Symbol, Limit, Unlimited, AtMost, Kind, Block, Sequence, Choice, Loop}
+use Rattle.booleans.specs.Tests.{_and_}
+use Rattle.table.specs.Trees.{Tree, node, Forest, nil, _▸_}
+
+unfoldable pub sameNum : Number → Number → Bool
+sameNum (Plain m) (Plain n) = eqb m n
+sameNum (Plain m) (Symbol n) = false
+sameNum (Symbol m) (Plain n) = false
+sameNum (Symbol m) (Symbol n) = eqb m n
+
+unfoldable pub sameLimit : Limit → Limit → Bool
+sameLimit Unlimited Unlimited = true
+sameLimit Unlimited (AtMost j n) = false
+sameLimit (AtMost k m) Unlimited = false
+sameLimit (AtMost k m) (AtMost j n) = eqb k j and sameNum m n
+
+unfoldable pub sameKind : Kind → Kind → Bool
+sameKind (Block m) (Block n) = sameNum m n
+sameKind (Block m) Sequence = false
+sameKind (Block m) Choice = false
+sameKind (Block m) (Loop n) = false
+sameKind Sequence (Block n) = false
+sameKind Sequence Sequence = true
+sameKind Sequence Choice = false
+sameKind Sequence (Loop n) = false
+sameKind Choice (Block n) = false
+sameKind Choice Sequence = false
+sameKind Choice Choice = true
+sameKind Choice (Loop n) = false
+sameKind (Loop m) (Block n) = false
+sameKind (Loop m) Sequence = false
+sameKind (Loop m) Choice = false
+sameKind (Loop m) (Loop n) = sameNum m n
+
+-- two trees with the same bytes
+unfoldable mutual
+  pub same : Tree → Tree → Bool
+  same (node n f) (node m g) = sameKind (n .kind) (m .kind) and sameLimit (n .limit) (m .limit) and sameIn f g
+
+  pub sameIn : Forest → Forest → Bool
+  sameIn nil nil = true
+  sameIn nil (u ▸ g) = false
+  sameIn (t ▸ f) nil = false
+  sameIn (t ▸ f) (u ▸ g) = same t u and sameIn f g

@@ -1,0 +1,73 @@
+-- Document 01, "Questions put to a call": questions 1 to 7, put to a table's bytes, and the number of the first that says no.
+use mathlib.Core.Bool.{Bool, _&&_, _||_, true, false}
+use mathlib.Core.List.{List, [], _∷_}
+use Prim.Native.Nat.{ℕ, _/_, _%_, suc, _*_}
+use lib.Dec.{eqb, leb, ltb}
+use lib.ListN.{getD, length}
+use Rattle.booleans.specs.Tests.{_and_}
+use Rattle.table.specs.Nodes.{Limit, Unlimited, AtMost}
+use Rattle.table.specs.Numbers.{wholeRun, mostLoops, recordLength, mostRecords, mostDepth, mostWeight}
+use Rattle.table.specs.Questions.{countInRange, kindInRange, depth, loops, named, weight}
+use Rattle.table.specs.Table.{field, firstNode, formTrees, each, recordCount, decode}
+
+-- 1. a multiple of 16 from 16 to 8,192
+unfoldable pub question1 : List ℕ → Bool
+question1 b = eqb (length b % recordLength) 0 and leb recordLength (length b) and leb (length b) (recordLength * mostRecords)
+
+-- 2. A block has no child and a loop two. A sequence or choice has some (a byte counts no more than 255), no flag 1 and value 0.
+abbrev pub kindListed : (kind children flag1 value : ℕ) → Bool
+kindListed k c s v = (eqb k 0 && eqb c 0) || (eqb k 3 && eqb c 2) || ((eqb k 1 || eqb k 2) && leb 1 c && eqb s 0 && eqb v 0)
+
+-- 2. Byte 3 is 1 to 8, or 255, or 0 with no flag 2 and limit 0.
+abbrev pub limitListed : (byte3 flag2 limit : ℕ) → Bool
+limitListed k s m = (leb 1 k && leb k mostLoops) || eqb k wholeRun || (eqb k 0 && eqb s 0 && eqb m 0)
+
+-- 2. of the first record; flag 1 is the low bit of byte 1 and flag 2 the next, and there is no other
+abbrev pub recordListed : List ℕ → Bool
+recordListed b =
+    kindListed (getD b 0 0) (getD b 2 0) (getD b 1 0 % 2) (field b 8 8)
+    && limitListed (getD b 3 0) (getD b 1 0 / 2) (field b 4 4)
+    && ltb (getD b 1 0) 4
+
+unfoldable pub question2 : List ℕ → Bool
+question2 b = each recordListed (recordCount b) b
+
+-- 3. the plain number or symbol number of the first record's time or bound, and of its limit
+unfoldable pub limitCount : Limit → Bool
+limitCount Unlimited = true
+limitCount (AtMost k m) = countInRange m
+
+unfoldable pub recordInRange : List ℕ → Bool
+recordInRange b = kindInRange (firstNode b .kind) and limitCount (firstNode b .limit)
+
+unfoldable pub question3 : List ℕ → Bool
+question3 b = each recordInRange (recordCount b) b
+
+-- 4. the records form exactly one tree
+unfoldable pub question4 : List ℕ → Bool
+question4 b = formTrees (recordCount b) 1 b
+
+-- 5. at most 32 nodes deep, at most 8 loops around any node
+unfoldable pub question5 : List ℕ → Bool
+question5 b = leb (depth (decode b)) mostDepth and leb (loops (decode b) 0) mostLoops
+
+-- 6. each byte 3 of 1 to 8 names a loop around its node
+unfoldable pub question6 : List ℕ → Bool
+question6 b = named (decode b) 0
+
+-- 7. the limits' weights sum to at most 255
+unfoldable pub question7 : List ℕ → Bool
+question7 b = leb (weight (decode b) 0) mostWeight
+
+-- the place of the first no, counted on from i, or 0
+unfoldable pub firstNo : ℕ → List Bool → ℕ
+firstNo i [] = 0
+firstNo i (true ∷ qs) = firstNo (suc i) qs
+firstNo i (false ∷ qs) = i
+
+abbrev pub questions : List ℕ → List Bool
+questions b = question1 b ∷ question2 b ∷ question3 b ∷ question4 b ∷ question5 b ∷ question6 b ∷ question7 b ∷ []
+
+-- the refusal's number, 0 for none: each question is put to the whole table before the next
+unfoldable pub refusal : List ℕ → ℕ
+refusal b = firstNo 1 (questions b)

@@ -1,0 +1,7 @@
+-- Laws, in the order in which they lean on each other.
+pub mod Trees
+pub mod Bytes
+pub mod RoundTrip
+pub mod Canonical
+pub mod Accepted
+pub mod NotRefused

@@ -1,0 +1,132 @@
+-- A table that checking does not refuse is the table of an accepted tree.
+use mathlib.Core.Path.{_≡_, subst, sym, refl, ap, _∙_}
+use mathlib.Core.Bool.{false, _||_, _&&_, Bool, true}
+use mathlib.Core.List.{List, [], _∷_}
+use Prim.Native.Nat.{ℕ, zero, suc, _<_, _/_, _%_, _+_, _*_}
+use native.Mathlib.Omega.{arith}
+use lib.Dec.{T, leb, eqb, le→leb, ltb, eqb→eq, leb→le}
+use lib.ListN.{getD, drop, length}
+use borrow.Author.Tests.{ne-eqb}
+use Rattle.booleans.specs.Tests.{_and_}
+use Rattle.booleans.specs.Laws.{join-and, two, left, both}
+use Rattle.table.specs.Trees.{Forest, nil, _▸_, size, records}
+use Rattle.table.specs.Questions.{arity, limitInRange, kindInRange, listed, listedIn, Accepted, named}
+use Rattle.table.specs.Bytes.{AreBytes}
+use Rattle.table.specs.Table.{numFrom, kindFrom, limitFrom, firstNode, childByte, field, firstOnes, afterOnes, forest, formTrees, each, top, decode, encode}
+use Rattle.table.specs.Checking.{kindListed, limitListed, limitCount, recordListed, recordInRange, firstNo, question1, question2, question3, question4, question5, question6, question7, questions, refusal}
+use Rattle.table.specs.Laws.RoundTrip.{size-first, size-after, length-encode}
+use Rattle.table.specs.Laws.Canonical.{bytes-drop, encode-decode}
+
+kind-arity : (k c s v : ℕ) → c < 256 → T (kindListed k c s v) → T (arity (kindFrom k (numFrom s v)) c)
+unfolding arity kindFrom
+kind-arity zero c s v l t = left (eqb c 0) (left (eqb c 0 || false) t)
+kind-arity (suc zero) c s v l t = let q = two (leb 1 c && eqb s 0) _ t in join-and _ _ (two (leb 1 c) _ (q .0) .0) (le→leb c 255 (omega arith))
+kind-arity (suc (suc zero)) c s v l t = let q = two (leb 1 c && eqb s 0) _ t in join-and _ _ (two (leb 1 c) _ (q .0) .0) (le→leb c 255 (omega arith))
+kind-arity (suc (suc (suc zero))) c s v l t = left (eqb c 2) t
+kind-arity (suc (suc (suc (suc k)))) c s v l t =
+    absurd (simp (ne-eqb (suc (suc (suc (suc k)))) 0 (omega arith), ne-eqb (suc (suc (suc (suc k)))) 1 (omega arith), ne-eqb (suc (suc (suc (suc k)))) 2 (omega arith), ne-eqb (suc (suc (suc (suc k)))) 3 (omega arith)) at t)
+
+limit-ranged : (k s m : ℕ) → T (limitListed k s m) → T (limitCount (limitFrom k (numFrom s m))) → T (limitInRange (limitFrom k (numFrom s m)))
+unfolding limitCount limitInRange limitFrom
+limit-ranged zero s m t c = tt
+limit-ranged (suc k) s m t c = join-and _ _ (go (leb 1 (suc k)) (leb (suc k) 8) (eqb (suc k) 255) (eqb (suc k) 0) (ne-eqb (suc k) 0 (omega arith)) t) c
+  where
+    go : (a b d e : Bool) → e ≡ false → T ((a && b) || d || (e && eqb s 0 && eqb m 0)) → T ((a and b) || d)
+    go a b d true q t = absurd (subst T q tt)
+    go true true d false q t = unfold _and_ in tt
+    go true false d false q t = unfold _and_ in left d t
+    go false b d false q t = unfold _and_ in left d t
+
+-- a record that passes questions 2 and 3
+record-ok : (b : List ℕ) → AreBytes b → T (recordListed b) → T (recordInRange b)
+    → T (kindInRange (firstNode b .kind)) × T (limitInRange (firstNode b .limit)) × T (arity (firstNode b .kind) (childByte b))
+unfolding recordInRange firstNode childByte
+
+record-ok b h t r =
+    let S = kindListed (getD b 0 0) (getD b 2 0) (getD b 1 0 % 2) (field b 8 8) in
+    let N = limitListed (getD b 3 0) (getD b 1 0 / 2) (field b 4 4) in
+    let q = two (S && N) (ltb (getD b 1 0) 4) t in
+    let p = two S N (q .0) in
+    let (x, y) = both _ _ r in
+    (x, limit-ranged (getD b 3 0) (getD b 1 0 / 2) (field b 4 4) (p .1) y, kind-arity (getD b 0 0) (getD b 2 0) (getD b 1 0 % 2) (field b 8 8) (h 2) (p .0))
+
+first-listed : (n : ℕ) (f : Forest) → T (listedIn f) → T (listedIn (firstOnes n f))
+unfolding listed firstOnes
+first-listed zero f h = tt
+first-listed (suc n) nil h = tt
+first-listed (suc n) (t ▸ f) h = let (a, b) = both _ _ h in join-and _ _ a (first-listed n f b)
+
+after-listed : (n : ℕ) (f : Forest) → T (listedIn f) → T (listedIn (afterOnes n f))
+unfolding listed afterOnes
+after-listed zero f h = h
+after-listed (suc n) nil h = tt
+after-listed (suc n) (t ▸ f) h = after-listed n f (both _ _ h .1)
+
+forest-listed : (n k : ℕ) (b : List ℕ) → AreBytes b → T (each recordListed n b) → T (each recordInRange n b) → T (formTrees n k b) → T (listedIn (forest n b)) × (size (forest n b) ≡ k)
+unfolding listed forest each formTrees size
+forest-listed zero k b h l r t = (tt, sym (eqb→eq k 0 t))
+forest-listed (suc n) zero b h l r t = absurd t
+forest-listed (suc n) (suc k) b h l r t =
+    let p = both _ _ l in
+    let q = both _ _ r in
+    let ih = forest-listed n (k + childByte b) (drop 16 b) (bytes-drop b 16 h) (p .1) (q .1) t in
+    let f = forest n (drop 16 b) in
+    let s : size (firstOnes (childByte b) f) ≡ childByte b = size-first (childByte b) f (omega arith) in
+    let (x, y, z) = record-ok b h (p .0) (q .0) in (
+      join-and _ _ (join-and _ _ (join-and _ _ (join-and _ _ x y) (rw s z)) (first-listed (childByte b) f (ih .0))) (after-listed (childByte b) f (ih .0)),
+      omega (arith, size-after (childByte b) f),
+    )
+
+top-listed : (f : Forest) → size f ≡ 1 → T (listedIn f) → T (listed (top f))
+unfolding listed top size
+top-listed nil e h = absurd (omega arith)
+top-listed (t ▸ f) e h = both _ _ h .0
+
+decode-listed : (b : List ℕ) → size (forest (length b / 16) b) ≡ 1 → T (listedIn (forest (length b / 16) b)) → T (listed (decode b))
+unfolding decode
+decode-listed b e h = top-listed _ e h
+
+-- ---- the seven answers
+
+unfoldable pub Yes : List Bool → Type 0
+Yes [] = Unit {0}
+Yes (q ∷ qs) = T q × Yes qs
+
+all-yes : (i : ℕ) (qs : List Bool) → 0 < i → firstNo i qs ≡ 0 → Yes qs
+unfolding firstNo Yes
+all-yes i [] h e = tt
+all-yes i (true ∷ qs) h e = (tt, all-yes (suc i) qs (omega arith) e)
+all-yes i (false ∷ qs) h e = absurd (omega arith)
+
+pub yes-all : (i : ℕ) (qs : List Bool) → Yes qs → firstNo i qs ≡ 0
+unfolding firstNo Yes
+yes-all i [] h = refl
+yes-all i (true ∷ qs) h = yes-all (suc i) qs (h .1)
+yes-all i (false ∷ qs) h = absurd (h .0)
+
+pub record IsTable (b : List ℕ) : Type 0 where
+  pub accepted : Accepted (decode b)
+  pub back : encode (decode b) ≡ b
+
+pub is-table : (b : List ℕ) → AreBytes b → refusal b ≡ 0 → IsTable b
+unfolding refusal question1 question2 question3 question4 question5 question6 question7 Yes
+is-table b h e =
+    let y = all-yes 1 (questions b) (omega arith) e in
+    let l = both _ _ (y .0) in
+    let m = both _ _ (l .0) in
+    let d = both _ _ (y .1 .1 .1 .1 .0) in
+    let w = eqb→eq (length b % 16) 0 (m .0) in
+    let k = encode-decode b h w (y .1 .0) (y .1 .1 .1 .0) in
+    let f = forest-listed (length b / 16) 1 b h (y .1 .0) (y .1 .1 .0) (y .1 .1 .1 .0) in
+    let g : 16 * records (decode b) ≡ length b = sym (length-encode (decode b)) ∙ ap length k in
+    record {
+      accepted = record {
+        short = omega (arith, leb→le (length b) 8192 (l .1));
+        listed = decode-listed b (f .1) (f .0);
+        deep = leb→le _ _ (d .0);
+        nested = leb→le _ _ (d .1);
+        named = y .1 .1 .1 .1 .1 .0;
+        weighed = leb→le _ _ (y .1 .1 .1 .1 .1 .1 .0);
+      };
+      back = k;
+    }

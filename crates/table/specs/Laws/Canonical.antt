@@ -1,0 +1,125 @@
+-- Records that pass question 2 are written in one way only, so a table of them is what its tree writes.
+use mathlib.Core.Path.{_≡_, refl, sym, ap, _∙_}
+use mathlib.Core.Bool.{_&&_}
+use mathlib.Core.List.{List, append-assoc, [], _∷_, _++_, append-nil}
+use Prim.Native.Nat.{ℕ, zero, suc, _+_, _*_, _<_, _≤_, _/_, _%_}
+use native.Mathlib.Omega.{arith}
+use lib.Dec.{T, eqb→eq, eqb, leb, ltb, ltb→lt}
+use lib.ListN.{take, drop, length, length-drop, getD}
+use lib.Seq.{take-add, getD-drop, length-take-le, take-length}
+use borrow.Author.Tests.{ne-eqb}
+use Rattle.booleans.specs.Laws.{two, both}
+use Rattle.table.specs.Trees.{size, Forest, nil, _▸_}
+use Rattle.table.specs.Bytes.{AreBytes, le, un}
+use Rattle.table.specs.Table.{recordBytes, firstNode, childByte, encodes, firstOnes, forest, formTrees, flag, numFrom, raw, kindByte, valueNum, kindFrom, loopByte, limitNum, limitFrom, field, each, encode, top, decode}
+use Rattle.table.specs.Checking.{kindListed, limitListed, recordListed}
+use Rattle.table.specs.Laws.Bytes.{le-un}
+use Rattle.table.specs.Laws.RoundTrip.{size-first, size-after, encodes-split}
+
+-- ---- and written back
+
+-- a record that says what it holds in one way only
+abbrev pub OneWay : List ℕ → Type 0
+OneWay b = recordBytes (firstNode b) (childByte b) ≡ take 16 b
+
+unfoldable pub OneWayAll : ℕ → List ℕ → Type 0
+OneWayAll zero b = Unit {0}
+OneWayAll (suc n) b = OneWay b × OneWayAll n (drop 16 b)
+
+pub encodes-forest : (n k : ℕ) (b : List ℕ) → OneWayAll n b → T (formTrees n k b) → (size (forest n b) ≡ k) × (encodes (forest n b) ≡ take (16 * n) b)
+unfolding OneWayAll formTrees forest encodes size
+encodes-forest zero k b h t = (sym (eqb→eq k 0 t), refl)
+encodes-forest (suc n) zero b h t = absurd t
+encodes-forest (suc n) (suc k) b h t =
+    let f = forest n (drop 16 b) in
+    let c = childByte b in
+    let ih = encodes-forest n (k + c) (drop 16 b) (h .1) t in
+    let s : size (firstOnes c f) ≡ c = size-first c f (omega arith) in
+    let a = size-after c f in
+    let m : 16 * suc n ≡ 16 + 16 * n = omega arith in
+    (omega arith, rw (s, append-assoc, encodes-split c f, ih .1, h .0, m, take-add) refl)
+
+flag-num : (s x : ℕ) → s < 2 → flag (numFrom s x) ≡ s
+unfolding flag numFrom
+flag-num zero x h = refl
+flag-num (suc zero) x h = refl
+flag-num (suc (suc s)) x h = absurd (omega arith)
+
+raw-num : (s x : ℕ) → raw (numFrom s x) ≡ x
+unfolding numFrom
+raw-num zero x = refl
+raw-num (suc s) x = refl
+
+kind-back : (k c s v : ℕ) → T (kindListed k c s v) → s < 2
+    → (kindByte (kindFrom k (numFrom s v)) ≡ k) × (flag (valueNum (kindFrom k (numFrom s v))) ≡ s) × (raw (valueNum (kindFrom k (numFrom s v))) ≡ v)
+unfolding kindByte kindFrom valueNum flag
+kind-back zero c s v t h = (refl, flag-num s v h, raw-num s v)
+kind-back (suc zero) c s v t h = let q = two (leb 1 c && eqb s 0) _ t in (refl, sym (eqb→eq s 0 (two (leb 1 c) _ (q .0) .1)), sym (eqb→eq v 0 (q .1)))
+kind-back (suc (suc zero)) c s v t h = let q = two (leb 1 c && eqb s 0) _ t in (refl, sym (eqb→eq s 0 (two (leb 1 c) _ (q .0) .1)), sym (eqb→eq v 0 (q .1)))
+kind-back (suc (suc (suc zero))) c s v t h = (refl, flag-num s v h, raw-num s v)
+kind-back (suc (suc (suc (suc k)))) c s v t h =
+    absurd (simp (ne-eqb (suc (suc (suc (suc k)))) 0 (omega arith), ne-eqb (suc (suc (suc (suc k)))) 1 (omega arith), ne-eqb (suc (suc (suc (suc k)))) 2 (omega arith), ne-eqb (suc (suc (suc (suc k)))) 3 (omega arith)) at t)
+
+limit-back : (k s m : ℕ) → T (limitListed k s m) → s < 2
+    → (loopByte (limitFrom k (numFrom s m)) ≡ k) × (flag (limitNum (limitFrom k (numFrom s m))) ≡ s) × (raw (limitNum (limitFrom k (numFrom s m))) ≡ m)
+unfolding loopByte limitFrom limitNum flag
+limit-back zero s m t h = let q = two (eqb s 0) (eqb m 0) t in (refl, sym (eqb→eq s 0 (q .0)), sym (eqb→eq m 0 (q .1)))
+limit-back (suc k) s m t h = (refl, flag-num s m h, raw-num s m)
+
+pub bytes-drop : (b : List ℕ) (i : ℕ) → AreBytes b → AreBytes (drop i b)
+bytes-drop b i h j = rw getD-drop (h (i + j))
+
+bytes-take : (n : ℕ) (b : List ℕ) → AreBytes b → AreBytes (take n b)
+bytes-take zero b h i = omega arith
+bytes-take (suc n) [] h i = omega arith
+bytes-take (suc n) (x ∷ xs) h zero = h 0
+bytes-take (suc n) (x ∷ xs) h (suc i) = bytes-take n xs (λ j. h (suc j)) i
+
+-- a field written back
+le-field : (b : List ℕ) (i n : ℕ) → AreBytes b → i + n ≤ length b → le n (field b i n) ≡ take n (drop i b)
+le-field b i n h l =
+    let w : length (take n (drop i b)) ≡ n = length-take-le n (drop i b) (rw length-drop (omega arith)) in
+    ap (λ k. le k (un (take n (drop i b)))) (sym w) ∙ le-un (take n (drop i b)) (bytes-take n _ (bytes-drop b i h))
+
+take-four : (b : List ℕ) → 4 ≤ length b → take 4 b ≡ getD b 0 0 ∷ getD b 1 0 ∷ getD b 2 0 ∷ getD b 3 0 ∷ []
+take-four [] h = absurd (omega arith)
+take-four (x ∷ []) h = absurd (omega arith)
+take-four (x ∷ y ∷ []) h = absurd (omega arith)
+take-four (x ∷ y ∷ z ∷ []) h = absurd (omega arith)
+take-four (x ∷ y ∷ z ∷ w ∷ r) h = refl
+
+take-record : (b : List ℕ) → take 16 b ≡ take 4 b ++ take 4 (drop 4 b) ++ take 8 (drop 8 b)
+take-record b = take-add 8 8 b ∙ ap (λ x. x ++ take 8 (drop 8 b)) (take-add 4 4 b)
+
+pub plain-listed : (b : List ℕ) → AreBytes b → 16 ≤ length b → T (recordListed b) → OneWay b
+unfolding recordBytes firstNode childByte
+plain-listed b h l t =
+    let S = kindListed (getD b 0 0) (getD b 2 0) (getD b 1 0 % 2) (field b 8 8) in
+    let N = limitListed (getD b 3 0) (getD b 1 0 / 2) (field b 4 4) in
+    let q = two (S && N) (ltb (getD b 1 0) 4) t in
+    let p = two S N (q .0) in
+    let f = ltb→lt (getD b 1 0) 4 (q .1) in
+    let k = kind-back (getD b 0 0) (getD b 2 0) (getD b 1 0 % 2) (field b 8 8) (p .0) (omega arith) in
+    let m = limit-back (getD b 3 0) (getD b 1 0 / 2) (field b 4 4) (p .1) (omega arith) in
+    let g : getD b 1 0 % 2 + 2 * (getD b 1 0 / 2) ≡ getD b 1 0 = omega arith in
+    rw (k .0, k .1, k .2, m .0, m .1, m .2, g, le-field b 4 4 h (omega arith), le-field b 8 8 h (omega arith), take-record b, take-four b (omega arith))
+
+pub plain-all : (n : ℕ) (b : List ℕ) → AreBytes b → 16 * n ≤ length b → T (each recordListed n b) → OneWayAll n b
+unfolding OneWayAll each
+plain-all zero b h l t = tt
+plain-all (suc n) b h l t =
+    let q = both _ _ t in
+    (plain-listed b h (omega arith) (q .0), plain-all n (drop 16 b) (bytes-drop b 16 h) (rw length-drop (omega arith)) (q .1))
+
+encode-top : (f : Forest) → size f ≡ 1 → encode (top f) ≡ encodes f
+unfolding top size encode
+encode-top nil e = absurd (omega arith)
+encode-top (t ▸ nil) e = sym (append-nil (encode t))
+encode-top (t ▸ u ▸ f) e = absurd (omega arith)
+
+pub encode-decode : (b : List ℕ) → AreBytes b → length b % 16 ≡ 0 → T (each recordListed (length b / 16) b) → T (formTrees (length b / 16) 1 b) → encode (decode b) ≡ b
+unfolding decode
+encode-decode b h l q t =
+    let r = encodes-forest (length b / 16) 1 b (plain-all _ b h (omega arith) q) t in
+    let w : 16 * (length b / 16) ≡ length b = omega arith in
+    encode-top _ (r .0) ∙ r .1 ∙ rw w (take-length b)

@@ -1,0 +1,206 @@
+-- The table of an accepted tree is not refused, and reads back as that tree.
+use mathlib.Core.Path.{_≡_, refl, subst, sym, ap₂, _∙_}
+use mathlib.Core.Bool.{true, false, _||_, _&&_, Bool}
+use mathlib.Core.List.{List, _++_, append-assoc, [], append-nil}
+use Prim.Native.Nat.{_<_, _^_, zero, suc, ℕ, _+_, _*_, _/_, _%_, _≤_}
+use native.Mathlib.Nat.{suc-add, zero-add, add-assoc, add-zero, add-suc}
+use native.Mathlib.Omega.{arith}
+use lib.Dec.{T, ltb→lt, leb→le, leb, eqb, ltb, le→leb}
+use lib.ListN.{length}
+use Rattle.table.specs.Nodes.{Number, Plain, Symbol, Kind, Block, Sequence, Choice, Loop, Limit, Unlimited, AtMost, Node}
+use Rattle.booleans.specs.Tests.{_and_}
+use Rattle.booleans.specs.Laws.{both, lft, both-and, join-and}
+use Rattle.table.specs.Numbers.{mostChildren, wholeRun, mostLoops, mostDepth, mostWeight}
+use Rattle.table.specs.Trees.{Tree, node, Forest, nil, _▸_, size, records, recordsIn}
+use Rattle.table.specs.Questions.{timeInRange, countInRange, kindInRange, limitInRange, listed, listedIn, arity, depth, loops, named, weight, Accepted}
+use Rattle.table.specs.Bytes.{le, un}
+use Rattle.table.specs.Table.{raw, flag, kindByte, valueNum, loopByte, limitNum, recordBytes, each, encode, encodes, formTrees, decode}
+use Rattle.table.specs.Checking.{kindListed, limitListed, recordListed, limitCount, recordInRange, question1, question2, question3, question4, question5, question6, question7, questions, refusal}
+use Rattle.table.specs.Laws.Trees.{some-records}
+use Rattle.table.specs.Laws.RoundTrip.{WritesKind, WritesLimit, WritesNode, Writes, WritesAll, flag-low, flag-high, kind-value, limit-most, head-bytes, drop-bytes, children-bytes, decode-encode, length-encode}
+use Rattle.table.specs.Laws.Accepted.{Yes, yes-all}
+
+-- ---- each node can be written
+
+time-writes : (v : Number) → T (timeInRange v) → raw v < 256 ^ 8
+unfolding timeInRange
+time-writes (Plain n) t = omega (arith, leb→le n 1_000_000_000_000 t)
+time-writes (Symbol n) t = omega (arith, ltb→lt n 32 (both _ _ t .1))
+
+count-writes : (v : Number) → T (countInRange v) → (raw v < 256 ^ 4) × (raw v < 256 ^ 8)
+unfolding countInRange
+count-writes (Plain n) t = let l = leb→le n 1_000_000 t in omega arith
+count-writes (Symbol n) t = let l = ltb→lt n 16 t in omega arith
+
+kind-writes : (k : Kind) → T (kindInRange k) → WritesKind k
+unfolding kindInRange WritesKind
+kind-writes (Block v) t = time-writes v t
+kind-writes Sequence t = tt
+kind-writes Choice t = tt
+kind-writes (Loop v) t = count-writes v t .1
+
+none-named : T ((false and true) || false) → ⊥
+unfolding _and_
+none-named h = h
+
+limit-writes : (l : Limit) → T (limitInRange l) → WritesLimit l
+unfolding limitInRange WritesLimit
+limit-writes Unlimited t = tt
+limit-writes (AtMost zero m) t = absurd (none-named (both ((false and true) || false) (countInRange m) t .0))
+limit-writes (AtMost (suc k) m) t = (omega arith, count-writes m (both _ _ t .1) .0)
+
+node-writes : (n : Node) → T (kindInRange (n .kind)) → T (limitInRange (n .limit)) → WritesNode n
+node-writes n a b = record { kind = kind-writes (n .kind) a; limit = limit-writes (n .limit) b }
+
+mutual
+  unfolding listed Writes
+
+  pub tree-writes : (t : Tree) → T (listed t) → Writes t
+  tree-writes (node n f) h =
+      let (p, c) = both _ _ h in
+      let (q, e) = both _ _ p in
+      let (a, b) = both _ _ q in
+      (node-writes n a b, forest-writes f c)
+
+  forest-writes : (f : Forest) → T (listedIn f) → WritesAll f
+  forest-writes nil h = tt
+  forest-writes (t ▸ f) h = let (a, b) = both _ _ h in (tree-writes t a, forest-writes f b)
+
+shape-ok : (k : Kind) (c : ℕ) → T (arity k c) → T (kindListed (kindByte k) c (flag (valueNum k)) (raw (valueNum k)))
+unfolding arity kindByte valueNum flag
+shape-ok (Block v) c h = lft (eqb c 0 || false) false (lft (eqb c 0) false h)
+shape-ok Sequence c h = both-and (leb 1 c && true) true (both-and (leb 1 c) true (both (leb 1 c) (leb c mostChildren) h .0) tt) tt
+shape-ok Choice c h = both-and (leb 1 c && true) true (both-and (leb 1 c) true (both (leb 1 c) (leb c mostChildren) h .0) tt) tt
+shape-ok (Loop v) c h = lft (eqb c 2) false h
+
+names-ok : (l : Limit) → T (limitInRange l) → T (limitListed (loopByte l) (flag (limitNum l)) (raw (limitNum l)))
+unfolding limitInRange loopByte limitNum flag
+names-ok Unlimited h = tt
+names-ok (AtMost k m) h =
+    lft ((leb 1 k && leb k 8) || eqb k 255) (eqb k 0 && eqb (flag m) 0 && eqb (raw m) 0)
+    (go (leb 1 k) (leb k 8) (eqb k 255) (both ((leb 1 k and leb k 8) || eqb k 255) (countInRange m) h .0))
+  where
+    go : (a b c : Bool) → T ((a and b) || c) → T ((a && b) || c)
+    go true true c h = tt
+    go true false c h = subst (λ x. T (x || c)) no₁ h
+      where
+        no₁ : (true and false) ≡ false
+        no₁ = unfold _and_ in refl
+    go false b c h = subst (λ x. T (x || c)) no₂ h
+      where
+        no₂ : (false and b) ≡ false
+        no₂ = unfold _and_ in refl
+
+flags-few : (v m : Number) → T (ltb (flag v + 2 * flag m) 4)
+unfolding flag
+flags-few (Plain a) (Plain b) = tt
+flags-few (Plain a) (Symbol b) = tt
+flags-few (Symbol a) (Plain b) = tt
+flags-few (Symbol a) (Symbol b) = tt
+
+listed-fields : (k : Kind) (l : Limit) (c : ℕ) → WritesKind k → WritesLimit l → T (arity k c) → T (limitInRange l)
+    → T (kindListed (kindByte k) c ((flag (valueNum k) + 2 * flag (limitNum l)) % 2) (un (le 8 (raw (valueNum k))))
+    && limitListed (loopByte l) ((flag (valueNum k) + 2 * flag (limitNum l)) / 2) (un (le 4 (raw (limitNum l))))
+    && ltb (flag (valueNum k) + 2 * flag (limitNum l)) 4)
+listed-fields k l c x y a b =
+    let S = kindListed (kindByte k) c (flag (valueNum k)) (raw (valueNum k)) in
+    let N = limitListed (loopByte l) (flag (limitNum l)) (raw (limitNum l)) in
+    rw (flag-low (valueNum k) (limitNum l), flag-high (valueNum k) (limitNum l), kind-value k x .0, limit-most l y .0)
+    (both-and (S && N) _ (both-and S N (shape-ok k c a) (names-ok l b)) (flags-few (valueNum k) (limitNum l)))
+
+record-listed : (n : Node) (c : ℕ) (r : List ℕ) → T (kindInRange (n .kind)) → T (limitInRange (n .limit)) → T (arity (n .kind) c) → T (recordListed (recordBytes n c ++ r))
+unfolding recordBytes le
+
+record-listed n c r a b e = listed-fields (n .kind) (n .limit) c (kind-writes _ a) (limit-writes _ b) e b
+
+limit-counts : (l : Limit) → T (limitInRange l) → T (limitCount l)
+unfolding limitInRange limitCount
+limit-counts Unlimited h = tt
+limit-counts (AtMost k m) h = both ((leb 1 k and leb k mostLoops) || eqb k wholeRun) (countInRange m) h .1
+
+record-ranged : (n : Node) (c : ℕ) (r : List ℕ) → T (kindInRange (n .kind)) → T (limitInRange (n .limit)) → T (arity (n .kind) c) → T (recordInRange (recordBytes n c ++ r))
+unfolding recordInRange
+
+record-ranged n c r a b e =
+    subst (λ m. T (kindInRange (m .kind) and limitCount (m .limit))) (sym (head-bytes n c r (node-writes n a b)))
+    (join-and _ _ a (limit-counts (n .limit) b))
+
+-- ---- all records of a tree
+
+each-next : (p : List ℕ → Bool) (k : ℕ) (n : Node) (c : ℕ) (r : List ℕ) → T (p (recordBytes n c ++ r)) → T (each p k r) → T (each p (suc k) (recordBytes n c ++ r))
+unfolding each
+each-next p k n c r h i = join-and _ _ h (subst (λ x. T (each p k x)) (sym (drop-bytes n c r)) i)
+
+module _ (p : List ℕ → Bool) (h : (n : Node) (c : ℕ) (r : List ℕ) → T (kindInRange (n .kind)) → T (limitInRange (n .limit)) → T (arity (n .kind) c) → T (p (recordBytes n c ++ r))) where
+  mutual
+    unfolding listed encode records
+
+    each-tree : (t : Tree) → T (listed t) → (m : ℕ) (r : List ℕ) → T (each p m r) → T (each p (records t + m) (encode t ++ r))
+    each-tree (node n f) l m r e =
+        let (x, c) = both _ _ l in
+        let (y, a) = both _ _ x in
+        let (k, b) = both _ _ y in
+        rw (suc-add, append-assoc) (each-next p (recordsIn f + m) n (size f) (encodes f ++ r) (h n (size f) (encodes f ++ r) k b a) (each-forest f c m r e))
+
+    each-forest : (f : Forest) → T (listedIn f) → (m : ℕ) (r : List ℕ) → T (each p m r) → T (each p (recordsIn f + m) (encodes f ++ r))
+    each-forest nil l m r e = rw zero-add e
+    each-forest (t ▸ f) l m r e =
+        let (a, b) = both _ _ l in
+        rw (add-assoc, append-assoc) (each-tree t a (recordsIn f + m) (encodes f ++ r) (each-forest f b m r e))
+
+form-next : (m k : ℕ) (n : Node) (c : ℕ) (r : List ℕ) → formTrees (suc m) (suc k) (recordBytes n c ++ r) ≡ formTrees m (k + c) r
+unfolding formTrees
+form-next m k n c r = ap₂ (λ x y. formTrees m (k + x) y) (children-bytes n c r) (drop-bytes n c r)
+
+mutual
+  unfolding encode records size
+
+  form-tree : (t : Tree) (m k : ℕ) (r : List ℕ) → formTrees (records t + m) (suc k) (encode t ++ r) ≡ formTrees m k r
+  form-tree (node n f) m k r = rw (suc-add, append-assoc) (form-next (recordsIn f + m) k n (size f) (encodes f ++ r) ∙ form-forest f m k r)
+
+  form-forest : (f : Forest) (m k : ℕ) (r : List ℕ) → formTrees (recordsIn f + m) (k + size f) (encodes f ++ r) ≡ formTrees m k r
+  form-forest nil m k r = rw (zero-add, add-zero) refl
+  form-forest (t ▸ f) m k r = rw (add-assoc, append-assoc, add-suc) (form-tree t (recordsIn f + m) (k + size f) (encodes f ++ r) ∙ form-forest f m k r)
+
+-- ---- the seven questions
+
+pub reads-back : (t : Tree) → T (listed t) → decode (encode t) ≡ t
+reads-back t l = decode-encode t (tree-writes t l)
+
+count-records : (t : Tree) → length (encode t) / 16 ≡ records t + 0
+count-records t = rw length-encode (omega arith)
+
+whole-each : (p : List ℕ → Bool) → ((n : Node) (c : ℕ) (r : List ℕ) → T (kindInRange (n .kind)) → T (limitInRange (n .limit)) → T (arity (n .kind) c) → T (p (recordBytes n c ++ r)))
+    → (t : Tree) → T (listed t) → T (each p (length (encode t) / 16) (encode t))
+whole-each p h t l = rw (count-records t) (rw (← append-nil (encode t)) (each-tree p h t l 0 [] (unfold each in tt)))
+
+whole-form : (t : Tree) → T (formTrees (length (encode t) / 16) 1 (encode t))
+whole-form t = rw (count-records t) (rw (← append-nil (encode t)) (subst T (sym (form-tree t 0 0 [])) (unfold formTrees in tt)))
+
+pub not-refused : (t : Tree) → Accepted t → refusal (encode t) ≡ 0
+unfolding refusal question1 question2 question3 question4 question5 question6 question7 Yes
+not-refused t a =
+    let e = reads-back t (a .listed) in
+    let w : length (encode t) ≡ 16 * records t = length-encode t in
+    let z : length (encode t) % 16 ≡ 0 = omega arith in
+    let o : 16 ≤ length (encode t) = omega (arith, some-records t) in
+    let s : length (encode t) ≤ 8192 = omega (arith, a .short) in
+    yes-all 1 (questions (encode t)) (
+      join-and _ _ (join-and _ _ (subst (λ x. T (eqb x 0)) (sym z) tt) (le→leb _ _ o)) (le→leb _ _ s),
+      (
+        whole-each recordListed record-listed t (a .listed),
+        (
+          whole-each recordInRange record-ranged t (a .listed),
+          (
+            whole-form t,
+            (
+              subst (λ u. T (leb (depth u) mostDepth and leb (loops u 0) mostLoops)) (sym e) (join-and _ _ (le→leb _ _ (a .deep)) (le→leb _ _ (a .nested))),
+              (
+                subst (λ u. T (named u 0)) (sym e) (a .named),
+                (subst (λ u. T (leb (weight u 0) mostWeight)) (sym e) (le→leb _ _ (a .weighed)), tt),
+              ),
+            ),
+          ),
+        ),
+      ),
+    )

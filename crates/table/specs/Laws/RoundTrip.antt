@@ -1,0 +1,159 @@
+-- A tree that is written reads back.
+use mathlib.Core.Path.{_≡_, refl, ap}
+use mathlib.Core.List.{_++_, append-assoc, List, [], append-nil}
+use Prim.Native.Nat.{ℕ, zero, suc, _≤_, _-_, _^_, _<_, _+_, _*_, _%_, _/_}
+use native.Mathlib.Nat.{suc-add, zero-add, add-assoc}
+use native.Mathlib.Omega.{arith}
+use lib.ListN.{length, drop, length-append}
+use lib.Seq.{drop-at}
+use Rattle.table.specs.Nodes.{Number, Limit, Unlimited, AtMost, Kind, Block, Sequence, Choice, Loop, Node, Plain, Symbol}
+use Rattle.table.specs.Trees.{Forest, nil, _▸_, _⧺_, size, Tree, node, records, recordsIn}
+use Rattle.table.specs.Bytes.{le, un}
+use Rattle.table.specs.Table.{firstOnes, afterOnes, encodes, raw, flag, numFrom, kindByte, valueNum, kindFrom, loopByte, limitNum, limitFrom, recordBytes, firstNode, childByte, forest, encode, top, decode}
+use Rattle.table.specs.Laws.Bytes.{un-le}
+
+-- ---- forests
+
+first-⧺ : (f g : Forest) → firstOnes (size f) (f ⧺ g) ≡ f
+unfolding firstOnes size _⧺_
+first-⧺ nil g = refl
+first-⧺ (t ▸ f) g = ap (λ h. t ▸ h) (first-⧺ f g)
+
+after-⧺ : (f g : Forest) → afterOnes (size f) (f ⧺ g) ≡ g
+unfolding afterOnes size _⧺_
+after-⧺ nil g = refl
+after-⧺ (t ▸ f) g = after-⧺ f g
+
+pub size-first : (n : ℕ) (f : Forest) → n ≤ size f → size (firstOnes n f) ≡ n
+unfolding firstOnes size
+size-first zero f h = refl
+size-first (suc n) nil h = omega arith
+size-first (suc n) (t ▸ f) h = ap suc (size-first n f (omega arith))
+
+pub size-after : (n : ℕ) (f : Forest) → size (afterOnes n f) ≡ size f - n
+unfolding afterOnes size
+size-after zero f = omega arith
+size-after (suc n) nil = omega arith
+size-after (suc n) (t ▸ f) = rw (size-after n f) (omega arith)
+
+pub encodes-split : (n : ℕ) (f : Forest) → encodes (firstOnes n f) ++ encodes (afterOnes n f) ≡ encodes f
+unfolding firstOnes afterOnes encodes
+encodes-split zero f = refl
+encodes-split (suc n) nil = refl
+encodes-split (suc n) (t ▸ f) = rw (append-assoc, encodes-split n f)
+
+-- ---- a record
+
+-- what a node's record can hold
+abbrev pub WritesNum : ℕ → Number → Type 0
+WritesNum w n = raw n < 256 ^ w
+
+unfoldable pub WritesLimit : Limit → Type 0
+WritesLimit Unlimited = Unit {0}
+WritesLimit (AtMost k m) = (0 < k) × WritesNum 4 m
+
+unfoldable pub WritesKind : Kind → Type 0
+WritesKind (Block v) = WritesNum 8 v
+WritesKind Sequence = Unit {0}
+WritesKind Choice = Unit {0}
+WritesKind (Loop v) = WritesNum 8 v
+
+pub record WritesNode (n : Node) : Type 0 where
+  pub kind : WritesKind (n .kind)
+  pub limit : WritesLimit (n .limit)
+
+num-flag : (n : Number) (x : ℕ) → x ≡ raw n → numFrom (flag n) x ≡ n
+unfolding numFrom flag
+num-flag (Plain n) x h = ap Plain h
+num-flag (Symbol n) x h = ap Symbol h
+
+pub flag-low : (v m : Number) → (flag v + 2 * flag m) % 2 ≡ flag v
+unfolding flag
+flag-low (Plain n) (Plain m) = refl
+flag-low (Plain n) (Symbol m) = refl
+flag-low (Symbol n) (Plain m) = refl
+flag-low (Symbol n) (Symbol m) = refl
+
+pub flag-high : (v m : Number) → (flag v + 2 * flag m) / 2 ≡ flag m
+unfolding flag
+flag-high (Plain n) (Plain m) = refl
+flag-high (Plain n) (Symbol m) = refl
+flag-high (Symbol n) (Plain m) = refl
+flag-high (Symbol n) (Symbol m) = refl
+
+pub kind-value : (k : Kind) → WritesKind k → (un (le 8 (raw (valueNum k))) ≡ raw (valueNum k)) × (kindFrom (kindByte k) (valueNum k) ≡ k)
+unfolding WritesKind kindFrom kindByte valueNum
+kind-value (Block v) h = (un-le 8 (raw v) h, refl)
+kind-value Sequence h = (un-le 8 0 (omega arith), refl)
+kind-value Choice h = (un-le 8 0 (omega arith), refl)
+kind-value (Loop v) h = (un-le 8 (raw v) h, refl)
+
+pub limit-most : (l : Limit) → WritesLimit l → (un (le 4 (raw (limitNum l))) ≡ raw (limitNum l)) × (limitFrom (loopByte l) (limitNum l) ≡ l)
+unfolding WritesLimit limitFrom loopByte limitNum
+limit-most Unlimited h = (un-le 4 0 (omega arith), refl)
+limit-most (AtMost zero m) h = absurd (omega arith)
+limit-most (AtMost (suc k) m) h = (un-le 4 (raw m) (h .1), refl)
+
+head-kind : (k : Kind) (m : Number) → WritesKind k → kindFrom (kindByte k) (numFrom ((flag (valueNum k) + 2 * flag m) % 2) (un (le 8 (raw (valueNum k))))) ≡ k
+head-kind k m h = rw (flag-low, num-flag _ _ (kind-value k h .0)) (kind-value k h .1)
+
+head-limit : (v : Number) (l : Limit) → WritesLimit l → limitFrom (loopByte l) (numFrom ((flag v + 2 * flag (limitNum l)) / 2) (un (le 4 (raw (limitNum l))))) ≡ l
+head-limit v l h = rw (flag-high, num-flag _ _ (limit-most l h .0)) (limit-most l h .1)
+
+pub head-bytes : (n : Node) (c : ℕ) (r : List ℕ) → WritesNode n → firstNode (recordBytes n c ++ r) ≡ n
+unfolding firstNode recordBytes le
+head-bytes n c r h = λ i. record {
+  kind = head-kind (n .kind) (limitNum (n .limit)) (h .kind) i;
+  limit = head-limit (valueNum (n .kind)) (n .limit) (h .limit) i;
+}
+
+pub length-bytes : (n : Node) (c : ℕ) → length (recordBytes n c) ≡ 16
+unfolding recordBytes le
+length-bytes n c = refl
+
+pub children-bytes : (n : Node) (c : ℕ) (r : List ℕ) → childByte (recordBytes n c ++ r) ≡ c
+unfolding childByte recordBytes
+children-bytes n c r = refl
+
+pub drop-bytes : (n : Node) (c : ℕ) (r : List ℕ) → drop 16 (recordBytes n c ++ r) ≡ r
+drop-bytes n c r = drop-at (recordBytes n c) r 16 (length-bytes n c)
+
+-- ---- a tree read back
+
+unfoldable mutual
+  pub Writes : Tree → Type 0
+  Writes (node n f) = WritesNode n × WritesAll f
+
+  pub WritesAll : Forest → Type 0
+  WritesAll nil = Unit {0}
+  WritesAll (t ▸ f) = Writes t × WritesAll f
+
+forest-node : (nd : Node) (f g : Forest) (n : ℕ) (r : List ℕ) → WritesNode nd → forest n r ≡ f ⧺ g → forest (suc n) (recordBytes nd (size f) ++ r) ≡ node nd f ▸ g
+unfolding forest
+forest-node nd f g n r h e = simp (head-bytes, children-bytes, drop-bytes, e, first-⧺, after-⧺, h)
+
+mutual
+  unfolding Writes encode records _⧺_
+
+  forest-tree : (t : Tree) → Writes t → (n : ℕ) (r : List ℕ) → forest (records t + n) (encode t ++ r) ≡ t ▸ forest n r
+  forest-tree (node nd f) h n r = rw (append-assoc, suc-add) (forest-node nd f (forest n r) (recordsIn f + n) (encodes f ++ r) (h .0) (forest-all f (h .1) n r))
+
+  forest-all : (f : Forest) → WritesAll f → (n : ℕ) (r : List ℕ) → forest (recordsIn f + n) (encodes f ++ r) ≡ f ⧺ forest n r
+  forest-all nil h n r = rw zero-add refl
+  forest-all (t ▸ f) h n r = rw (append-assoc, add-assoc, forest-tree t (h .0) (recordsIn f + n) (encodes f ++ r), forest-all f (h .1) n r) refl
+
+mutual
+  unfolding encode records
+
+  pub length-encode : (t : Tree) → length (encode t) ≡ 16 * records t
+  length-encode (node nd f) = rw (length-append, length-bytes, length-encodes f) (omega arith)
+
+  pub length-encodes : (f : Forest) → length (encodes f) ≡ 16 * recordsIn f
+  length-encodes nil = omega arith
+  length-encodes (t ▸ f) = rw (length-append, length-encode t, length-encodes f) (omega arith)
+
+pub decode-encode : (t : Tree) → Writes t → decode (encode t) ≡ t
+unfolding decode top
+decode-encode t h =
+    let n : length (encode t) / 16 ≡ records t + 0 = rw length-encode (omega arith) in
+    rw n (rw (← append-nil (encode t)) (ap top (forest-tree t h 0 [])))

@@ -1,0 +1,10 @@
+-- Definitions, in the order of reading.
+pub mod Numbers
+mod Nodes
+pub mod Trees
+pub mod Questions
+pub mod Bytes
+pub mod Table
+pub mod Checking
+-- What is proved of them.
+pub mod Laws

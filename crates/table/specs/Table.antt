@@ -1,0 +1,121 @@
+-- A table's bytes: the record of a node, the table of a tree, and both read back.
+use mathlib.Core.Bool.{Bool, false, true}
+use mathlib.Core.List.{List, [], _∷_, _++_}
+use Prim.Native.Nat.{ℕ, zero, suc, _+_, _*_, _/_, _%_}
+use lib.Dec.{eqb}
+use lib.ListN.{take, drop, getD, length}
+use Rattle.table.specs.Nodes.{Number, Plain, Symbol, Kind, Block, Sequence, Choice, Loop, Limit, Unlimited, AtMost, Node}
+use Rattle.booleans.specs.Tests.{_and_}
+use Rattle.table.specs.Numbers.{recordLength}
+use Rattle.table.specs.Trees.{Tree, node, Forest, nil, _▸_, size}
+use Rattle.table.specs.Bytes.{le, un}
+
+-- a number's flag and its field
+unfoldable pub flag : Number → ℕ
+flag (Plain n) = 0
+flag (Symbol n) = 1
+
+abbrev pub raw : Number → ℕ
+raw (Plain n) = n
+raw (Symbol n) = n
+
+unfoldable pub numFrom : ℕ → ℕ → Number
+numFrom zero n = Plain n
+numFrom (suc s) n = Symbol n
+
+unfoldable pub kindByte : Kind → ℕ
+kindByte (Block v) = 0
+kindByte Sequence = 1
+kindByte Choice = 2
+kindByte (Loop v) = 3
+
+unfoldable pub valueNum : Kind → Number
+valueNum (Block v) = v
+valueNum Sequence = Plain 0
+valueNum Choice = Plain 0
+valueNum (Loop v) = v
+
+unfoldable pub kindFrom : ℕ → Number → Kind
+kindFrom zero v = Block v
+kindFrom (suc zero) v = Sequence
+kindFrom (suc (suc zero)) v = Choice
+kindFrom (suc (suc (suc n))) v = Loop v
+
+unfoldable pub loopByte : Limit → ℕ
+loopByte Unlimited = 0
+loopByte (AtMost k m) = k
+
+unfoldable pub limitNum : Limit → Number
+limitNum Unlimited = Plain 0
+limitNum (AtMost k m) = m
+
+unfoldable pub limitFrom : ℕ → Number → Limit
+limitFrom zero m = Unlimited
+limitFrom (suc k) m = AtMost (suc k) m
+
+-- the record of a node with c children
+unfoldable pub recordBytes : Node → ℕ → List ℕ
+recordBytes n c =
+    (kindByte (n .kind) ∷ (flag (valueNum (n .kind)) + 2 * flag (limitNum (n .limit))) ∷ c ∷ loopByte (n .limit) ∷ [])
+    ++ le 4 (raw (limitNum (n .limit))) ++ le 8 (raw (valueNum (n .kind)))
+
+-- the table of a tree, and of a forest, before what follows
+unfoldable mutual
+  pub encode : Tree → List ℕ
+  encode (node n f) = recordBytes n (size f) ++ encodes f
+
+  pub encodes : Forest → List ℕ
+  encodes nil = []
+  encodes (t ▸ f) = encode t ++ encodes f
+
+-- the first record: its node, and how many children
+abbrev pub field : List ℕ → ℕ → ℕ → ℕ
+field b i n = un (take n (drop i b))
+
+unfoldable pub firstNode : List ℕ → Node
+firstNode b = record {
+  kind = kindFrom (getD b 0 0) (numFrom (getD b 1 0 % 2) (field b 8 8));
+  limit = limitFrom (getD b 3 0) (numFrom (getD b 1 0 / 2) (field b 4 4));
+}
+
+unfoldable pub childByte : List ℕ → ℕ
+childByte b = getD b 2 0
+
+-- the first n trees of a forest, and the others
+unfoldable pub firstOnes : ℕ → Forest → Forest
+firstOnes zero f = nil
+firstOnes (suc n) nil = nil
+firstOnes (suc n) (t ▸ f) = t ▸ firstOnes n f
+
+unfoldable pub afterOnes : ℕ → Forest → Forest
+afterOnes zero f = f
+afterOnes (suc n) nil = nil
+afterOnes (suc n) (t ▸ f) = afterOnes n f
+
+-- the forest that the first n records of b write, read from the last record to the first: a record takes its children off the front
+unfoldable pub forest : ℕ → List ℕ → Forest
+forest zero b = nil
+forest (suc n) b = let f = forest n (drop recordLength b) in node (firstNode b) (firstOnes (childByte b) f) ▸ afterOnes (childByte b) f
+
+unfoldable pub top : Forest → Tree
+top nil = node (record { kind = Sequence; limit = Unlimited }) nil
+top (t ▸ f) = t
+
+-- how many records a table of these bytes has
+abbrev pub recordCount : List ℕ → ℕ
+recordCount b = length b / recordLength
+
+-- the tree of a table: total, and meant where the records form one tree (question 4)
+unfoldable pub decode : List ℕ → Tree
+decode b = top (forest (recordCount b) b)
+
+-- the first n records of b are exactly k trees: the first record is the top of the first of them, and its children are among the trees that follow
+unfoldable pub formTrees : ℕ → ℕ → List ℕ → Bool
+formTrees zero k b = eqb k 0
+formTrees (suc n) zero b = false
+formTrees (suc n) (suc k) b = formTrees n (k + childByte b) (drop recordLength b)
+
+-- a test of each of b's first n records
+unfoldable pub each : (List ℕ → Bool) → ℕ → List ℕ → Bool
+each p zero b = true
+each p (suc n) b = p b and each p n (drop recordLength b)

@@ -1,0 +1,86 @@
+//! One table, both readers: their answers must agree, and the library must leave the table alone.
+
+use crate::ffi::{self, Checked};
+use crate::format::RECORD_BYTES;
+use crate::reader;
+use crate::rng::Rng;
+
+/// What the second reader answers.
+pub fn second_check(table: &[u8]) -> Checked {
+    match reader::check(table) {
+        Ok(tree) => Checked::accept(tree.records()),
+        Err(question) => Checked::refuse(question),
+    }
+}
+
+/// Makes a call on a copy of the bytes whose address is `shift` past a multiple of 16, with `filler`
+/// on both sides, and asserts that no byte of all this has changed.
+pub fn lend<A>(bytes: &[u8], shift: usize, filler: u8, call: impl FnOnce(&[u8]) -> A) -> A {
+    const SIDE: usize = 32;
+    let mut buffer = vec![filler; SIDE + bytes.len() + SIDE];
+    let start = buffer.as_ptr().align_offset(16) + shift;
+    let end = start + bytes.len();
+    buffer[start..end].copy_from_slice(bytes);
+    let before = buffer.clone();
+    let answer = call(&buffer[start..end]);
+    assert!(buffer == before, "the call changed its input");
+    answer
+}
+
+/// Compares tables and counts the answers, so that a test can assert what it has reached.
+pub struct Comparison {
+    rng: Rng,
+    refused: [u64; 8],
+}
+
+impl Comparison {
+    /// The seed decides the addresses of the tables alone.
+    pub fn new(seed: u64) -> Self {
+        Comparison {
+            rng: Rng::new(!seed),
+            refused: [0; 8],
+        }
+    }
+
+    /// The library's answer, which must be the second reader's.
+    pub fn check(&mut self, table: &[u8]) -> Checked {
+        let shift = self.rng.index(16);
+        let filler = self.rng.pick(&[0, 1, 255]);
+        let answer = lend(table, shift, filler, ffi::check);
+        let second = second_check(table);
+        assert!(
+            answer == second,
+            "the library answers {answer:?}, the second reader {second:?}:\n{}",
+            shown(table)
+        );
+        self.refused[answer.refused as usize] += 1;
+        answer
+    }
+
+    /// Both answers must also be the one expected by construction.
+    pub fn expect(&mut self, table: &[u8], expected: Checked) {
+        let answer = self.check(table);
+        assert!(
+            answer == expected,
+            "both readers answer {answer:?}, expected is {expected:?}:\n{}",
+            shown(table)
+        );
+    }
+
+    /// Asserts that each of these answers, 0 or a refusal's number, occurred at least so often.
+    pub fn assert_reached(&self, least: &[(usize, u64)]) {
+        for &(refused, times) in least {
+            assert!(
+                self.refused[refused] >= times,
+                "answer {refused} must occur {times} times; answers 0 to 7 occurred {:?}",
+                self.refused
+            );
+        }
+    }
+}
+
+/// The table, a record to a line.
+pub fn shown(table: &[u8]) -> String {
+    let lines = table.chunks(RECORD_BYTES).map(|record| format!("{record:?}\n"));
+    format!("{} bytes\n{}", table.len(), lines.collect::<String>())
+}

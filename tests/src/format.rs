@@ -1,0 +1,31 @@
+//! The numbers of document 01's tree table. The hand-written tests use plain literals instead, so
+//! that a slip here shows.
+
+use std::ops::RangeInclusive;
+
+pub const RECORD_BYTES: usize = 16;
+pub const MOST_RECORDS: usize = 512;
+
+pub const BLOCK: u8 = 0;
+pub const SEQUENCE: u8 = 1;
+pub const CHOICE: u8 = 2;
+pub const LOOP: u8 = 3;
+
+pub const VALUE_IS_SYMBOL: u8 = 1;
+pub const LIMIT_IS_SYMBOL: u8 = 2;
+
+pub const MOST_CHILDREN: usize = 255;
+pub const LOOP_CHILDREN: usize = 2;
+
+pub const NO_LIMIT: u8 = 0;
+pub const WHOLE_RUN: u8 = 255;
+
+/// The ceiling of bounds and limits.
+pub const MOST_COUNT: u64 = 1_000_000;
+pub const MOST_TIME: u64 = 1_000_000_000_000;
+pub const COUNT_SYMBOLS: RangeInclusive<u64> = 0..=15;
+pub const TIME_SYMBOLS: RangeInclusive<u64> = 16..=31;
+
+pub const MOST_DEPTH: usize = 32;
+pub const MOST_LOOPS: usize = 8;
+pub const MOST_WEIGHT: u64 = 255;

@@ -1,0 +1,107 @@
+//! A plain tree and its encoder. The type shuts out little: numbers may be out of range, and limits
+//! may name anything.
+
+mod random;
+
+use crate::format::*;
+pub use random::{grow, loops_around, pad, put_limits, spine, within_limits};
+
+#[derive(Clone, Copy, Debug, PartialEq, Eq)]
+pub enum Amount {
+    Plain(u64),
+    Symbol(u64),
+}
+
+#[derive(Clone, Copy, Debug, PartialEq, Eq)]
+pub struct Limit {
+    /// Byte 3, never 0.
+    pub names: u8,
+    pub amount: Amount,
+}
+
+#[derive(Clone, Copy, Debug, PartialEq, Eq)]
+pub enum Kind {
+    Block(Amount),
+    Sequence,
+    Choice,
+    Loop(Amount),
+}
+
+#[derive(Clone, Debug, PartialEq, Eq)]
+pub struct Tree {
+    pub kind: Kind,
+    pub limit: Option<Limit>,
+    /// Of a loop: its body, then its exit.
+    pub children: Vec<Tree>,
+}
+
+impl Tree {
+    pub fn new(kind: Kind, children: Vec<Tree>) -> Self {
+        Tree {
+            kind,
+            limit: None,
+            children,
+        }
+    }
+
+    /// A block of a plain time.
+    pub fn block(time: u64) -> Self {
+        Tree::new(Kind::Block(Amount::Plain(time)), Vec::new())
+    }
+
+    pub fn records(&self) -> usize {
+        1 + self.children.iter().map(Tree::records).sum::<usize>()
+    }
+
+    pub fn encode(&self) -> Vec<u8> {
+        let mut table = Vec::with_capacity(self.records() * RECORD_BYTES);
+        self.write(&mut table);
+        table
+    }
+
+    fn write(&self, table: &mut Vec<u8>) {
+        table.extend(self.record());
+        for child in &self.children {
+            child.write(table);
+        }
+    }
+
+    fn record(&self) -> [u8; RECORD_BYTES] {
+        let (kind, (value, value_is_symbol)) = match self.kind {
+            Kind::Block(time) => (BLOCK, number(time)),
+            Kind::Sequence => (SEQUENCE, (0, false)),
+            Kind::Choice => (CHOICE, (0, false)),
+            Kind::Loop(bound) => (LOOP, number(bound)),
+        };
+        let names = self.limit.map_or(NO_LIMIT, |limit| limit.names);
+        let (limit, limit_is_symbol) = self
+            .limit
+            .map_or((0, false), |limit| number(limit.amount));
+
+        let mut record = [0; RECORD_BYTES];
+        record[0] = kind;
+        record[1] =
+            flag(VALUE_IS_SYMBOL, value_is_symbol) | flag(LIMIT_IS_SYMBOL, limit_is_symbol);
+        record[2] = u8::try_from(self.children.len()).expect("at most 255 children");
+        record[3] = names;
+        let limit = u32::try_from(limit).expect("a limit of 32 bits");
+        record[4..8].copy_from_slice(&limit.to_le_bytes());
+        record[8..16].copy_from_slice(&value.to_le_bytes());
+        record
+    }
+}
+
+fn number(amount: Amount) -> (u64, bool) {
+    match amount {
+        Amount::Plain(number) => (number, false),
+        Amount::Symbol(symbol) => (symbol, true),
+    }
+}
+
+fn flag(flag: u8, set: bool) -> u8 {
+    if set {
+        flag
+    } else {
+        0
+    }
+}
