@@ -53,3 +53,9 @@ lft false b h = absurd h
 pub both-and : (a b : Bool) → T a → T b → T (a && b)
 both-and true b h i = i
 both-and false b h i = absurd h
+
+-- ---- tests say what they test
+
+pub or-else : (a b : Bool) → T (a || b) → a ≡ false → T b
+or-else true b h e = absurd (subst T e tt)
+or-else false b h e = h

@@ -1,7 +1,9 @@
 -- Laws, in the order in which they lean on each other.
+pub mod Joins
 pub mod Monotone
 pub mod Constant
 pub mod PairCount
+pub mod Weight
 pub mod Settled
 pub mod ListPairs
 pub mod Covered

@@ -5,15 +5,15 @@ use Prim.Native.Nat.{suc, _≤_}
 use native.Mathlib.Omega.{arith}
 use lib.ListN.{length}
 use Rattle.table.specs.Numbers.{mostWeight}
-use Rattle.table.specs.Trees.{Tree}
 use Rattle.table.specs.Questions.{Accepted}
+use Rattle.table.specs.Trees.{Tree}
 use Rattle.lists.specs.Pairs.{ArePairs, Pair}
 use Rattle.lists.specs.Laws.Pairs.{made-pairs, one-way}
 use Rattle.evaluate.specs.Evaluate.{Values, list}
 use Rattle.evaluate.specs.ListPairs.{place, listPairs}
 use Rattle.evaluate.specs.Laws.Monotone.{list-falls}
-use Rattle.evaluate.specs.Laws.PairCount.{few-pairs}
 use Rattle.evaluate.specs.Laws.Settled.{list-settled}
+use Rattle.evaluate.specs.Laws.Weight.{few-pairs}
 
 -- ---- the list call
 

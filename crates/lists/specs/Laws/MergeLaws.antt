@@ -7,8 +7,8 @@ use native.Mathlib.Omega.{arith}
 use lib.Dec.{leb}
 use borrow.Author.Tests.{leb-true, leb-false}
 use Rattle.lists.specs.Streams.{Stream, S, merge, const, add, group, shift}
-use Rattle.lists.specs.Laws.Sums.{Falls, S-inj, S-const, S-grows, S-add, const-falls, add-falls}
 use Rattle.lists.specs.Laws.Merge.{merge-over, merge-met, merge-falls}
+use Rattle.lists.specs.Laws.Sums.{Falls, S-inj, S-const, S-grows, S-add, const-falls, add-falls}
 
 abbrev pub Met : Stream → Stream → Stream → ℕ → Type 0
 Met f g h P = (p : ℕ) × (q : ℕ) × (p + q ≡ P) × (S h P ≡ S f p + S g q)
@@ -126,3 +126,21 @@ merge-consts a b = unique _ _ _ _ (is-merge _ _ (const-falls a) (const-falls b))
 pub group-const : (n c : ℕ) → group n (const c) ≡ const (n * c)
 unfolding group shift const
 group-const n c = fun-ext (λ i. S-const c n)
+
+-- ---- joining
+
+pub add-zero-l : (f : Stream) → add (const 0) f ≡ f
+unfolding add const
+add-zero-l f = fun-ext (λ i. omega arith)
+
+pub add-zero-r : (f : Stream) → add f (const 0) ≡ f
+unfolding add const
+add-zero-r f = fun-ext (λ i. omega arith)
+
+pub add-assoc : (f g h : Stream) → add (add f g) h ≡ add f (add g h)
+unfolding add
+add-assoc f g h = fun-ext (λ i. omega arith)
+
+pub add-comm : (f g : Stream) → add f g ≡ add g f
+unfolding add
+add-comm f g = fun-ext (λ i. omega arith)

@@ -3,15 +3,17 @@ use mathlib.Core.Path.{_≡_, sym, ap, subst, ap₂, refl}
 use Prim.Native.Nat.{ℕ, _≤_, _<_, min, _+_, max}
 use native.Mathlib.Nat.{le-trans}
 use native.Mathlib.Omega.{arith}
-use lib.Dec.{T, leb, leb→le}
-use Rattle.simplify.specs.Nodes.{Kind, Node, Block, Sequence, Choice, Loop}
-use Rattle.booleans.specs.Tests.{_and_}
+use lib.Dec.{T, leb, leb→le, le→leb}
 use Rattle.booleans.specs.Laws.{both, join-and}
-use Rattle.table.specs.Numbers.{mostTime}
-use Rattle.table.specs.Trees.{Tree, records, Forest, recordsIn, node, size, _▸_, rest, around, nil}
+use Rattle.booleans.specs.Tests.{_and_}
+use Rattle.table.specs.Numbers.{mostTime, mostChildren}
 use Rattle.table.specs.Questions.{listed, depth, loops, named, weight, listedIn, depthIn, loopsIn, namedIn, weightIn, arity}
-use Rattle.lists.specs.Streams.{Stream, add, merge, taken, const}
+use Rattle.table.specs.Trees.{Tree, records, Forest, recordsIn, node, size, _▸_, rest, around, nil}
+use Rattle.lists.specs.Streams.{const}
 use Rattle.evaluate.specs.Evaluate.{Values, name, list, fits, zeros, nameIn, before, fitsIn, inner, limit, seen, turns, join, start}
+use Rattle.evaluate.specs.Laws.Joins.{join-right}
+use Rattle.simplify.specs.Nodes.{Kind, Node, Sequence, Choice, Block, Loop}
+use Rattle.simplify.specs.Rules.{isSum}
 
 pub record Refines (u t : Tree) : Type 0 where
   pub sameName : name u ≡ name t
@@ -75,21 +77,6 @@ head-refines k u t f r = record {
   fewer = λ l. let (p, q) = both _ _ l in omega (arith, r .fewer p);
 }
 
--- the first member of what is joined
-pub join-left : (k : Kind) (f g : Stream) → f 0 ≤ join k f g 0
-unfolding join add merge taken
-join-left (Block t) f g = omega arith
-join-left Sequence f g = omega arith
-join-left Choice f g = omega arith
-join-left (Loop n) f g = omega arith
-
-pub join-right : (k : Kind) (f g : Stream) → g 0 ≤ join k f g 0
-unfolding join add merge taken
-join-right (Block t) f g = omega arith
-join-right Sequence f g = omega arith
-join-right Choice f g = omega arith
-join-right (Loop n) f g = omega arith
-
 pub tail-refines : (k : Kind) (t : Tree) (g f : Forest) → RefinesIn (rest k) g f → RefinesIn k (t ▸ g) (t ▸ f)
 unfolding name list fits listed depth loops named weight records
 tail-refines k t g f r = record {
@@ -128,3 +115,24 @@ choice-sum = record { rests = refl; names = λ t f. refl; lists = λ v t f. refl
 
 pub tail-sum : (k : Kind) → SumKind k → (t : Tree) (g f : Forest) → RefinesIn k g f → RefinesIn k (t ▸ g) (t ▸ f)
 tail-sum k s t g f r = tail-refines k t g f (subst (λ j. RefinesIn j g f) (sym (s .rests)) r)
+
+pub sum-is : (k : Kind) → T (isSum k) → SumKind k
+unfolding isSum
+sum-is (Block t) h = absurd h
+sum-is Sequence h = sequence-sum
+sum-is Choice h = choice-sum
+sum-is (Loop n) h = absurd h
+
+pub arity-of : (k : Kind) (c : ℕ) → T (isSum k) → 1 ≤ c → c ≤ mostChildren → T (arity k c)
+unfolding isSum arity
+arity-of (Block t) c h a b = absurd h
+arity-of Sequence c h a b = join-and _ _ (le→leb 1 c a) (le→leb c mostChildren b)
+arity-of Choice c h a b = join-and _ _ (le→leb 1 c a) (le→leb c mostChildren b)
+arity-of (Loop n) c h a b = absurd h
+
+pub of-arity : (k : Kind) (c : ℕ) → T (isSum k) → T (arity k c) → (1 ≤ c) × (c ≤ mostChildren)
+unfolding isSum arity
+of-arity (Block t) c h a = absurd h
+of-arity Sequence c h a = let (x, y) = both _ _ a in (leb→le 1 c x, leb→le c mostChildren y)
+of-arity Choice c h a = let (x, y) = both _ _ a in (leb→le 1 c x, leb→le c mostChildren y)
+of-arity (Loop n) c h a = absurd h

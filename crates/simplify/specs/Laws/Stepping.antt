@@ -6,24 +6,29 @@ use Prim.Native.Nat.{suc, _≤_, _<_, ℕ}
 use native.Mathlib.Nat.{le-trans}
 use native.Mathlib.Omega.{arith}
 use lib.Dec.{T, leb→le, ltb}
-use Rattle.simplify.specs.Nodes.{Kind, Node, Unlimited, Sequence, Choice, Plain, Loop, Limit, AtMost}
-use Rattle.booleans.specs.Tests.{_and_}
 use Rattle.booleans.specs.Laws.{both, by-cond}
+use Rattle.booleans.specs.Tests.{_and_}
 use Rattle.table.specs.Numbers.{mostTime}
-use Rattle.table.specs.Trees.{Tree, node, Forest, nil, _▸_, size, rest, records}
 use Rattle.table.specs.Questions.{arity, Accepted, listed, named, limitInRange}
+use Rattle.table.specs.Trees.{Tree, node, Forest, nil, _▸_, size, rest, records}
 use Rattle.table.specs.Laws.Trees.{some-records}
 use Rattle.lists.specs.Streams.{Stream, cap, const}
-use Rattle.evaluate.specs.Evaluate.{name, Values, figure, fits, zeros, num, limit, list}
 use Rattle.evaluate.specs.Closed.{isUnlimited, symbolFree, isPlain, plainKind, plainLimit}
-use Rattle.evaluate.specs.Laws.Constant.{list-free, unlimited-is}
-use Rattle.simplify.specs.Same.{sameKind}
+use Rattle.evaluate.specs.Evaluate.{name, Values, figure, fits, zeros, num, limit, list}
+use Rattle.evaluate.specs.Laws.Constant.{unlimited-is, list-free}
+use Rattle.simplify.specs.Nodes.{Kind, Node, Unlimited, Sequence, Choice, Plain, Loop, Limit, AtMost}
 use Rattle.simplify.specs.Rules.{when, rule2, alone, isSum, rule3, rule4, rule5, rule6, rule7, rule8, exit, rule9, leaf, isBlock, bare, rule1}
+use Rattle.simplify.specs.Same.{sameKind}
 use Rattle.simplify.specs.Steps.{orElse, rule, also, inside, insideIn, step}
-use Rattle.simplify.specs.Laws.Refines.{Refines, SumKind, RefinesIn, node-refines, head-refines, tail-refines}
-use Rattle.simplify.specs.Laws.RulesSplice.{kind-is, at, node-is, rule2-refines, alone-free, relimit-refines, sum-is}
-use Rattle.simplify.specs.Laws.RulesBlocks.{rule5-refines, rule6-refines, rule7-refines, leaf-fits, leaf-listed, leaf-depth, leaf-loops, leaf-records, leaf-named, leaf-weight, leaf-list}
-use Rattle.simplify.specs.Laws.RulesFold.{rule4-refines, rule8-refines, rule9-refines, names-run}
+use Rattle.simplify.specs.Laws.Refines.{Refines, SumKind, sum-is, RefinesIn, node-refines, head-refines, tail-refines}
+use Rattle.simplify.specs.Laws.Same.{kind-is, at, node-is}
+use Rattle.simplify.specs.Laws.Rules2And3.{rule2-refines, alone-free, relimit-refines}
+use Rattle.simplify.specs.Laws.Blocks.{leaf-fits, leaf-listed, leaf-depth, leaf-loops, leaf-records, leaf-named, leaf-weight, leaf-list}
+use Rattle.simplify.specs.Laws.Rule5.{rule5-refines}
+use Rattle.simplify.specs.Laws.Rules6And7.{rule6-refines, rule7-refines}
+use Rattle.simplify.specs.Laws.Rule4.{rule4-refines}
+use Rattle.simplify.specs.Laws.Rule9.{rule9-refines, names-run}
+use Rattle.simplify.specs.Laws.Rule8.{rule8-refines}
 
 -- what may become of a tree
 pub data Moves (t : Tree) : Option Tree → Type 0 where

@@ -1,86 +1,25 @@
--- Rules 4, 8 and 9.
-use mathlib.Core.Path.{_≡_, sym, ap, _∙_, refl, ap₂, subst}
-use mathlib.Core.Bool.{not, true, Bool, false, _||_}
-use Prim.Native.Nat.{ℕ, _≤_, suc, min, max, _+_, _<_}
+-- Rule 8: a closed second child is shared out of a choice.
+use mathlib.Core.Path.{_≡_, ap, _∙_, refl, ap₂, sym, subst}
+use mathlib.Core.Bool.{true}
+use Prim.Native.Nat.{suc, ℕ, _≤_, min, max, _+_, _<_}
 use native.Mathlib.Omega.{arith}
-use lib.Dec.{T, leb→le, eqb→eq, le→leb, leb, eqb}
-use borrow.Author.Tests.{eqb-true}
-use Rattle.simplify.specs.Nodes.{Kind, Block, Sequence, Choice, Loop, Node, Unlimited, Limit, Plain}
+use lib.Dec.{T, leb→le, le→leb}
+use Rattle.booleans.specs.Laws.{both, join-and}
 use Rattle.booleans.specs.Tests.{_and_}
-use Rattle.booleans.specs.Laws.{both, join-and, by-cond}
-use Rattle.table.specs.Numbers.{mostTime, wholeRun}
-use Rattle.table.specs.Trees.{Forest, nil, _▸_, size, records, recordsIn, node, Tree, rest, around}
-use Rattle.table.specs.Questions.{arity, listed, depth, loops, named, weight, listedIn, depthIn, loopsIn, namedIn, weightIn, kindInRange, limitInRange, nameOk, share}
-use Rattle.table.specs.Laws.Trees.{some-records}
-use Rattle.lists.specs.Streams.{const, add, merge, Stream, S, group}
+use Rattle.table.specs.Numbers.{mostTime}
+use Rattle.table.specs.Questions.{listed, listedIn, depth, depthIn, loops, loopsIn, named, namedIn, weight, weightIn, arity, kindInRange, limitInRange, nameOk, share}
+use Rattle.table.specs.Trees.{nil, _▸_, node, Tree, Forest, size, rest, around, records, recordsIn}
+use Rattle.lists.specs.Streams.{const, add, merge}
+use Rattle.lists.specs.Laws.MergeLaws.{merge-zero, merge-lift, add-zero-r}
 use Rattle.lists.specs.Laws.Sums.{const-falls, add-falls}
-use Rattle.lists.specs.Laws.MergeLaws.{merge-zero, merge-lift}
-use Rattle.evaluate.specs.Evaluate.{Values, num, inner, name, limit, start, list, before, fits, zeros, seen, nameIn, turns, join, fitsIn, rounds, outward}
-use Rattle.evaluate.specs.Closed.{closedIn, symbolFree, closed}
+use Rattle.evaluate.specs.Closed.{closed}
+use Rattle.evaluate.specs.Evaluate.{inner, name, seen, nameIn, Values, limit, start, list, before, turns, join, fits, fitsIn}
+use Rattle.evaluate.specs.Laws.Constant.{unlimited-is, closed-const}
 use Rattle.evaluate.specs.Laws.Monotone.{name-le, list-falls, before-falls}
-use Rattle.evaluate.specs.Laws.Constant.{closedIn-run, closedIn-const, before-free, closed-const, unlimited-is}
-use Rattle.simplify.specs.Same.{same, sameIn}
-use Rattle.simplify.specs.Rules.{isBlock, leaf, children, isPair, headOf, tailOf, firstOf, secondOf, allPairs, firsts, shares, sharedOut}
+use Rattle.simplify.specs.Nodes.{Sequence, Unlimited, Choice, Limit}
+use Rattle.simplify.specs.Rules.{children, isPair, headOf, tailOf, firstOf, secondOf, allPairs, firsts, shares, sharedOut}
 use Rattle.simplify.specs.Laws.Refines.{Refines}
-use Rattle.simplify.specs.Laws.RulesSplice.{at, kind-is, limit-is, node-is, add-zero-r, add-zero-l}
-use Rattle.simplify.specs.Laws.RulesBlocks.{leaf-fits, leaf-listed, leaf-depth, leaf-loops, leaf-records}
-
--- ---- rule 4
-
-arity-some : (k : Kind) (c : ℕ) → T (not (isBlock k)) → T (arity k c) → 1 ≤ c
-unfolding isBlock arity
-arity-some (Block t) c h a = absurd h
-arity-some Sequence c h a = leb→le 1 c (both _ _ a .0)
-arity-some Choice c h a = leb→le 1 c (both _ _ a .0)
-arity-some (Loop n) c h a = omega (arith, eqb→eq c 2 a)
-
-pub records-some : (f : Forest) → size f ≤ recordsIn f
-unfolding size records
-records-some nil = omega arith
-records-some (t ▸ f) = omega (arith, some-records t, records-some f)
-
-pub rule4-refines : (n : Node) (f : Forest) → T (symbolFree (node n f)) → T (not (isBlock (n .kind))) → T (closedIn (n .kind) f 0)
-    → Refines (leaf (before zeros (n .kind) f 0) (n .limit)) (node n f)
-rule4-refines n f h i r = record {
-  sameName = unfold name in unfold leaf in ap (inner (n .limit)) (sym (closedIn-run k f r));
-  sameList = λ v. unfold list in unfold leaf in unfold start in unfold num in ap (limit v (n .limit)) (sym (closedIn-const v k f r ∙ ap const (first v)));
-  stillFits = λ v q. leaf-fits v x (n .limit) (few v q);
-  stillListed = λ q l. leaf-listed x (n .limit) (few zeros q) (unfold listed in both _ _ (both _ _ (both _ _ l .0) .0) .1);
-  deep = unfold depth in omega (arith, leaf-depth x (n .limit));
-  nested = λ d. unfold loops in omega (arith, leaf-loops x (n .limit) d);
-  stillNamed = λ d q. unfold named in unfold leaf in join-and _ _ (both _ _ q .0) tt;
-  weighed = λ d. unfold weight in unfold leaf in omega arith;
-  fewer = λ l. unfold records in omega (arith, leaf-records x (n .limit), records-some f, arity-some k (size f) i (unfold listed in both _ _ (both _ _ l .0) .1));
-}
-  where
-    k : Kind
-    k = n .kind
-
-    x : ℕ
-    x = before zeros (n .kind) f 0
-
-    first : (v : Values) → before v (n .kind) f 0 ≡ before zeros (n .kind) f 0
-    first v = ap (λ s. s 0) (before-free v zeros (n .kind) f (unfold symbolFree in both _ _ (both _ _ h .0) .0) (unfold symbolFree in both _ _ h .1))
-
-    few : (v : Values) → T (fits v (node n f)) → before zeros (n .kind) f 0 ≤ mostTime
-    few v q = rw (first v) at (leb→le (before v (n .kind) f 0) mostTime (unfold fits in both _ _ q .0))
-
--- ---- rule 8
-
-mutual
-  unfolding same
-
-  pub same-is : (t u : Tree) → T (same t u) → t ≡ u
-  same-is (node n f) (node m g) h =
-      let (p, c) = both _ _ h in
-      let (a, b) = both _ _ p in
-      ap₂ node (node-is n _ _ (kind-is _ _ a) (limit-is _ _ b)) (sameIn-is f g c)
-
-  pub sameIn-is : (f g : Forest) → T (sameIn f g) → f ≡ g
-  sameIn-is nil nil h = refl
-  sameIn-is nil (u ▸ g) h = absurd h
-  sameIn-is (t ▸ f) nil h = absurd h
-  sameIn-is (t ▸ f) (u ▸ g) h = let (a, b) = both _ _ h in ap₂ _▸_ (same-is t u a) (sameIn-is f g b)
+use Rattle.simplify.specs.Laws.Same.{at, kind-is, node-is, same-is}
 
 -- two-child sequences
 abbrev pub pair : Tree → Tree → Tree
@@ -262,30 +201,3 @@ rule8-refines l (t ▸ f) h =
     let z : 1 ≤ size (firsts f) = omega (arith, leb→le 2 (suc (size f)) a, firsts-size f) in
     subst (λ g. Refines (factored l (firsts (t ▸ f)) (secondOf t)) (node (at Choice l) g)) (sym (pairs-are (secondOf t) (t ▸ f) q))
     (unfold firsts in shared-refines l (firstOf t) (firsts f) (secondOf t) b z)
-
--- ---- rule 9
-
-rounds-zero : (k : ℕ) (f : Stream) → rounds k 0 f ≡ const 0
-unfolding rounds group S const
-rounds-zero k f = by-cond (λ g. g ≡ const 0) (leb k 1) _ _ (λ e. refl) (λ e. refl)
-
-pub names-run : (k : ℕ) → T (eqb k 1 || eqb k wholeRun) → outward k ≡ wholeRun
-names-run k h = go (eqb k 1) refl h
-  where
-    go : (b : Bool) → eqb k 1 ≡ b → T (b || eqb k wholeRun) → outward k ≡ wholeRun
-    go true e h = ap outward (eqb-true k 1 e) ∙ unfold outward in refl
-    go false e h = ap outward (eqb→eq k wholeRun h) ∙ unfold outward in refl
-
-pub rule9-refines : (b e : Tree) → outward (name b) ≡ wholeRun → Refines e (node (at (Loop (Plain 0)) Unlimited) (b ▸ e ▸ nil))
-unfolding name seen rest inner list limit turns start num join fits listed depth loops around named weight share records
-rule9-refines b e h = record {
-  sameName = omega (arith, name-le e);
-  sameList = λ v. sym (ap₂ add (rounds-zero (name b) (list v b)) (add-zero-r (list v e)) ∙ add-zero-l _);
-  stillFits = λ v q. both _ _ (both _ _ (both _ _ q .1) .1) .0;
-  stillListed = λ q l. both _ _ (both _ _ (both _ _ l .1) .1) .0;
-  deep = omega arith;
-  nested = λ d. omega arith;
-  stillNamed = λ d q. both _ _ (both _ _ (both _ _ q .1) .1) .0;
-  weighed = λ d. omega arith;
-  fewer = λ l. omega arith;
-}

@@ -1,120 +1,26 @@
--- Rules 5, 6 and 7.
-use mathlib.Core.Path.{_≡_, refl, ap, _∙_, sym, subst, ap₂}
+-- Rules 6 and 7: unlimited plain blocks become one, of their sum or their largest.
+use mathlib.Core.Path.{_≡_, refl, ap, _∙_, sym, ap₂}
 use mathlib.Core.Bool.{cond, Bool, true, false}
-use Prim.Native.Nat.{ℕ, _≤_, suc, max, _+_}
+use Prim.Native.Nat.{_≤_, max, _+_, suc, ℕ}
 use native.Mathlib.Omega.{arith}
-use lib.Dec.{T, le→leb, eqb→eq}
-use Rattle.simplify.specs.Nodes.{Plain, Symbol, Kind, Block, Sequence, Choice, Loop, Unlimited, Limit, Node}
-use Rattle.booleans.specs.Tests.{_and_}
+use lib.Dec.{T}
 use Rattle.booleans.specs.Laws.{both, join-and, by-cond, by-conds}
-use Rattle.table.specs.Numbers.{wholeRun, mostTime}
-use Rattle.table.specs.Trees.{Tree, node, nil, _▸_, size, records, Forest, recordsIn}
-use Rattle.table.specs.Questions.{arity, timeInRange, kindInRange, limitInRange, listed, nameOk, named, share, weight, loops, depth, listedIn, depthIn, loopsIn, namedIn, weightIn}
+use Rattle.table.specs.Numbers.{mostTime}
+use Rattle.table.specs.Questions.{listed, listedIn, depth, depthIn, limitInRange, loopsIn, namedIn, weightIn}
+use Rattle.table.specs.Trees.{nil, _▸_, Forest, records, recordsIn, size, Tree, node}
 use Rattle.table.specs.Laws.Trees.{some-records, some-depth, some-loops}
 use Rattle.lists.specs.Streams.{const, Stream}
-use Rattle.lists.specs.Laws.Sums.{const-falls}
 use Rattle.lists.specs.Laws.MergeLaws.{add-consts, merge-consts}
-use Rattle.evaluate.specs.Evaluate.{Values, num, limit, start, list, inner, name, fits, join, before, fitsIn, nameIn, zeros}
-use Rattle.evaluate.specs.Closed.{isPlain, plainKind}
+use Rattle.lists.specs.Laws.Sums.{const-falls}
+use Rattle.evaluate.specs.Evaluate.{Values, fits, fitsIn, list, name, join, before, nameIn, zeros}
 use Rattle.evaluate.specs.Laws.Monotone.{before-falls, nameIn-le, list-falls}
-use Rattle.simplify.specs.Rules.{isBlock, timeOfKind, leaf, bare, timeOf, isZero, anyZero, without, isSum, others, bares, atFirst, total, largest}
-use Rattle.simplify.specs.Laws.Refines.{RefinesIn, SumKind, tail-sum, Refines, node-refines, join-left, sequence-sum, choice-sum}
-use Rattle.simplify.specs.Laws.RulesSplice.{node-is, or-else, zero-join, named-apart, sum-is, arity-of, of-arity, join-assoc, join-swap, named-join, at}
-use Rattle.evaluate.specs.Laws.Constant.{unlimited-is}
-
--- ---- an unlimited plain block
-
-block-is : (k : Kind) → T (isBlock k) → T (plainKind k) → k ≡ Block (Plain (timeOfKind k))
-unfolding isBlock plainKind isPlain timeOfKind
-block-is (Block (Plain x)) h i = refl
-block-is (Block (Symbol s)) h i = absurd i
-block-is Sequence h i = absurd h
-block-is Choice h i = absurd h
-block-is (Loop n) h i = absurd h
-
-pub bare-is : (t : Tree) → T (bare t) → t ≡ leaf (timeOf t) Unlimited
-unfolding bare timeOf leaf
-bare-is (node n nil) h =
-    let (p, z) = both _ _ h in
-    let (x, y) = both _ _ p in
-    ap (λ m. node m nil) (node-is n _ Unlimited (block-is _ x y) (unlimited-is _ z))
-bare-is (node n (t ▸ f)) h = absurd h
-
-pub leaf-list : (v : Values) (x : ℕ) → list v (leaf x Unlimited) ≡ const x
-unfolding leaf list limit start num
-leaf-list v x = refl
-
-pub leaf-name : (x : ℕ) → name (leaf x Unlimited) ≡ wholeRun
-unfolding leaf name inner
-leaf-name x = refl
-
-pub leaf-fits : (v : Values) (x : ℕ) (l : Limit) → x ≤ mostTime → T (fits v (leaf x l))
-unfolding leaf fits list start num const
-leaf-fits v x l h = join-and _ _ (le→leb x mostTime h) tt
-
-pub leaf-listed : (x : ℕ) (l : Limit) → x ≤ mostTime → T (limitInRange l) → T (listed (leaf x l))
-unfolding leaf listed kindInRange timeInRange arity size
-leaf-listed x l h i = join-and _ _ (join-and _ _ (join-and _ _ (le→leb x mostTime h) i) tt) tt
-
-pub leaf-named : (x d : ℕ) → T (named (leaf x Unlimited) d)
-unfolding leaf named nameOk _and_
-leaf-named x d = tt
-
-pub leaf-weight : (x d : ℕ) → weight (leaf x Unlimited) d ≡ 0
-unfolding leaf weight share
-leaf-weight x d = refl
-
-pub leaf-loops : (x : ℕ) (l : Limit) (d : ℕ) → loops (leaf x l) d ≡ d
-unfolding leaf loops
-leaf-loops x l d = omega arith
-
-pub leaf-depth : (x : ℕ) (l : Limit) → depth (leaf x l) ≡ 1
-unfolding leaf depth
-leaf-depth x l = refl
-
-pub leaf-records : (x : ℕ) (l : Limit) → records (leaf x l) ≡ 1
-unfolding leaf records
-leaf-records x l = refl
-
--- ---- rule 5
-
-zero-is : (t : Tree) → T (isZero t) → t ≡ leaf 0 Unlimited
-unfolding isZero
-zero-is t h = let (a, b) = both _ _ h in bare-is t a ∙ ap (λ x. leaf x Unlimited) (eqb→eq (timeOf t) 0 b)
-
-module _ (k : Kind) (s : SumKind k) where
-  dropped : (f : Forest) → RefinesIn k f (leaf 0 Unlimited ▸ f)
-  unfolding fits listed depth records
-  dropped f = record {
-    sameName = omega (arith, s .names (leaf 0 Unlimited) f, leaf-name 0, nameIn-le k f);
-    sameList = λ v. sym (s .lists v (leaf 0 Unlimited) f ∙ ap (λ x. join k x (before v k f)) (leaf-list v 0) ∙ zero-join k _ (before-falls v k f));
-    stillFits = λ v b h. both _ _ h .1;
-    stillListed = λ b h l. both _ _ l .1;
-    deep = omega arith;
-    nested = λ d. omega (arith, s .loopses (leaf 0 Unlimited) f d);
-    stillNamed = λ d h. named-apart k s (leaf 0 Unlimited) f d h .1;
-    weighed = λ d. omega (arith, s .weights (leaf 0 Unlimited) f d);
-    fewer = λ l. omega (arith, leaf-records 0 Unlimited);
-  }
-
-  pub without-refines : (f : Forest) → T (anyZero f) → RefinesIn k (without f) f
-  unfolding anyZero without
-  without-refines nil h = absurd h
-  without-refines (t ▸ f) h =
-      by-cond (λ g. RefinesIn k g (t ▸ f)) (isZero t) _ _
-      (λ e. subst (λ u. RefinesIn k f (u ▸ f)) (sym (zero-is t e)) (dropped f))
-      (λ e. tail-sum k s t _ f (without-refines f (or-else _ _ h e)))
-
-pub without-size : (f : Forest) → T (anyZero f) → suc (size (without f)) ≡ size f
-unfolding anyZero without size
-without-size nil h = absurd h
-without-size (t ▸ f) h =
-    by-cond (λ g. suc (size g) ≡ suc (size f)) (isZero t) _ _ (λ e. refl) (λ e. ap suc (without-size f (or-else _ _ h e)))
-
-pub rule5-refines : (n : Node) (f : Forest) → T (isSum (n .kind)) → 2 ≤ size f → T (anyZero f) → Refines (node n (without f)) (node n f)
-rule5-refines n f i z h =
-    node-refines n _ f (without-refines _ (sum-is _ i) f h)
-    (λ l a. arity-of _ _ i (omega (arith, without-size f h)) (omega (arith, without-size f h, of-arity _ _ i a .1)))
+use Rattle.evaluate.specs.Laws.Joins.{join-left, zero-join, join-assoc, join-swap}
+use Rattle.simplify.specs.Nodes.{Unlimited, Kind, Sequence, Choice, Limit}
+use Rattle.simplify.specs.Rules.{bare, others, bares, atFirst, leaf, timeOf, total, largest, isSum}
+use Rattle.simplify.specs.Laws.Refines.{RefinesIn, SumKind, sequence-sum, choice-sum, Refines, node-refines, arity-of, of-arity}
+use Rattle.simplify.specs.Laws.Same.{at}
+use Rattle.simplify.specs.Laws.Rules2And3.{named-apart, named-join}
+use Rattle.simplify.specs.Laws.Blocks.{leaf-fits, leaf-listed, leaf-depth, leaf-records, bare-is, leaf-list, leaf-name, leaf-named, leaf-weight, leaf-loops}
 
 -- ---- rules 6 and 7: the other children
 

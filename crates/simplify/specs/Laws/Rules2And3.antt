@@ -1,162 +1,22 @@
--- Rules 2 and 3.
-use mathlib.Core.Path.{_≡_, subst, ap, refl, ap₂, fun-ext, _∙_, sym}
-use mathlib.Core.Bool.{Bool, true, false, _||_}
+-- Rules 2 and 3: an inner sequence or choice gives way, and one of a single child becomes that child.
+use mathlib.Core.Path.{_≡_, subst, ap, _∙_, sym, refl}
 use Prim.Native.Nat.{ℕ, _≤_, _+_, max, suc, min}
 use native.Mathlib.Omega.{arith}
-use lib.Dec.{T, eqb→eq, le→leb, leb→le}
-use Rattle.simplify.specs.Nodes.{Number, Plain, Symbol, Limit, Unlimited, AtMost, Kind, Block, Sequence, Choice, Loop, Node}
-use Rattle.booleans.specs.Laws.{both, join-and, by-cond}
+use lib.Dec.{T, leb→le}
+use Rattle.booleans.specs.Laws.{both, join-and, by-cond, or-else}
 use Rattle.table.specs.Numbers.{mostChildren}
-use Rattle.table.specs.Trees.{Forest, nil, _▸_, _⧺_, size, records, recordsIn, Tree, node}
-use Rattle.table.specs.Questions.{arity, depth, depthIn, listed, listedIn, loops, loopsIn, nameOk, named, namedIn, share, weight, weightIn}
-use Rattle.lists.specs.Streams.{Stream, const, add}
-use Rattle.lists.specs.Laws.Sums.{Falls, const-falls}
-use Rattle.lists.specs.Laws.MergeLaws.{merge-zero, merge-comm, merge-assoc}
-use Rattle.evaluate.specs.Evaluate.{limit, join, Values, fits, fitsIn, inner, name, nameIn, list, before}
+use Rattle.table.specs.Questions.{depth, listed, listedIn, loops, loopsIn, nameOk, named, namedIn, share, weight, weightIn}
+use Rattle.table.specs.Trees.{Forest, nil, _▸_, _⧺_, size, records, Tree, node}
 use Rattle.evaluate.specs.Closed.{isUnlimited}
-use Rattle.evaluate.specs.Laws.Monotone.{list-falls, before-falls, nameIn-le, name-le}
-use Rattle.simplify.specs.Same.{sameNum, sameLimit, sameKind}
-use Rattle.simplify.specs.Rules.{isSum, children, gives, anyGives, giveWay, limitOf, relimit}
-use Rattle.simplify.specs.Laws.Refines.{SumKind, sequence-sum, choice-sum, RefinesIn, tail-sum, Refines, node-refines}
+use Rattle.evaluate.specs.Evaluate.{limit, join, Values, fits, inner, name, nameIn, list, before}
 use Rattle.evaluate.specs.Laws.Constant.{unlimited-is}
-
--- ---- tests say what they test
-
-pub or-else : (a b : Bool) → T (a || b) → a ≡ false → T b
-or-else true b h e = absurd (subst T e tt)
-or-else false b h e = h
-
-pub num-is : (m n : Number) → T (sameNum m n) → m ≡ n
-unfolding sameNum
-num-is (Plain m) (Plain n) h = ap Plain (eqb→eq m n h)
-num-is (Plain m) (Symbol n) h = absurd h
-num-is (Symbol m) (Plain n) h = absurd h
-num-is (Symbol m) (Symbol n) h = ap Symbol (eqb→eq m n h)
-
-pub limit-is : (l r : Limit) → T (sameLimit l r) → l ≡ r
-unfolding sameLimit
-limit-is Unlimited Unlimited h = refl
-limit-is Unlimited (AtMost j n) h = absurd h
-limit-is (AtMost k m) Unlimited h = absurd h
-limit-is (AtMost k m) (AtMost j n) h = let (a, b) = both _ _ h in ap₂ AtMost (eqb→eq k j a) (num-is m n b)
-
-pub kind-is : (j k : Kind) → T (sameKind j k) → j ≡ k
-unfolding sameKind
-kind-is (Block m) (Block n) h = ap Block (num-is m n h)
-kind-is (Block m) Sequence h = absurd h
-kind-is (Block m) Choice h = absurd h
-kind-is (Block m) (Loop n) h = absurd h
-kind-is Sequence (Block n) h = absurd h
-kind-is Sequence Sequence h = refl
-kind-is Sequence Choice h = absurd h
-kind-is Sequence (Loop n) h = absurd h
-kind-is Choice (Block n) h = absurd h
-kind-is Choice Sequence h = absurd h
-kind-is Choice Choice h = refl
-kind-is Choice (Loop n) h = absurd h
-kind-is (Loop m) (Block n) h = absurd h
-kind-is (Loop m) Sequence h = absurd h
-kind-is (Loop m) Choice h = absurd h
-kind-is (Loop m) (Loop n) h = ap Loop (num-is m n h)
-
-abbrev pub at : Kind → Limit → Node
-at k l = record { kind = k; limit = l }
-
-pub node-is : (n : Node) (k : Kind) (l : Limit) → n .kind ≡ k → n .limit ≡ l → n ≡ at k l
-node-is n k l p q = ap₂ at p q
-
-pub sum-is : (k : Kind) → T (isSum k) → SumKind k
-unfolding isSum
-sum-is (Block t) h = absurd h
-sum-is Sequence h = sequence-sum
-sum-is Choice h = choice-sum
-sum-is (Loop n) h = absurd h
-
-pub arity-of : (k : Kind) (c : ℕ) → T (isSum k) → 1 ≤ c → c ≤ mostChildren → T (arity k c)
-unfolding isSum arity
-arity-of (Block t) c h a b = absurd h
-arity-of Sequence c h a b = join-and _ _ (le→leb 1 c a) (le→leb c mostChildren b)
-arity-of Choice c h a b = join-and _ _ (le→leb 1 c a) (le→leb c mostChildren b)
-arity-of (Loop n) c h a b = absurd h
-
-pub of-arity : (k : Kind) (c : ℕ) → T (isSum k) → T (arity k c) → (1 ≤ c) × (c ≤ mostChildren)
-unfolding isSum arity
-of-arity (Block t) c h a = absurd h
-of-arity Sequence c h a = let (x, y) = both _ _ a in (leb→le 1 c x, leb→le c mostChildren y)
-of-arity Choice c h a = let (x, y) = both _ _ a in (leb→le 1 c x, leb→le c mostChildren y)
-of-arity (Loop n) c h a = absurd h
-
--- ---- joining
-
-pub add-zero-l : (f : Stream) → add (const 0) f ≡ f
-unfolding add const
-add-zero-l f = fun-ext (λ i. omega arith)
-
-pub add-zero-r : (f : Stream) → add f (const 0) ≡ f
-unfolding add const
-add-zero-r f = fun-ext (λ i. omega arith)
-
-add-assoc : (f g h : Stream) → add (add f g) h ≡ add f (add g h)
-unfolding add
-add-assoc f g h = fun-ext (λ i. omega arith)
-
-add-comm : (f g : Stream) → add f g ≡ add g f
-unfolding add
-add-comm f g = fun-ext (λ i. omega arith)
-
-pub join-zero : (k : Kind) (f : Stream) → Falls f → join k f (const 0) ≡ f
-unfolding join
-join-zero (Block t) f h = add-zero-r f
-join-zero Sequence f h = add-zero-r f
-join-zero Choice f h = merge-zero f h
-join-zero (Loop n) f h = add-zero-r f
-
-pub join-comm : (k : Kind) (f g : Stream) → Falls f → Falls g → join k f g ≡ join k g f
-unfolding join
-join-comm (Block t) f g h i = add-comm f g
-join-comm Sequence f g h i = add-comm f g
-join-comm Choice f g h i = merge-comm f g h i
-join-comm (Loop n) f g h i = add-comm f g
-
-pub zero-join : (k : Kind) (f : Stream) → Falls f → join k (const 0) f ≡ f
-zero-join k f h = join-comm k (const 0) f (const-falls 0) h ∙ join-zero k f h
-
-pub join-assoc : (k : Kind) (f g h : Stream) → Falls f → Falls g → Falls h → join k (join k f g) h ≡ join k f (join k g h)
-unfolding join
-join-assoc (Block t) f g h a b c = add-assoc f g h
-join-assoc Sequence f g h a b c = add-assoc f g h
-join-assoc Choice f g h a b c = merge-assoc f g h a b c
-join-assoc (Loop n) f g h a b c = add-assoc f g h
-
-pub join-swap : (k : Kind) (f g h : Stream) → Falls f → Falls g → Falls h → join k f (join k g h) ≡ join k g (join k f h)
-join-swap k f g h a b c = sym (join-assoc k f g h a b c) ∙ ap (λ s. join k s h) (join-comm k f g a b) ∙ join-assoc k g f h b a c
-
--- ---- children put together
-
-pub size-⧺ : (g f : Forest) → size (g ⧺ f) ≡ size g + size f
-unfolding _⧺_ size
-size-⧺ nil f = omega arith
-size-⧺ (t ▸ g) f = omega (arith, size-⧺ g f)
-
-records-⧺ : (g f : Forest) → recordsIn (g ⧺ f) ≡ recordsIn g + recordsIn f
-unfolding _⧺_ records
-records-⧺ nil f = omega arith
-records-⧺ (t ▸ g) f = omega (arith, records-⧺ g f)
-
-depth-⧺ : (g f : Forest) → depthIn (g ⧺ f) ≡ max (depthIn g) (depthIn f)
-unfolding _⧺_ depth
-depth-⧺ nil f = omega arith
-depth-⧺ (t ▸ g) f = omega (arith, depth-⧺ g f)
-
-fits-⧺ : (v : Values) (g f : Forest) → T (fitsIn v g) → T (fitsIn v f) → T (fitsIn v (g ⧺ f))
-unfolding _⧺_ fits
-fits-⧺ v nil f h i = i
-fits-⧺ v (t ▸ g) f h i = let (a, b) = both _ _ h in join-and _ _ a (fits-⧺ v g f b i)
-
-listed-⧺ : (g f : Forest) → T (listedIn g) → T (listedIn f) → T (listedIn (g ⧺ f))
-unfolding _⧺_ listed
-listed-⧺ nil f h i = i
-listed-⧺ (t ▸ g) f h i = let (a, b) = both _ _ h in join-and _ _ a (listed-⧺ g f b i)
+use Rattle.evaluate.specs.Laws.Monotone.{list-falls, before-falls, nameIn-le, name-le}
+use Rattle.evaluate.specs.Laws.Joins.{zero-join, join-assoc, join-zero}
+use Rattle.simplify.specs.Nodes.{Unlimited, Kind, Node, Limit}
+use Rattle.simplify.specs.Rules.{isSum, children, gives, anyGives, giveWay, limitOf, relimit}
+use Rattle.simplify.specs.Laws.Refines.{SumKind, RefinesIn, tail-sum, of-arity, Refines, node-refines, sum-is, arity-of}
+use Rattle.simplify.specs.Laws.Same.{kind-is, at, node-is}
+use Rattle.simplify.specs.Laws.Forests.{size-⧺, records-⧺, depth-⧺, fits-⧺, listed-⧺}
 
 module _ (k : Kind) (s : SumKind k) where
   name-⧺ : (g f : Forest) → nameIn k (g ⧺ f) ≡ min (nameIn k g) (nameIn k f)

@@ -1,0 +1,71 @@
+-- What the definitions say of an unlimited plain block, and of a plain block with a limit.
+use mathlib.Core.Path.{_≡_, refl, ap}
+use Prim.Native.Nat.{ℕ, _≤_}
+use native.Mathlib.Omega.{arith}
+use lib.Dec.{T, le→leb}
+use Rattle.booleans.specs.Laws.{both, join-and}
+use Rattle.booleans.specs.Tests.{_and_}
+use Rattle.table.specs.Numbers.{wholeRun, mostTime}
+use Rattle.table.specs.Questions.{arity, timeInRange, kindInRange, limitInRange, listed, nameOk, named, share, weight, loops, depth}
+use Rattle.table.specs.Trees.{Tree, node, nil, _▸_, size, records}
+use Rattle.lists.specs.Streams.{const}
+use Rattle.evaluate.specs.Closed.{isPlain, plainKind}
+use Rattle.evaluate.specs.Evaluate.{Values, num, limit, start, list, inner, name, fits}
+use Rattle.evaluate.specs.Laws.Constant.{unlimited-is}
+use Rattle.simplify.specs.Nodes.{Plain, Symbol, Kind, Block, Sequence, Choice, Loop, Unlimited, Limit}
+use Rattle.simplify.specs.Rules.{isBlock, timeOfKind, leaf, bare, timeOf}
+use Rattle.simplify.specs.Laws.Same.{node-is}
+
+-- ---- an unlimited plain block
+
+block-is : (k : Kind) → T (isBlock k) → T (plainKind k) → k ≡ Block (Plain (timeOfKind k))
+unfolding isBlock plainKind isPlain timeOfKind
+block-is (Block (Plain x)) h i = refl
+block-is (Block (Symbol s)) h i = absurd i
+block-is Sequence h i = absurd h
+block-is Choice h i = absurd h
+block-is (Loop n) h i = absurd h
+
+pub bare-is : (t : Tree) → T (bare t) → t ≡ leaf (timeOf t) Unlimited
+unfolding bare timeOf leaf
+bare-is (node n nil) h =
+    let (p, z) = both _ _ h in
+    let (x, y) = both _ _ p in
+    ap (λ m. node m nil) (node-is n _ Unlimited (block-is _ x y) (unlimited-is _ z))
+bare-is (node n (t ▸ f)) h = absurd h
+
+pub leaf-list : (v : Values) (x : ℕ) → list v (leaf x Unlimited) ≡ const x
+unfolding leaf list limit start num
+leaf-list v x = refl
+
+pub leaf-name : (x : ℕ) → name (leaf x Unlimited) ≡ wholeRun
+unfolding leaf name inner
+leaf-name x = refl
+
+pub leaf-fits : (v : Values) (x : ℕ) (l : Limit) → x ≤ mostTime → T (fits v (leaf x l))
+unfolding leaf fits list start num const
+leaf-fits v x l h = join-and _ _ (le→leb x mostTime h) tt
+
+pub leaf-listed : (x : ℕ) (l : Limit) → x ≤ mostTime → T (limitInRange l) → T (listed (leaf x l))
+unfolding leaf listed kindInRange timeInRange arity size
+leaf-listed x l h i = join-and _ _ (join-and _ _ (join-and _ _ (le→leb x mostTime h) i) tt) tt
+
+pub leaf-named : (x d : ℕ) → T (named (leaf x Unlimited) d)
+unfolding leaf named nameOk _and_
+leaf-named x d = tt
+
+pub leaf-weight : (x d : ℕ) → weight (leaf x Unlimited) d ≡ 0
+unfolding leaf weight share
+leaf-weight x d = refl
+
+pub leaf-loops : (x : ℕ) (l : Limit) (d : ℕ) → loops (leaf x l) d ≡ d
+unfolding leaf loops
+leaf-loops x l d = omega arith
+
+pub leaf-depth : (x : ℕ) (l : Limit) → depth (leaf x l) ≡ 1
+unfolding leaf depth
+leaf-depth x l = refl
+
+pub leaf-records : (x : ℕ) (l : Limit) → records (leaf x l) ≡ 1
+unfolding leaf records
+leaf-records x l = refl

@@ -1,0 +1,64 @@
+-- Tests of sameness say what they test.
+use mathlib.Core.Path.{_≡_, ap, refl, ap₂}
+use lib.Dec.{T, eqb→eq}
+use Rattle.booleans.specs.Laws.{both}
+use Rattle.table.specs.Trees.{Forest, nil, _▸_, node, Tree}
+use Rattle.evaluate.specs.Evaluate.{limit}
+use Rattle.simplify.specs.Nodes.{Number, Plain, Symbol, Limit, Unlimited, AtMost, Kind, Block, Sequence, Choice, Loop, Node}
+use Rattle.simplify.specs.Same.{sameNum, sameLimit, sameKind, same, sameIn}
+
+pub num-is : (m n : Number) → T (sameNum m n) → m ≡ n
+unfolding sameNum
+num-is (Plain m) (Plain n) h = ap Plain (eqb→eq m n h)
+num-is (Plain m) (Symbol n) h = absurd h
+num-is (Symbol m) (Plain n) h = absurd h
+num-is (Symbol m) (Symbol n) h = ap Symbol (eqb→eq m n h)
+
+pub limit-is : (l r : Limit) → T (sameLimit l r) → l ≡ r
+unfolding sameLimit
+limit-is Unlimited Unlimited h = refl
+limit-is Unlimited (AtMost j n) h = absurd h
+limit-is (AtMost k m) Unlimited h = absurd h
+limit-is (AtMost k m) (AtMost j n) h = let (a, b) = both _ _ h in ap₂ AtMost (eqb→eq k j a) (num-is m n b)
+
+pub kind-is : (j k : Kind) → T (sameKind j k) → j ≡ k
+unfolding sameKind
+kind-is (Block m) (Block n) h = ap Block (num-is m n h)
+kind-is (Block m) Sequence h = absurd h
+kind-is (Block m) Choice h = absurd h
+kind-is (Block m) (Loop n) h = absurd h
+kind-is Sequence (Block n) h = absurd h
+kind-is Sequence Sequence h = refl
+kind-is Sequence Choice h = absurd h
+kind-is Sequence (Loop n) h = absurd h
+kind-is Choice (Block n) h = absurd h
+kind-is Choice Sequence h = absurd h
+kind-is Choice Choice h = refl
+kind-is Choice (Loop n) h = absurd h
+kind-is (Loop m) (Block n) h = absurd h
+kind-is (Loop m) Sequence h = absurd h
+kind-is (Loop m) Choice h = absurd h
+kind-is (Loop m) (Loop n) h = ap Loop (num-is m n h)
+
+abbrev pub at : Kind → Limit → Node
+at k l = record { kind = k; limit = l }
+
+pub node-is : (n : Node) (k : Kind) (l : Limit) → n .kind ≡ k → n .limit ≡ l → n ≡ at k l
+node-is n k l p q = ap₂ at p q
+
+-- ---- rule 8
+
+mutual
+  unfolding same
+
+  pub same-is : (t u : Tree) → T (same t u) → t ≡ u
+  same-is (node n f) (node m g) h =
+      let (p, c) = both _ _ h in
+      let (a, b) = both _ _ p in
+      ap₂ node (node-is n _ _ (kind-is _ _ a) (limit-is _ _ b)) (sameIn-is f g c)
+
+  pub sameIn-is : (f g : Forest) → T (sameIn f g) → f ≡ g
+  sameIn-is nil nil h = refl
+  sameIn-is nil (u ▸ g) h = absurd h
+  sameIn-is (t ▸ f) nil h = absurd h
+  sameIn-is (t ▸ f) (u ▸ g) h = let (a, b) = both _ _ h in ap₂ _▸_ (same-is t u a) (sameIn-is f g b)
