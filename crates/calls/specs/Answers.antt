@@ -1,20 +1,38 @@
--- What each outside call answers for any input.
-use mathlib.Core.Bool.{cond, Bool, true}
+-- What each outside call answers for any input, and the bytes that it writes. Document 01, "Questions put to a call".
+use mathlib.Core.Bool.{Bool, true, false, cond}
 use mathlib.Core.List.{List, [], _∷_, _++_}
-use mathlib.Core.Option.{Option, some, none}
 use Prim.Native.Nat.{ℕ, suc}
-use lib.Dec.{ltb, leb, eqb}
-use lib.ListN.{getD, length, drop}
+use lib.Dec.{eqb, leb, ltb}
+use lib.ListN.{length, getD, drop}
 use Rattle.booleans.specs.Tests.{_and_}
-use Rattle.table.specs.Numbers.{firstTimeSymbol, mostCount, mostTime, howManyValues}
+use Rattle.table.specs.Numbers.{howManyValues, firstTimeSymbol, mostCount, mostTime}
 use Rattle.table.specs.Trees.{Tree}
-use Rattle.table.specs.Table.{decode, encode}
+use Rattle.table.specs.Table.{encode, decode, recordCount}
 use Rattle.table.specs.Checking.{refusal}
 use Rattle.evaluate.specs.Evaluate.{Values, figure, fits, zeros}
 use Rattle.simplify.specs.Steps.{Made, steps}
+use Rattle.calls.specs.declared.Checked.{Checked}
+use Rattle.calls.specs.declared.Quote.{Quote}
+use Rattle.calls.specs.declared.Ending.{Ending}
+use Rattle.calls.specs.declared.Simplified.{Simplified}
 
--- ---- the values a desk holds
+-- ---- checking: questions 1 to 7
 
+unfoldable pub checkAnswer : List ℕ → Checked
+checkAnswer b = cond (eqb (refusal b) 0) (Checked.Accepted (recordCount b)) (Checked.Refused (refusal b))
+
+-- document 01's number for each case, 0 for none, and the number of records, 0 where the table is refused
+unfoldable pub checkedRefusal : Checked → ℕ
+checkedRefusal (Checked.Accepted n) = 0
+checkedRefusal (Checked.Refused q) = q
+
+unfoldable pub checkedRecords : Checked → ℕ
+checkedRecords (Checked.Accepted n) = n
+checkedRecords (Checked.Refused q) = 0
+
+-- ---- the figure call: questions 1 to 7, 9 and 10
+
+-- the value of each symbol, from the list that a desk lends
 abbrev pub valuesOf : List ℕ → Values
 valuesOf vs k = getD vs k 0
 
@@ -27,49 +45,42 @@ unfoldable pub ranged : ℕ → List ℕ → Bool
 ranged i [] = true
 ranged i (x ∷ xs) = leb x (ceiling i) and ranged (suc i) xs
 
--- question 9
+-- 9. exactly 32 values, each in its range, used or not
 unfoldable pub question9 : List ℕ → Bool
 question9 vs = eqb (length vs) howManyValues and ranged 0 vs
 
--- ---- the calls
+-- the tree of an accepted table: question 10 is `fits`
+unfoldable pub quoteOf : List ℕ → Tree → Quote
+quoteOf vs t = cond (question9 vs) (cond (fits (valuesOf vs) t) (Quote.Figure (figure (valuesOf vs) t)) (Quote.Refused 10)) (Quote.Refused 9)
 
-pub data Answer : Type 0 where
-  quoted : ℕ → Answer
-  refused : ℕ → Answer
+unfoldable pub figureAnswer : List ℕ → List ℕ → Quote
+figureAnswer b vs = cond (eqb (refusal b) 0) (quoteOf vs (decode b)) (Quote.Refused (refusal b))
 
--- the figure call on an accepted table: questions 9 and 10, then the figure
-unfoldable pub figureCall : List ℕ → Tree → Answer
-figureCall vs t = cond (question9 vs) (cond (fits (valuesOf vs) t) (quoted (figure (valuesOf vs) t)) (refused 10)) (refused 9)
+-- ---- simplifying: questions 1 to 8, then 10 with every symbol 0
 
--- simplifying an accepted table, the buffer being long enough: question 10 with every symbol 0; nothing is written where it is refused
-unfoldable pub simplifyCall : ℕ → Tree → Option Made
-simplifyCall n t = cond (fits zeros t) (some (steps n t)) none
-
--- the figure call on a table's bytes and a desk's values: questions 1 to 7, 9 and 10
-unfoldable pub figureAnswer : List ℕ → List ℕ → Answer
-figureAnswer b vs = cond (eqb (refusal b) 0) (figureCall vs (decode b)) (refused (refusal b))
-
--- simplifying: the written table's length, the steps taken, and whether no rule fits; or the refusal's number
-pub data Simplified : Type 0 where
-  wrote : (length taken : ℕ) → (finished : Bool) → Simplified
-  declined : ℕ → Simplified
-
--- questions 1 to 8 and 10, of the table and the output buffer: the first that says no, or 0
-unfoldable pub simplifyRefusal : List ℕ → List ℕ → ℕ
+-- 8. the output buffer is at least as long as the table
+unfoldable pub simplifyRefusal : (table out : List ℕ) → ℕ
 simplifyRefusal b out =
     cond (eqb (refusal b) 0) (cond (leb (length b) (length out)) (cond (fits zeros (decode b)) 0 10) 8) (refusal b)
 
+unfoldable pub endingOf : (finished : Bool) → Ending
+endingOf true = Ending.Finished
+endingOf false = Ending.Spent
+
+-- what an allowance of n steps makes of a table
 unfoldable pub made : List ℕ → ℕ → Made
 made b n = steps n (decode b)
 
-unfoldable pub simplifyAnswer : List ℕ → ℕ → List ℕ → Simplified
+unfoldable pub simplifyAnswer : (table : List ℕ) (allowance : ℕ) (out : List ℕ) → Simplified
 simplifyAnswer b n out =
-    cond (eqb (simplifyRefusal b out) 0) (wrote (length (encode (made b n .tree))) (made b n .taken) (made b n .finished)) (declined (simplifyRefusal b out))
+    cond (eqb (simplifyRefusal b out) 0)
+    (Simplified.Written (length (encode (made b n .tree))) (made b n .taken) (endingOf (made b n .finished)))
+    (Simplified.Refused (simplifyRefusal b out))
 
 -- the bytes it writes: none where it is refused
-unfoldable pub simplifyWrites : List ℕ → ℕ → List ℕ → List ℕ
+unfoldable pub simplifyWrites : (table : List ℕ) (allowance : ℕ) (out : List ℕ) → List ℕ
 simplifyWrites b n out = cond (eqb (simplifyRefusal b out) 0) (encode (made b n .tree)) []
 
--- a buffer with bytes written over its front
-unfoldable pub over : List ℕ → List ℕ → List ℕ
+-- a buffer with bytes written over its front, and the rest of it as it was
+unfoldable pub over : (front buffer : List ℕ) → List ℕ
 over front buffer = front ++ drop (length front) buffer

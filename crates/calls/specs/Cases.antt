@@ -1,128 +1,140 @@
--- The starred cases of document 01, as one list.
+-- The starred cases of document 01, "Cases", as one list, checked against the definitions by one proof.
 use mathlib.Core.Path.{_≡_, refl}
 use mathlib.Core.Bool.{Bool, true, false}
-use mathlib.Core.List.{List, [], _∷_, _++_}
+use mathlib.Core.List.{List, [], _∷_}
 use Prim.Native.Nat.{ℕ, zero, suc}
-use Rattle.calls.specs.Nodes.{Plain, Unlimited, Block, Symbol, AtMost, Sequence, Choice, Loop}
+use lib.Dec.{eqb}
 use Rattle.booleans.specs.Tests.{_and_}
-use Rattle.table.specs.Trees.{Tree, node, nil, Forest, _▸_, _⧺_, size, rest, around, records}
-use Rattle.table.specs.Questions.{listed, depth, loops, named, weight, arity, timeInRange, countInRange, kindInRange, limitInRange, nameOk, share}
+use Rattle.table.specs.Numbers.{howManyValues, mostRecords}
+use Rattle.table.specs.Trees.{Tree, node, Forest, nil, _▸_, _⧺_, size, rest, around, records}
+use Rattle.table.specs.Questions.{arity, timeInRange, countInRange, kindInRange, limitInRange, listed, depth, loops, nameOk, named, share, weight}
 use Rattle.table.specs.Bytes.{le, un}
-use Rattle.table.specs.Table.{encode, flag, numFrom, kindByte, valueNum, kindFrom, loopByte, limitNum, limitFrom, recordBytes, firstNode, childByte, firstOnes, afterOnes, forest, top, decode, formTrees, each}
-use Rattle.table.specs.Checking.{refusal, limitCount, recordInRange, firstNo, question1, question2, question3, question4, question5, question6, question7}
+use Rattle.table.specs.Table.{flag, numFrom, kindByte, valueNum, kindFrom, loopByte, limitNum, limitFrom, recordBytes, encode, firstNode, childByte, firstOnes, afterOnes, forest, top, decode, formTrees, each}
+use Rattle.table.specs.Checking.{question1, question2, limitCount, recordInRange, question3, question4, question5, question6, question7, firstNo, refusal}
 use Rattle.lists.specs.Streams.{S, const, add, cap, group, shift, merge, next, taken}
 use Rattle.lists.specs.Pairs.{Pair, grown, inFront, tail, pairs}
-use Rattle.evaluate.specs.Evaluate.{limit, figure, zeros, name, list, num, inner, outward, seen, rounds, turns, join, start, fits}
+use Rattle.evaluate.specs.Evaluate.{num, inner, outward, seen, name, limit, rounds, turns, join, start, list, figure, fits, zeros}
 use Rattle.evaluate.specs.Closed.{stays, closed, isPlain, plainKind, plainLimit, symbolFree, isUnlimited}
-use Rattle.evaluate.specs.ListPairs.{listPairs, placeOf, turned, place}
-use Rattle.simplify.specs.Same.{same, sameNum, sameLimit, sameKind}
+use Rattle.evaluate.specs.ListPairs.{placeOf, turned, place, listPairs}
+use Rattle.simplify.specs.Same.{sameNum, sameLimit, sameKind, same}
 use Rattle.simplify.specs.Rules.{isBlock, isSum, limitOf, children, relimit, leaf, bare, timeOfKind, timeOf, when, rule1, gives, anyGives, giveWay, rule2, alone, rule3, rule4, isZero, anyZero, without, rule5, bares, others, total, largest, rule6, atFirst, rule7, isPair, headOf, tailOf, firstOf, secondOf, allPairs, firsts, shares, sharedOut, rule8, exit, rule9}
-use Rattle.simplify.specs.Steps.{Made, steps, orElse, also, rule, inside, step, isNone, onward}
+use Rattle.simplify.specs.Steps.{orElse, also, rule, inside, step, isNone, onward, steps}
+use Rattle.calls.specs.Nodes.{Plain, Symbol, Unlimited, AtMost, Block, Sequence, Choice, Loop}
+use Rattle.calls.specs.declared.Quote.{Quote}
+use Rattle.calls.specs.Answers.{ceiling, ranged, question9, quoteOf, figureAnswer}
 
--- ---- trees as the document writes them
+-- ---- trees, as the document writes them
 
-blk : ℕ → Tree
-blk n = node (record { kind = Block (Plain n); limit = Unlimited }) nil
+pub block : ℕ → Tree
+block n = node (record { kind = Block (Plain n); limit = Unlimited }) nil
 
-sym : ℕ → Tree
-sym s = node (record { kind = Block (Symbol s); limit = Unlimited }) nil
+-- a block whose time is a symbol
+pub symbol : ℕ → Tree
+symbol s = node (record { kind = Block (Symbol s); limit = Unlimited }) nil
 
 infixl 60 _/_at_
-
 -- a/m@k
-_/_at_ : Tree → ℕ → ℕ → Tree
+pub _/_at_ : Tree → ℕ → ℕ → Tree
 (node n f) / m at k = node (record { kind = n .kind; limit = AtMost k (Plain m) }) f
 
-sq : Forest → Tree
-sq f = node (record { kind = Sequence; limit = Unlimited }) f
+-- (a, b, ..)
+pub sequence : Forest → Tree
+sequence f = node (record { kind = Sequence; limit = Unlimited }) f
 
-ch : Forest → Tree
-ch f = node (record { kind = Choice; limit = Unlimited }) f
+-- (a, b)
+pub both : Tree → Tree → Tree
+both a b = sequence (a ▸ b ▸ nil)
 
-lp : ℕ → Tree → Tree → Tree
-lp n b e = node (record { kind = Loop (Plain n); limit = Unlimited }) (b ▸ e ▸ nil)
+-- C(a|b)
+pub either : Tree → Tree → Tree
+either a b = node (record { kind = Choice; limit = Unlimited }) (a ▸ b ▸ nil)
 
-two : Tree → Tree → Tree
-two a b = sq (a ▸ b ▸ nil)
+-- a loop of this bound, its body and its exit
+pub loop : ℕ → Tree → Tree → Tree
+loop n b e = node (record { kind = Loop (Plain n); limit = Unlimited }) (b ▸ e ▸ nil)
 
-or : Tree → Tree → Tree
-or a b = ch (a ▸ b ▸ nil)
+-- ---- what a case says
 
+pub data Case : Type 0 where
+  -- the figure call answers this figure on the tree's table, with 32 zeros
+  quotes : Tree → ℕ → Case
+  -- the tree's list has these pairs
+  lists : Tree → List Pair → Case
+  -- simplifying finishes with this tree, after so many steps
+  becomes : (original result : Tree) → (count : ℕ) → Case
+
+pub repeat : ℕ → List ℕ
+repeat zero = []
+repeat (suc n) = 0 ∷ repeat n
+
+pub isFigure : ℕ → Quote → Bool
+isFigure x (Quote.Figure y) = eqb x y
+isFigure x (Quote.Refused q) = false
+
+pub samePairs : List Pair → List Pair → Bool
+samePairs [] [] = true
+samePairs [] (q ∷ s) = false
+samePairs (p ∷ r) [] = false
+samePairs (p ∷ r) (q ∷ s) = eqb (p .0) (q .0) and eqb (p .1) (q .1) and samePairs r s
+
+pub holds : Case → Bool
+holds (quotes t x) = isFigure x (figureAnswer (encode t) (repeat howManyValues))
+holds (lists t ps) = samePairs ps (listPairs zeros t)
+holds (becomes t u n) = let m = steps mostRecords t in same (m .tree) u and eqb (m .taken) n and m .finished
+
+pub allHold : List Case → Bool
+allHold [] = true
+allHold (c ∷ cs) = holds c and allHold cs
+
+-- ---- the cases
+
+-- document 003's example 4.5, with the inner loop's limit on loop k
 caseE : ℕ → Tree
-caseE k = lp 3 (two (blk 5) (lp 3 (sq (blk 5 ▸ or (blk 10 / 1 at k) (blk 0) ▸ blk 15 ▸ nil)) (blk 5))) (blk 5)
+caseE k =
+    loop 3 (both (block 5) (loop 3 (sequence (block 5 ▸ either (block 10 / 1 at k) (block 0) ▸ block 15 ▸ nil)) (block 5))) (block 5)
 
-caseG : Tree
-caseG = lp 3 (or (blk 30 / 1 at 2) (blk 20)) (blk 0)
+-- the term that case H's two alternatives share
+term : Tree
+term = either (block 10 / 1 at 1) (block 0)
 
--- 1 if listed, then the depth, the loops, the weight, and the figure
-yes : Bool → ℕ
-yes true = 1
-yes false = 0
+-- case I with this first child of the inner loop's body
+caseI : Tree → Tree
+caseI a = loop 3 (loop 3 (both a (either (block 10 / 1 at 2) (block 0))) (block 0)) (block 0)
 
-checked : Tree → List ℕ
-checked t = yes (listed t and named t 0) ∷ depth t ∷ loops t 0 ∷ weight t 0 ∷ figure zeros t ∷ []
-
-pub figures : List (List ℕ)
-figures =
-    checked (blk 7)
-    ∷ checked (lp 0 (blk 9) (blk 4))
-    ∷ checked (lp 3 (or (blk 10 / 1 at 1) (blk 5)) (blk 0))
-    ∷ checked (lp 3 (or (blk 10 / 0 at 1) (blk 5)) (blk 0))
-    ∷ checked (caseE 2)
-    ∷ checked (caseE 1)
-    ∷ (list zeros caseG 0 ∷ list zeros caseG 1 ∷ list zeros caseG 2 ∷ name caseG ∷ [])
-    ∷ checked (lp 2 (or (two (blk 5) (or (blk 10 / 1 at 1) (blk 0))) (two (blk 4) (or (blk 10 / 1 at 1) (blk 0)))) (blk 0))
-    ∷ checked (lp 3 (lp 3 (two (or (blk 0 / 1 at 1) (blk 4)) (or (blk 10 / 1 at 2) (blk 0))) (blk 0)) (blk 0))
+pub starred : List Case
+starred =
+    -- A
+    quotes (block 7) 7
+    -- B
+    ∷ quotes (loop 0 (block 9) (block 4)) 4
+    -- C
+    ∷ quotes (loop 3 (either (block 10 / 1 at 1) (block 5)) (block 0)) 20
+    -- D
+    ∷ quotes (loop 3 (either (block 10 / 0 at 1) (block 5)) (block 0)) 15
+    -- E
+    ∷ quotes (caseE 2) 225
+    -- F
+    ∷ quotes (caseE 1) 245
+    -- G: the body's list, naming an outer loop, and the loop's
+    ∷ lists (either (block 30 / 1 at 2) (block 20)) ((30, 1) ∷ (20, 0) ∷ [])
+    ∷ lists (loop 3 (either (block 30 / 1 at 2) (block 20)) (block 0)) ((70, 1) ∷ (60, 0) ∷ [])
+    -- H, and what it would be, were the limited term shared out
+    ∷ quotes (loop 2 (either (both (block 5) term) (both (block 4) term)) (block 0)) 29
+    ∷ quotes (loop 2 (both (either (block 5) (block 4)) term) (block 0)) 20
+    -- I, and what it would be without the limited 0
+    ∷ quotes (caseI (either (block 0 / 1 at 1) (block 4))) 66
+    ∷ quotes (caseI (block 4)) 46
+    -- J
+    ∷ becomes (sequence (block 5 ▸ symbol 16 ▸ block 4 ▸ nil)) (both (block 9) (symbol 16)) 1
+    -- K
+    ∷ becomes (either (both (block 5) (symbol 16)) (both (block 4) (symbol 16))) (both (block 5) (symbol 16)) 2
     ∷ []
-
-made : Made → Tree → List ℕ
-made m t = m .taken ∷ yes (m .finished) ∷ yes (same (m .tree) t) ∷ []
-
-pub simplified : List (List ℕ)
-simplified =
-    made (steps 9 (sq (blk 5 ▸ sym 16 ▸ blk 4 ▸ nil))) (two (blk 9) (sym 16))
-    ∷ made (steps 9 (or (two (blk 5) (sym 16)) (two (blk 4) (sym 16)))) (two (blk 5) (sym 16))
-    ∷ made (steps 1 (or (two (blk 5) (sym 16)) (two (blk 4) (sym 16)))) (two (or (blk 5) (blk 4)) (sym 16))
-    ∷ []
-
-nest : ℕ → Tree → Tree
-nest zero t = t
-nest (suc n) t = lp 1 (nest n t) (blk 0)
-
--- cases M, L and N, and others, of the bytes
-pub refusals : List ℕ
-refusals =
-    refusal (encode (nest 7 (blk 3 / 1 at 255)))
-    ∷ refusal (encode (nest 8 (blk 3 / 1 at 255)))
-    ∷ refusal (encode (nest 9 (blk 3)))
-    ∷ refusal (encode (lp 1 (blk 3) (blk 4 / 1 at 1)))
-    ∷ refusal []
-    ∷ refusal (encode (blk 1000000000001))
-    ∷ refusal (encode (blk 1) ++ encode (blk 2))
-    ∷ []
-
--- case G's pairs
-pub pairsG : List Pair
-pairsG = listPairs zeros caseG
 
 -- to unfold this is to unfold all that the cases compute with
-unfoldable every : ℕ
-unfolding blk sym _/_at_ sq ch lp two or caseE caseG yes checked made _and_ _⧺_ size rest around records S const add cap group shift merge next taken num inner outward seen name limit rounds turns join start list figure fits arity timeInRange countInRange kindInRange limitInRange listed depth loops nameOk named share weight stays closed isPlain plainKind plainLimit symbolFree sameNum sameLimit sameKind same isUnlimited isBlock isSum limitOf children relimit leaf bare timeOfKind timeOf when rule1 gives anyGives giveWay rule2 alone rule3 rule4 isZero anyZero without rule5 bares others total largest rule6 atFirst rule7 isPair headOf tailOf firstOf secondOf allPairs firsts shares sharedOut rule8 exit rule9 orElse also rule inside step isNone onward steps nest le un flag numFrom kindByte valueNum kindFrom loopByte limitNum limitFrom recordBytes encode firstNode childByte firstOnes afterOnes forest top decode formTrees each limitCount recordInRange firstNo question1 question2 question3 question4 question5 question6 question7 refusal placeOf turned place grown inFront tail pairs listPairs
-every = 0
+unfoldable pub computed : ℕ
+unfolding block symbol _/_at_ sequence both either loop repeat isFigure samePairs holds allHold _and_ _⧺_ size rest around records S const add cap group shift merge next taken num inner outward seen name limit rounds turns join start list figure fits arity timeInRange countInRange kindInRange limitInRange listed depth loops nameOk named share weight stays closed isPlain plainKind plainLimit symbolFree sameNum sameLimit sameKind same isUnlimited isBlock isSum limitOf children relimit leaf bare timeOfKind timeOf when rule1 gives anyGives giveWay rule2 alone rule3 rule4 isZero anyZero without rule5 bares others total largest rule6 atFirst rule7 isPair headOf tailOf firstOf secondOf allPairs firsts shares sharedOut rule8 exit rule9 orElse also rule inside step isNone onward steps le un flag numFrom kindByte valueNum kindFrom loopByte limitNum limitFrom recordBytes encode firstNode childByte firstOnes afterOnes forest top decode formTrees each limitCount recordInRange firstNo question1 question2 question3 question4 question5 question6 question7 refusal placeOf turned place grown inFront tail pairs listPairs ceiling ranged question9 quoteOf figureAnswer
+computed = 0
 
-pub figures-are : figures ≡ (1 ∷ 1 ∷ 0 ∷ 0 ∷ 7 ∷ []) ∷ (1 ∷ 2 ∷ 1 ∷ 0 ∷ 4 ∷ []) ∷ (1 ∷ 3 ∷ 1 ∷ 1 ∷ 20 ∷ []) ∷ (1 ∷ 3 ∷ 1 ∷ 1 ∷ 15 ∷ []) ∷ (1 ∷ 6 ∷ 2 ∷ 2 ∷ 225 ∷ []) ∷ (1 ∷ 6 ∷ 2 ∷ 1 ∷ 245 ∷ [])
-    ∷ (70 ∷ 60 ∷ 60 ∷ 1 ∷ []) ∷ (1 ∷ 5 ∷ 1 ∷ 2 ∷ 29 ∷ []) ∷ (1 ∷ 5 ∷ 2 ∷ 3 ∷ 66 ∷ []) ∷ []
-unfolding figures every
-figures-are = refl
-
-pub simplified-are : simplified ≡ (1 ∷ 1 ∷ 1 ∷ []) ∷ (2 ∷ 1 ∷ 1 ∷ []) ∷ (1 ∷ 0 ∷ 1 ∷ []) ∷ []
-unfolding simplified every
-simplified-are = refl
-
-pub refusals-are : refusals ≡ 0 ∷ 7 ∷ 5 ∷ 6 ∷ 1 ∷ 3 ∷ 4 ∷ []
-unfolding refusals every
-refusals-are = refl
-
-pub pairsG-are : pairsG ≡ (70, 1) ∷ (60, 0) ∷ []
-unfolding pairsG every
-pairsG-are = refl
+pub starred-hold : allHold starred ≡ true
+unfolding starred caseE term caseI computed
+starred-hold = refl

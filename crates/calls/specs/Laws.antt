@@ -1,3 +1,3 @@
 -- Laws, in the order in which they lean on each other.
+pub mod Figures
 pub mod Demand
-pub mod JointClaim

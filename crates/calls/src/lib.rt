@@ -1,1 +1,25 @@
-// calls
+// The outside calls. Each answers with an enum: one case with what was asked for, one with the number of the question that says no.
+
+// Checking: how many records the accepted table has.
+pub enum Checked {
+    Accepted(usize),
+    Refused(u64),
+}
+
+// The figure call: the figure.
+pub enum Quote {
+    Figure(u64),
+    Refused(u64),
+}
+
+// No rule fits what was written, or the allowance is used and a rule fits.
+pub enum Ending {
+    Finished,
+    Spent,
+}
+
+// Simplifying: the length of the table that was written, and the steps taken.
+pub enum Simplified {
+    Written(usize, u64, Ending),
+    Refused(u64),
+}

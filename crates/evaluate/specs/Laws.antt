@@ -6,5 +6,6 @@ pub mod PairCount
 pub mod Weight
 pub mod Settled
 pub mod ListPairs
+pub mod Ranges
 pub mod Covered
 pub mod Reached

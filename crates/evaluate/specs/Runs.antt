@@ -101,17 +101,17 @@ module _ (v : Values) where
     costIn (t ▸ f) Choice (inr r) = costIn f Choice r
     costIn (t ▸ f) (Loop n) r = total (λ p. cost t p) (r .0) + costIn f Sequence (r .1)
 
-  -- z passes of a node are within its limit, if that names loop k or one further out
-  unfoldable pub ok : ℕ → Limit → ℕ → Type 0
-  ok k Unlimited z = Unit {0}
-  ok k (AtMost j m) z = k ≤ j → z ≤ num v m
+  -- z passes of a node keep its limit
+  unfoldable pub keeps : Limit → ℕ → Type 0
+  keeps Unlimited z = Unit {0}
+  keeps (AtMost k m) z = z ≤ num v m
 
-  -- z passes of a node are within its limit, if that names the loop around
+  -- z passes of a node in one pass of the nearest loop around it keep its limit, if that names this loop
   unfoldable pub here : Limit → ℕ → Type 0
   here Unlimited z = Unit {0}
   here (AtMost k m) z = k ≤ 1 → z ≤ num v m
 
-  -- inside a pass, each pass of each loop keeps to its bound and to the limits that name it
+  -- each pass of each loop within a pass makes at most its bound of passes of the body, and keeps the limits that name it
   abbrev mutual
     pub Admitted : (t : Tree) → Pass t → Type 0
     Admitted (node n f) r = AdmittedIn f (n .kind) r
@@ -125,10 +125,10 @@ module _ (v : Values) where
     AdmittedIn (t ▸ f) (Loop n) r =
         (length (r .0) ≤ num v n) × ((x : Spot t) → here (limitAt t x) (total (λ p. count t p x) (r .0))) × All (λ p. Admitted t p) (r .0) × AdmittedIn f Sequence (r .1)
 
-  -- an admitted run: one pass of the root, with the limits on the whole run
+  -- an admitted run: one pass of the root, which keeps the limits that are still in sight there, those on the whole run
   pub record Run (t : Tree) (r : Pass t) : Type 0 where
     pub inside : Admitted t r
-    pub whole : (x : Spot t) → ok 0 (limitAt t x) (count t r x)
+    pub whole : (x : Spot t) → keeps (limitAt t x) (count t r x)
 
   -- some admitted run costs exactly the figure
   pub record Reached (t : Tree) : Type 0 where

@@ -2,7 +2,7 @@
 use mathlib.Core.Path.{_≡_}
 use mathlib.Core.Bool.{cond}
 use mathlib.Core.List.{List, _∷_, []}
-use Prim.Native.Nat.{ℕ, zero, suc, _-_, _≤_, _<_}
+use Prim.Native.Nat.{ℕ, zero, suc, _+_, _-_, _≤_, _<_}
 use lib.Dec.{eqb, ltb}
 use Rattle.lists.specs.Streams.{Stream, const}
 
@@ -47,3 +47,8 @@ Formed (p ∷ q ∷ r) = (1 ≤ p .1) × (q .0 < p .0) × Formed (q ∷ r)
 pub record ArePairs (f : Stream) (ps : List Pair) : Type 0 where
   pub formed : Formed ps
   pub means : (i : ℕ) → expand ps i ≡ f i
+
+-- how far pairs reach: their finite counts, summed
+unfoldable pub reach : List Pair → ℕ
+reach [] = 0
+reach (p ∷ r) = p .1 + reach r

@@ -1,72 +1,94 @@
--- Demand 3 of accepted trees.
-use mathlib.Core.Path.{_≡_, ap, subst, refl, _∙_}
+-- Demand 3 holds of the calls together.
+use mathlib.Core.Path.{_≡_, refl, sym, ap, _∙_, subst}
 use mathlib.Core.Bool.{Bool, true, false, cond}
-use mathlib.Core.List.{List}
+use mathlib.Core.List.{List, []}
 use Prim.Native.Nat.{ℕ}
 use native.Mathlib.Omega.{arith}
-use lib.Dec.{T}
-use Rattle.booleans.specs.Laws.{T-is, by-cond}
-use Rattle.table.specs.Trees.{Tree}
+use lib.Dec.{T, leb, eqb}
+use lib.ListN.{length, take, drop}
+use lib.Seq.{take-at}
+use Rattle.table.specs.Bytes.{AreBytes}
+use Rattle.table.specs.Table.{encode, decode}
 use Rattle.table.specs.Questions.{Accepted}
-use Rattle.evaluate.specs.Evaluate.{figure, fits, zeros}
+use Rattle.table.specs.Checking.{refusal}
+use Rattle.table.specs.Laws.RoundTrip.{length-encode}
+use Rattle.table.specs.Laws.Accepted.{IsTable, is-table}
+use Rattle.table.specs.Laws.NotRefused.{reads-back, not-refused}
+use Rattle.evaluate.specs.Evaluate.{fits, zeros}
 use Rattle.evaluate.specs.Laws.Monotone.{figure-mono, fits-mono}
-use Rattle.simplify.specs.Steps.{steps}
-use Rattle.simplify.specs.Laws.Stepping.{ends}
-use Rattle.simplify.specs.Laws.Stepwise.{steps-kept, steps-made, steps-within, steps-spent, steps-finished, steps-end}
-use Rattle.calls.specs.Answers.{Answer, quoted, refused, valuesOf, question9, figureCall, simplifyCall}
-use Rattle.calls.specs.Demand.{Written, TooLarge, Demand3}
+use Rattle.simplify.specs.Steps.{Made, isNone, step, steps}
+use Rattle.simplify.specs.Laws.Stepping.{Kept}
+use Rattle.simplify.specs.Laws.Stepwise.{steps-kept, steps-made, steps-within, steps-spent, steps-finished}
+use Rattle.calls.specs.declared.Quote.{Quote}
+use Rattle.calls.specs.declared.Ending.{Ending}
+use Rattle.calls.specs.declared.Simplified.{Simplified}
+use Rattle.calls.specs.Answers.{valuesOf, quoteOf, figureAnswer, simplifyRefusal, endingOf, made, simplifyAnswer, simplifyWrites, over}
+use Rattle.calls.specs.Demand.{Sold, Demand3}
+use Rattle.calls.specs.Laws.Figures.{is-figure, figure-is, figure-of}
 
--- ---- what an answer says
+take-over : (front buffer : List ℕ) → take (length front) (over front buffer) ≡ front
+unfolding over
+take-over front buffer = take-at front (drop (length front) buffer) (length front) refl
 
-unfoldable isRefused : Answer → Bool
-isRefused (quoted x) = false
-isRefused (refused k) = true
-
-not-refused : (k x : ℕ) → refused k ≡ quoted x → ⊥
-unfolding isRefused
-not-refused k x e = subst T (ap isRefused e) tt
-
-is-figure : (v : List ℕ) (t : Tree) (x : ℕ) → figureCall v t ≡ quoted x → T (question9 v) × T (fits (valuesOf v) t) × (figure (valuesOf v) t ≡ x)
-unfolding figureCall
-is-figure v t x e = go (question9 v) (fits (valuesOf v) t) e
+spent-not : (finished : Bool) → endingOf finished ≡ Ending.Spent → finished ≡ false
+unfolding endingOf
+spent-not true e = absurd (subst T (ap isFinished e) tt)
   where
-    go : (a b : Bool) → cond a (cond b (quoted (figure (valuesOf v) t)) (refused 10)) (refused 9) ≡ quoted x → T a × T b × (figure (valuesOf v) t ≡ x)
-    go true true e = (tt, tt, number e)
-      where
-        number : quoted (figure (valuesOf v) t) ≡ quoted x → figure (valuesOf v) t ≡ x
-        number e = cc
-    go true false e = absurd (not-refused _ _ e)
-    go false b e = absurd (not-refused _ _ e)
+    isFinished : Ending → Bool
+    isFinished Ending.Finished = true
+    isFinished Ending.Spent = false
+spent-not false e = refl
 
-figure-is : (v : List ℕ) (t : Tree) → T (question9 v) → T (fits (valuesOf v) t) → figureCall v t ≡ quoted (figure (valuesOf v) t)
-unfolding figureCall
-figure-is v t a b = rw (T-is (question9 v) a, T-is (fits (valuesOf v) t) b) refl
-
--- ---- demand 3
-
-module _ (t : Tree) (n : ℕ) (v w : List ℕ) where
-  pub written : Accepted t → T (fits zeros t) → Written t n v w (steps n t)
-  written a f =
-      let k = steps-kept n t in record {
+module _ (b : List ℕ) (n : ℕ) (v w : List ℕ) (h : AreBytes b) (e : refusal b ≡ 0) where
+  sold : T (fits zeros (decode b)) → Sold b n v w (encode (steps n (decode b) .tree)) (steps n (decode b) .taken) (endingOf (steps n (decode b) .finished))
+  sold f =
+      let t = decode b in
+      let i : IsTable b = is-table b h e in
+      let m : Made = steps n t in
+      let k : Kept (m .tree) t = steps-kept n t in
+      let a : Accepted (m .tree) = k .stillAccepted f (i .accepted) in
+      let back : decode (encode (m .tree)) ≡ m .tree = reads-back (m .tree) (a .listed) in
+      let ok : refusal (encode (m .tree)) ≡ 0 = not-refused (m .tree) a in
+      let fs : (vs : List ℕ) → figureAnswer (encode (m .tree)) vs ≡ quoteOf vs (m .tree) = λ vs. figure-of _ vs ok ∙ ap (quoteOf vs) back in
+      let long : length (encode t) ≡ length b = ap length (i .back) in
+      record {
+        tree = m .tree;
         made = steps-made n t;
-        accepted = k .stillAccepted f a;
+        wrote = refl;
+        accepted = ok;
+        noLonger = omega (arith, length-encode (m .tree), length-encode t, k .noMore f (i .accepted));
         within = steps-within n t;
-        spent = steps-spent n t;
-        finished = steps-finished n t;
-        ends = λ l. steps-end n t f a l;
-        salesNotBelow = λ h x y p q.
-            omega (arith, is-figure v t x p .2, is-figure w (steps n t .tree) y q .2, k .sameFigure (valuesOf w), figure-mono (valuesOf v) (valuesOf w) h t);
-        salesNotAbove = λ h x y p q.
-            omega (arith, is-figure v t x p .2, is-figure w (steps n t .tree) y q .2, k .sameFigure (valuesOf w), figure-mono (valuesOf w) (valuesOf v) h t);
-        sameFigure = λ e x p.
-            let (a₁, b, c) = is-figure v t x p in
-            subst (λ z. figureCall z (steps n t .tree) ≡ quoted x) e
-            (figure-is v (steps n t .tree) a₁ (k .stillFits (valuesOf v) b) ∙ ap quoted (k .sameFigure (valuesOf v) ∙ c));
+        spent = λ q. steps-spent n t (spent-not _ q);
+        ends = ap endingOf (steps-finished n t ∙ ap (λ u. isNone (step u)) (sym back));
+        notBelow = λ q x y p z.
+            omega (arith, is-figure v t x (sym (figure-of b v e) ∙ p) .2, is-figure w (m .tree) y (sym (fs w) ∙ z) .2, k .sameFigure (valuesOf w), figure-mono (valuesOf v) (valuesOf w) q t);
+        sameFigure = λ q x p.
+            let (c, d, r) = is-figure v t x (sym (figure-of b v e) ∙ p) in
+            subst (λ u. figureAnswer (encode (m .tree)) u ≡ Quote.Figure x) q
+            (fs v ∙ figure-is v (m .tree) c (k .stillFits (valuesOf v) d) ∙ ap Quote.Figure (k .sameFigure (valuesOf v) ∙ r));
       }
 
-  pub too-large : (fits zeros t ≡ false) → TooLarge t
-  too-large e = record { never = λ x y p. subst T e (fits-mono zeros (valuesOf x) (λ k. omega arith) t (is-figure x t y p .1)) }
+  too-large : fits zeros (decode b) ≡ false → (u : List ℕ) (x : ℕ) → figureAnswer b u ≡ Quote.Figure x → ⊥
+  too-large z u x p = subst T z (fits-mono zeros (valuesOf u) (λ k. omega arith) (decode b) (is-figure u (decode b) x (sym (figure-of b u e) ∙ p) .1))
 
-  pub demand3 : Accepted t → Demand3 t n v w (simplifyCall n t)
-  unfolding Demand3 simplifyCall
-  demand3 a = by-cond (Demand3 t n v w) (fits zeros t) _ _ (λ f. written a f) (λ e. too-large e)
+  refusal-is : (out : List ℕ) → simplifyRefusal b out ≡ cond (leb (length b) (length out)) (cond (fits zeros (decode b)) 0 10) 8
+  unfolding simplifyRefusal
+  refusal-is out = rw e refl
+
+  -- by the three answers left
+  by-answer : (out : List ℕ) (x y : Bool) → (T y → T (fits zeros (decode b))) → (y ≡ false → fits zeros (decode b) ≡ false)
+      → Demand3 b n v w (over (cond (eqb (cond x (cond y 0 10) 8) 0) (encode (steps n (decode b) .tree)) []) out)
+      (cond (eqb (cond x (cond y 0 10) 8) 0)
+      (Simplified.Written (length (encode (steps n (decode b) .tree))) (steps n (decode b) .taken) (endingOf (steps n (decode b) .finished)))
+      (Simplified.Refused (cond x (cond y 0 10) 8)))
+  unfolding Demand3
+  by-answer out true true f g =
+      let m = steps n (decode b) in
+      subst (λ s. Sold b n v w s (m .taken) (endingOf (m .finished))) (sym (take-over (encode (m .tree)) out)) (sold (f tt))
+  by-answer out true false f g = λ q u x p. too-large (g refl) u x p
+  by-answer out false y f g = λ q. absurd (omega arith)
+
+  -- for every accepted table, every allowance, every output buffer and whatever values the two desks hold
+  pub demand3 : (out : List ℕ) → Demand3 b n v w (over (simplifyWrites b n out) out) (simplifyAnswer b n out)
+  unfolding simplifyAnswer simplifyWrites made
+  demand3 out = rw (refusal-is out) (by-answer out (leb (length b) (length out)) (fits zeros (decode b)) (λ f. f) (λ q. q))

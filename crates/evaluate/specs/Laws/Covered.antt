@@ -15,7 +15,7 @@ use Rattle.lists.specs.Streams.{Stream, S, group, const}
 use Rattle.lists.specs.Laws.Sums.{S-group, S-const, S-mono, S-add, S-cap}
 use Rattle.lists.specs.Laws.Merge.{merge-over}
 use Rattle.evaluate.specs.Evaluate.{inner, outward, rounds, Values, num, seen, name, nameIn, limit, turns, join, start, list, before, figure}
-use Rattle.evaluate.specs.Runs.{total, All, Pass, PassIn, Spot, SpotIn, out, seenLimit, limitAt, limitIn, count, countIn, cost, costIn, ok, here, Admitted, AdmittedIn, Run}
+use Rattle.evaluate.specs.Runs.{total, All, Pass, PassIn, Spot, SpotIn, out, seenLimit, limitAt, limitIn, count, countIn, cost, costIn, keeps, here, Admitted, AdmittedIn, Run}
 use Rattle.evaluate.specs.Laws.Monotone.{list-falls, before-falls}
 
 -- totals over lists
@@ -171,52 +171,62 @@ rounds-sound k n f c rs w h₁ h₂ = go (leb k 1) refl
         omega (arith, total-flat c rs, h₂ e, S-mono f _ _ (length-flat n rs w), S-group n f (length rs))
 
 module _ (v : Values) where
-  ok-fewer : (k : ℕ) (l : Limit) (y z : ℕ) → y ≤ z → ok v k l z → ok v k l y
+  -- z passes of a node keep its limit, if that names loop k or one further out
+  unfoldable ok : ℕ → Limit → ℕ → Type 0
+  ok k Unlimited z = Unit {0}
+  ok k (AtMost j m) z = k ≤ j → z ≤ num v m
+
+  keeps-ok : (l : Limit) (z : ℕ) → keeps v l z → ok 0 l z
+  unfolding keeps ok
+  keeps-ok Unlimited z h = tt
+  keeps-ok (AtMost j m) z h = λ g. h
+
+  ok-fewer : (k : ℕ) (l : Limit) (y z : ℕ) → y ≤ z → ok k l z → ok k l y
   unfolding ok
   ok-fewer k Unlimited y z h o = tt
   ok-fewer k (AtMost j m) y z h o = λ g. le-trans h (o g)
 
-  ok-outer : (k k′ : ℕ) (l : Limit) (z : ℕ) → k ≤ k′ → ok v k l z → ok v k′ l z
+  ok-outer : (k k′ : ℕ) (l : Limit) (z : ℕ) → k ≤ k′ → ok k l z → ok k′ l z
   unfolding ok
   ok-outer k k′ Unlimited z h o = tt
   ok-outer k k′ (AtMost j m) z h o = λ g. o (le-trans h g)
 
   -- into a loop that the body does not name
-  ok-into : (k a : ℕ) (l : Limit) (z : ℕ) → a ≤ outward k → leb k 1 ≡ false → ok v a (out l) z → ok v k l z
+  ok-into : (k a : ℕ) (l : Limit) (z : ℕ) → a ≤ outward k → leb k 1 ≡ false → ok a (out l) z → ok k l z
   unfolding out ok
   ok-into k a Unlimited z h e o = tt
   ok-into k a (AtMost j m) z h e o = λ g.
       let l : 1 < k = leb-false k 1 e in
       let e₁ : leb j 1 ≡ false = lt-leb j 1 (omega arith) in
       let h₁ : a ≤ outward j = le-trans h (outward-le k j l g) in
-      let o₁ : ok v a (AtMost (outward j) m) z = rw e₁ at o in
+      let o₁ : ok a (AtMost (outward j) m) z = rw e₁ at o in
       o₁ h₁
 
   -- into a loop that it names
-  ok-both : (l : Limit) (z : ℕ) → here v l z → ok v 0 (out l) z → ok v 0 l z
+  ok-both : (l : Limit) (z : ℕ) → here v l z → ok 0 (out l) z → ok 0 l z
   unfolding out ok here
   ok-both Unlimited z h o = tt
   ok-both (AtMost j m) z h o = λ g. go (leb j 1) refl o
     where
-      go : (b : Bool) → leb j 1 ≡ b → ok v 0 (cond b Unlimited (AtMost (outward j) m)) z → z ≤ num v m
+      go : (b : Bool) → leb j 1 ≡ b → ok 0 (cond b Unlimited (AtMost (outward j) m)) z → z ≤ num v m
       go true e o = h (leb-true j 1 e)
       go false e o = o (omega arith)
 
-  limit-sound : (l : Limit) (f : Stream) (P k z : ℕ) → ok v (inner l k) l P → z ≤ S f P → z ≤ S (limit v l f) P
+  limit-sound : (l : Limit) (f : Stream) (P k z : ℕ) → ok (inner l k) l P → z ≤ S f P → z ≤ S (limit v l f) P
   unfolding limit inner ok
   limit-sound Unlimited f P k z o h = h
   limit-sound (AtMost j m) f P k z o h =
       let e : min (num v m) P ≡ P = omega (arith, o (omega arith)) in
       rw (S-cap, e) h
 
-  own : {A : Type 0} (k : ℕ) (l : Limit) (rs : List A) → ok v k l (total (λ r. 1) rs) → ok v k l (length rs)
+  own : {A : Type 0} (k : ℕ) (l : Limit) (rs : List A) → ok k l (total (λ r. 1) rs) → ok k l (length rs)
   own k l rs o = ok-fewer k l _ _ (omega (arith, total-const 1 rs)) o
 
   abbrev Fits : (t : Tree) → ℕ → (Spot t → ℕ) → Type 0
-  Fits t k c = (x : Spot t) → ok v k (limitAt t x) (c x)
+  Fits t k c = (x : Spot t) → ok k (limitAt t x) (c x)
 
   abbrev FitsIn : (f : Forest) (k : Kind) → ℕ → (SpotIn f → ℕ) → Type 0
-  FitsIn f k n c = (x : SpotIn f) → ok v n (limitIn f k x) (c x)
+  FitsIn f k n c = (x : SpotIn f) → ok n (limitIn f k x) (c x)
 
   abbrev Good : (t : Tree) → Pass t → Type 0
   Good t r = Admitted v t r × Fits t 0 (count t r)
@@ -260,7 +270,7 @@ module _ (v : Values) where
         let good : (r : PassIn (t ▸ f) (Loop n)) → GoodIn (t ▸ f) (Loop n) r → All (Good t) (r .0)
         = λ r q.
         all-both _ _ (r .0) (q .0 .2)
-        (all-down (count t) (λ x z. ok v 0 (limitAt t x) z) (λ x y z. ok-fewer 0 (limitAt t x) y z) (r .0) (bodies r q)) in
+        (all-down (count t) (λ x z. ok 0 (limitAt t x) z) (λ x y z. ok-fewer 0 (limitAt t x) y z) (r .0) (bodies r q)) in
         let i : total (λ r. total (cost v t) (r .0)) rs ≤ S (rounds (name t) (num v n) (list v t)) (length rs)
         = rounds-sound (name t) (num v n) (list v t) (cost v t) rs
         (all-impl (GoodIn (t ▸ f) (Loop n)) _ (λ r q. q .0 .0) rs g)
@@ -275,7 +285,8 @@ module _ (v : Values) where
         (arith, total-add (λ r. total (cost v t) (r .0)) (λ r. costIn v f Sequence (r .1)) rs, S-add (rounds (name t) (num v n) (list v t)) (before v Sequence f) (length rs), i, simp (total-map, length-map) at j)
 
   -- no admitted run costs more than the figure
-  pub figure-sound : (t : Tree) (r : Pass t) → Run v t r → cost v t r ≤ figure v t
+  pub covered : (t : Tree) (r : Pass t) → Run v t r → cost v t r ≤ figure v t
   unfolding figure total S
-  figure-sound t r h =
-      omega (arith, sound t (r ∷ []) ((h .inside, h .whole), tt) (λ x. ok-outer 0 (name t) _ _ zero-le (ok-fewer 0 _ (count t r x + 0) (count t r x) (omega arith) (h .whole x))))
+  covered t r h =
+      let w : Fits t 0 (count t r) = λ x. keeps-ok _ _ (h .whole x) in
+      omega (arith, sound t (r ∷ []) ((h .inside, w), tt) (λ x. ok-outer 0 (name t) _ _ zero-le (ok-fewer 0 _ (count t r x + 0) (count t r x) (omega arith) (w x))))

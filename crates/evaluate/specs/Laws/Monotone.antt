@@ -2,7 +2,7 @@
 use mathlib.Core.Path.{_≡_, refl}
 use mathlib.Core.Bool.{cond, Bool, true, false}
 use Prim.Native.Nat.{ℕ, _≤_, _*_, _-_, min}
-use native.Mathlib.Nat.{mul-le-mul-left, mul-le-mul-right, add-sub-of-le, le-trans}
+use native.Mathlib.Nat.{mul-le-mul-left, mul-le-mul-right, le-trans}
 use native.Mathlib.Omega.{arith}
 use lib.Dec.{leb, T, leb→le, le→leb}
 use borrow.Author.Tests.{leb-false}
@@ -11,7 +11,7 @@ use Rattle.booleans.specs.Laws.{by-cond, both, join-and}
 use Rattle.table.specs.Numbers.{wholeRun}
 use Rattle.table.specs.Trees.{Tree, node, Forest, nil, _▸_, rest}
 use Rattle.lists.specs.Streams.{Stream, S, const, add, group}
-use Rattle.lists.specs.Laws.Sums.{Falls, cap-falls, const-falls, group-falls, add-falls, S-add, S-cap, S-group, S-grows, S-const}
+use Rattle.lists.specs.Laws.Sums.{Falls, cap-falls, const-falls, group-falls, add-falls, S-add, S-cap, S-group, S-const, S-mono}
 use Rattle.lists.specs.Laws.Merge.{merge-falls}
 use Rattle.lists.specs.Laws.MergeLaws.{Under, under-refl, merge-mono}
 use Rattle.evaluate.specs.Evaluate.{Values, num, limit, rounds, turns, join, start, name, list, before, figure, fits, fitsIn, outward, inner, nameIn}
@@ -69,9 +69,6 @@ module _ (v w : Values) (le : (k : ℕ) → v k ≤ w k) where
   unfolding num
   num-mono (Plain n) = omega arith
   num-mono (Symbol k) = le k
-
-  S-mono : (f : Stream) (p q : ℕ) → p ≤ q → S f p ≤ S f q
-  S-mono f p q l = S-grows f p (q - p) q (add-sub-of-le l)
 
   limit-mono : (l : Limit) (f g : Stream) → Under f g → Under (limit v l f) (limit w l g)
   unfolding limit

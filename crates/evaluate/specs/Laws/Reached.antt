@@ -16,7 +16,7 @@ use Rattle.lists.specs.Streams.{Stream, const, add, merge, taken}
 use Rattle.lists.specs.Laws.MergeLaws.{group-const}
 use Rattle.evaluate.specs.Evaluate.{rounds, Values, num, name, limit, turns, join, start, list, before, figure}
 use Rattle.evaluate.specs.Closed.{isUnlimited, stays, closed, closedIn}
-use Rattle.evaluate.specs.Runs.{limitFree, limitFreeIn, out, seenLimit, Spot, SpotIn, limitAt, limitIn, total, All, Pass, PassIn, cost, costIn, ok, here, Admitted, AdmittedIn, Reached}
+use Rattle.evaluate.specs.Runs.{limitFree, limitFreeIn, out, seenLimit, Spot, SpotIn, limitAt, limitIn, total, All, Pass, PassIn, cost, costIn, keeps, here, Admitted, AdmittedIn, Reached}
 use Rattle.evaluate.specs.Laws.Constant.{closed-const, unlimited-is}
 
 stays-free : (l : Limit) (d : ℕ) → T (isUnlimited l) → T (stays l d)
@@ -105,9 +105,9 @@ module _ (v : Values) where
   unfolding here
   here-free l z e = subst (λ x. here v x z) (sym e) tt
 
-  ok-free : (l : Limit) (k z : ℕ) → l ≡ Unlimited → ok v k l z
-  unfolding ok
-  ok-free l k z e = subst (λ x. ok v k x z) (sym e) tt
+  keeps-free : (l : Limit) (z : ℕ) → l ≡ Unlimited → keeps v l z
+  unfolding keeps
+  keeps-free l z e = subst (λ x. keeps v x z) (sym e) tt
 
   loop-best : (n : Number) (t : Tree) (f : Forest) → T (limitFree t) → Best t → BestIn f Sequence → BestIn (t ▸ f) (Loop n)
   unfolding cost list turns join add rest
@@ -131,8 +131,8 @@ module _ (v : Values) where
   more nil x h = absurd (omega arith)
   more (t ▸ f) x h = omega arith
 
-  alt-best : (t : Tree) (f : Forest) → Best t → (1 ≤ size f → BestIn f Choice) → BestIn (t ▸ f) Choice
-  alt-best t f a b = go (leb (before v Choice f 0) (list v t 0)) refl
+  choice-best : (t : Tree) (f : Forest) → Best t → (1 ≤ size f → BestIn f Choice) → BestIn (t ▸ f) Choice
+  choice-best t f a b = go (leb (before v Choice f 0) (list v t 0)) refl
     where
       first : before v Choice (t ▸ f) 0 ≡ max (list v t 0) (before v Choice f 0)
       first = unfold list in unfold turns in unfold join in unfold rest in unfold merge in unfold taken in refl
@@ -175,17 +175,17 @@ module _ (v : Values) where
     bestIn (t ▸ f) Choice h l o =
         let (a, b) = both _ _ h in
         let (p, q) = both _ _ l in
-        alt-best t f (best t a p) (λ z. bestIn f Choice b q z)
+        choice-best t f (best t a p) (λ z. bestIn f Choice b q z)
     bestIn (t ▸ f) (Loop n) h l o =
         let (a, b) = both _ _ h in
         let (p, q) = both _ _ l in
         loop-best n t f a (best t a p) (bestIn f Sequence b q tt)
 
-  pub figure-reached : (t : Tree) → T (limitFree t) → T (listed t) → Reached v t
-  figure-reached t h l =
+  pub reached : (t : Tree) → T (limitFree t) → T (listed t) → Reached v t
+  reached t h l =
       let b = best t h l in
       record {
         pass = b .pass;
-        run = record { inside = b .good; whole = λ x. ok-free _ 0 _ (no-limit t h x) };
+        run = record { inside = b .good; whole = λ x. keeps-free _ _ (no-limit t h x) };
         costs = unfold figure in b .costs;
       }

@@ -8,13 +8,12 @@ use lib.Dec.{leb, T, eqb, eqb→eq, leb→le}
 use lib.Pow.{pow-mono}
 use borrow.Author.Tests.{leb-true, leb-false, le-leb, lt-leb, eqb-true}
 use Rattle.booleans.specs.Laws.{both, by-cond}
-use Rattle.table.specs.Numbers.{wholeRun, mostLoops, mostWeight}
-use Rattle.table.specs.Questions.{nameOk, named, namedIn, share, loops, loopsIn, weight, weightIn, Accepted}
+use Rattle.table.specs.Numbers.{wholeRun, mostLoops}
+use Rattle.table.specs.Questions.{nameOk, named, namedIn, share, loops, loopsIn, weight, weightIn}
 use Rattle.table.specs.Trees.{around, Tree, node, Forest, nil, _▸_, rest}
-use Rattle.lists.specs.Laws.Falls.{falls}
 use Rattle.evaluate.specs.Nodes.{Limit, Unlimited, AtMost, Kind, Block, Sequence, Choice, Loop, Number}
-use Rattle.evaluate.specs.Evaluate.{inner, outward, seen, name, nameIn, Values, list}
-use Rattle.evaluate.specs.Laws.PairCount.{own, grouped, bound, boundIn, list-few}
+use Rattle.evaluate.specs.Evaluate.{inner, outward, seen, name, nameIn}
+use Rattle.evaluate.specs.Laws.PairCount.{own, grouped, bound, boundIn}
 
 -- ---- question 7
 
@@ -172,6 +171,3 @@ bound-weight t d l h =
 pub boundIn-weight : (k : Kind) (f : Forest) (d : ℕ) → loopsIn k f d ≤ mostLoops → T (namedIn k f d) → boundIn k f ≤ weightIn k f d
 boundIn-weight k f d l h =
     omega (arith, weightIn-bound k f d l h, mul-le-mul-left (boundIn k f) (pow-mono {i = 0} {j = within d (nameIn k f)} (omega arith)))
-
-pub few-pairs : (t : Tree) → Accepted t → (v : Values) (P : ℕ) → falls (list v t) P ≤ mostWeight
-few-pairs t a v P = omega (arith, list-few v t P, bound-weight t 0 (a .nested) (a .named), a .weighed)

@@ -9,7 +9,7 @@ use lib.ListN.{length}
 use borrow.Author.Tests.{eq-eqb, ne-eqb, ltb-false, ltb-true, lt-ltb, le-ltb, eqb-true, eqb-false}
 use Rattle.booleans.specs.Laws.{by-cond}
 use Rattle.lists.specs.Streams.{Stream, next}
-use Rattle.lists.specs.Pairs.{Pair, grown, inFront, read, expand, tail, Formed, pairs}
+use Rattle.lists.specs.Pairs.{Pair, grown, inFront, read, expand, tail, Formed, pairs, reach}
 use Rattle.lists.specs.Laws.Sums.{Falls}
 use Rattle.lists.specs.Laws.Falls.{falls, drop, falls-suc, drop-none, drop-some}
 use Rattle.lists.specs.Laws.Settled.{Settled}
@@ -150,6 +150,24 @@ made-pairs (suc P) f h = next (made-pairs P (tail f) (falling f h))
         let k = m .head in
         let e : pairs (tail f) P ≡ (f 1, k .count) ∷ k .others = unfold tail in k .is in
         subst (λ ps. Made f (suc P) (inFront (f 0) ps)) (sym e) (made-next f h P (k .count) (k .others) (subst (Made (tail f) P) e m))
+
+-- ---- how far they reach
+
+grown-reach : (x c : ℕ) (r : List Pair) → reach (grown x c r) ≤ suc (reach ((x, c) ∷ r))
+unfolding grown reach
+grown-reach x zero r = omega arith
+grown-reach x (suc c) r = omega arith
+
+front-reach : (x : ℕ) (ps : List Pair) → reach (inFront x ps) ≤ suc (reach ps)
+unfolding inFront reach
+front-reach x [] = omega arith
+front-reach x (p ∷ r) =
+    by-cond (λ q. reach q ≤ suc (reach (p ∷ r))) (eqb x (p .0)) _ _ (λ e. grown-reach (p .0) (p .1) r) (λ e. omega arith)
+
+pub pairs-reach : (P : ℕ) (f : Stream) → reach (pairs f P) ≤ P
+unfolding pairs reach
+pairs-reach zero f = omega arith
+pairs-reach (suc P) f = omega (arith, front-reach (f 0) (pairs (tail f) P), pairs-reach P (tail f))
 
 -- ---- a stream has its pairs in one way only
 

@@ -5,30 +5,30 @@ use mathlib.Core.Option.{Option, some, none}
 use Prim.Native.Nat.{suc, _≤_, _<_, ℕ}
 use native.Mathlib.Nat.{le-trans}
 use native.Mathlib.Omega.{arith}
-use lib.Dec.{T, leb→le, ltb}
+use lib.Dec.{T, leb→le}
 use Rattle.booleans.specs.Laws.{both, by-cond}
 use Rattle.booleans.specs.Tests.{_and_}
-use Rattle.table.specs.Numbers.{mostTime}
 use Rattle.table.specs.Questions.{arity, Accepted, listed, named, limitInRange}
 use Rattle.table.specs.Trees.{Tree, node, Forest, nil, _▸_, size, rest, records}
 use Rattle.table.specs.Laws.Trees.{some-records}
-use Rattle.lists.specs.Streams.{Stream, cap, const}
+use Rattle.lists.specs.Streams.{const}
 use Rattle.evaluate.specs.Closed.{isUnlimited, symbolFree, isPlain, plainKind, plainLimit}
-use Rattle.evaluate.specs.Evaluate.{name, Values, figure, fits, zeros, num, limit, list}
+use Rattle.evaluate.specs.Evaluate.{name, Values, figure, fits, zeros, list}
 use Rattle.evaluate.specs.Laws.Constant.{unlimited-is, list-free}
-use Rattle.simplify.specs.Nodes.{Kind, Node, Unlimited, Sequence, Choice, Plain, Loop, Limit, AtMost}
+use Rattle.evaluate.specs.Laws.Ranges.{figure-most}
+use Rattle.simplify.specs.Nodes.{Kind, Node, Unlimited, Sequence, Choice, Plain, Loop}
 use Rattle.simplify.specs.Rules.{when, rule2, alone, isSum, rule3, rule4, rule5, rule6, rule7, rule8, exit, rule9, leaf, isBlock, bare, rule1}
 use Rattle.simplify.specs.Same.{sameKind}
 use Rattle.simplify.specs.Steps.{orElse, rule, also, inside, insideIn, step}
-use Rattle.simplify.specs.Laws.Refines.{Refines, SumKind, sum-is, RefinesIn, node-refines, head-refines, tail-refines}
-use Rattle.simplify.specs.Laws.Same.{kind-is, at, node-is}
-use Rattle.simplify.specs.Laws.Rules2And3.{rule2-refines, alone-free, relimit-refines}
 use Rattle.simplify.specs.Laws.Blocks.{leaf-fits, leaf-listed, leaf-depth, leaf-loops, leaf-records, leaf-named, leaf-weight, leaf-list}
-use Rattle.simplify.specs.Laws.Rule5.{rule5-refines}
-use Rattle.simplify.specs.Laws.Rules6And7.{rule6-refines, rule7-refines}
+use Rattle.simplify.specs.Laws.Refines.{Refines, SumKind, sum-is, RefinesIn, node-refines, head-refines, tail-refines}
 use Rattle.simplify.specs.Laws.Rule4.{rule4-refines}
-use Rattle.simplify.specs.Laws.Rule9.{rule9-refines, names-run}
+use Rattle.simplify.specs.Laws.Rule5.{rule5-refines}
 use Rattle.simplify.specs.Laws.Rule8.{rule8-refines}
+use Rattle.simplify.specs.Laws.Rule9.{rule9-refines, names-run}
+use Rattle.simplify.specs.Laws.Rules2And3.{rule2-refines, alone-free, relimit-refines}
+use Rattle.simplify.specs.Laws.Rules6And7.{rule6-refines, rule7-refines}
+use Rattle.simplify.specs.Laws.Same.{kind-is, at, node-is}
 
 -- what may become of a tree
 pub data Moves (t : Tree) : Option Tree → Type 0 where
@@ -186,16 +186,6 @@ refines-kept u t r = record {
   };
   noMore = λ h a. omega (arith, r .fewer (a .listed));
 }
-
--- the first member after the limit is none above that before it
-limit-first : (v : Values) (l : Limit) (f : Stream) → limit v l f 0 ≤ f 0
-unfolding limit cap
-limit-first v Unlimited f = omega arith
-limit-first v (AtMost k m) f = by-cond (λ x. x ≤ f 0) (ltb 0 (num v m)) _ _ (λ e. omega arith) (λ e. omega arith)
-
-pub figure-most : (v : Values) (t : Tree) → T (fits v t) → figure v t ≤ mostTime
-unfolding fits figure list
-figure-most v (node n f) h = le-trans (limit-first v (n .limit) _) (leb→le _ _ (both _ _ h .0))
 
 rule1-kept : (t : Tree) → T (symbolFree t) → Kept (leaf (figure zeros t) Unlimited) t
 rule1-kept t h = record {
