@@ -13,10 +13,10 @@ use Rattle.table.specs.Table.{flag, numFrom, kindByte, valueNum, kindFrom, loop
 use Rattle.table.specs.Checking.{question1, question2, limitCount, recordInRange, question3, question4, question5, question6, question7, firstNo, refusal}
 use Rattle.lists.specs.Streams.{S, const, add, cap, group, shift, merge, next, taken}
 use Rattle.lists.specs.Pairs.{Pair, grown, inFront, tail, pairs}
-use Rattle.evaluate.specs.Evaluate.{num, inner, outward, seen, name, limit, rounds, turns, join, start, list, figure, fits, zeros}
+use Rattle.evaluate.specs.Evaluate.{amount, inner, outward, seen, name, limit, rounds, turns, join, start, list, figure, fits, zeros}
 use Rattle.evaluate.specs.Closed.{stays, closed, isPlain, plainKind, plainLimit, symbolFree, isUnlimited}
 use Rattle.evaluate.specs.ListPairs.{placeOf, turned, place, listPairs}
-use Rattle.simplify.specs.Same.{sameNum, sameLimit, sameKind, same}
+use Rattle.simplify.specs.Same.{sameNumber, sameLimit, sameKind, same}
 use Rattle.simplify.specs.Rules.{isBlock, isSum, limitOf, children, relimit, leaf, bare, timeOfKind, timeOf, when, rule1, gives, anyGives, giveWay, rule2, alone, rule3, rule4, isZero, anyZero, without, rule5, bares, others, total, largest, rule6, atFirst, rule7, isPair, headOf, tailOf, firstOf, secondOf, allPairs, firsts, shares, sharedOut, rule8, exit, rule9}
 use Rattle.simplify.specs.Steps.{orElse, also, rule, inside, step, isNone, onward, steps}
 use Rattle.calls.specs.Nodes.{Plain, Symbol, Unlimited, AtMost, Block, Sequence, Choice, Loop}
@@ -132,7 +132,7 @@ starred =
 
 -- to unfold this is to unfold all that the cases compute with
 unfoldable pub computed : ℕ
-unfolding block symbol _/_at_ sequence both either loop repeat isFigure samePairs holds allHold _and_ _⧺_ size rest around records S const add cap group shift merge next taken num inner outward seen name limit rounds turns join start list figure fits arity timeInRange countInRange kindInRange limitInRange listed depth loops nameOk named share weight stays closed isPlain plainKind plainLimit symbolFree sameNum sameLimit sameKind same isUnlimited isBlock isSum limitOf children relimit leaf bare timeOfKind timeOf when rule1 gives anyGives giveWay rule2 alone rule3 rule4 isZero anyZero without rule5 bares others total largest rule6 atFirst rule7 isPair headOf tailOf firstOf secondOf allPairs firsts shares sharedOut rule8 exit rule9 orElse also rule inside step isNone onward steps le un flag numFrom kindByte valueNum kindFrom loopByte limitNum limitFrom recordBytes encode firstNode childByte firstOnes afterOnes forest top decode formTrees each limitCount recordInRange firstNo question1 question2 question3 question4 question5 question6 question7 refusal placeOf turned place grown inFront tail pairs listPairs ceiling ranged question9 quoteOf figureAnswer
+unfolding block symbol _/_at_ sequence both either loop repeat isFigure samePairs holds allHold _and_ _⧺_ size rest around records S const add cap group shift merge next taken amount inner outward seen name limit rounds turns join start list figure fits arity timeInRange countInRange kindInRange limitInRange listed depth loops nameOk named share weight stays closed isPlain plainKind plainLimit symbolFree sameNumber sameLimit sameKind same isUnlimited isBlock isSum limitOf children relimit leaf bare timeOfKind timeOf when rule1 gives anyGives giveWay rule2 alone rule3 rule4 isZero anyZero without rule5 bares others total largest rule6 atFirst rule7 isPair headOf tailOf firstOf secondOf allPairs firsts shares sharedOut rule8 exit rule9 orElse also rule inside step isNone onward steps le un flag numFrom kindByte valueNum kindFrom loopByte limitNum limitFrom recordBytes encode firstNode childByte firstOnes afterOnes forest top decode formTrees each limitCount recordInRange firstNo question1 question2 question3 question4 question5 question6 question7 refusal placeOf turned place grown inFront tail pairs listPairs ceiling ranged question9 quoteOf figureAnswer
 computed = 0
 
 pub starred-hold : allHold starred ≡ true

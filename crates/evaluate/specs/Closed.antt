@@ -1,4 +1,4 @@
--- Document 01, "Simplification": closed and symbol-free.
+-- Document 01, "Simplification": closed and symbol-free subtrees. They stand here because a closed tree's list is a constant.
 use mathlib.Core.Bool.{Bool, true, false}
 use Prim.Native.Nat.{ℕ}
 use lib.Dec.{leb, ltb}
@@ -7,14 +7,13 @@ use Rattle.booleans.specs.Tests.{_and_}
 use Rattle.table.specs.Numbers.{wholeRun}
 use Rattle.table.specs.Trees.{Tree, node, Forest, nil, _▸_, rest, around}
 
--- ---- closed, symbol-free, byte-equal
-
--- a limit names one of d loops
+-- a limit names one of the d nearest loops
 unfoldable pub stays : Limit → ℕ → Bool
 stays Unlimited d = true
 stays (AtMost k m) d = leb 1 k and leb k d and ltb k wholeRun
 
--- no limit names the whole run or a loop outside, d of the loops around counting as inside; closed is closed t 0
+-- No limit names the whole run or a loop outside the subtree, its own top included: closed t 0.
+-- The d nearest loops around it may be named too: closed t 1, of a loop's body, sets limits that name that loop aside.
 unfoldable mutual
   pub closed : Tree → ℕ → Bool
   closed (node n f) d = stays (n .limit) d and closedIn (n .kind) f d
@@ -37,6 +36,7 @@ unfoldable pub plainLimit : Limit → Bool
 plainLimit Unlimited = true
 plainLimit (AtMost k m) = isPlain m
 
+-- neither the top, its limit included, nor anything below has a symbol
 unfoldable mutual
   pub symbolFree : Tree → Bool
   symbolFree (node n f) = plainKind (n .kind) and plainLimit (n .limit) and symbolFreeIn f
@@ -44,8 +44,6 @@ unfoldable mutual
   pub symbolFreeIn : Forest → Bool
   symbolFreeIn nil = true
   symbolFreeIn (t ▸ f) = symbolFree t and symbolFreeIn f
-
--- ---- parts
 
 unfoldable pub isUnlimited : Limit → Bool
 isUnlimited Unlimited = true

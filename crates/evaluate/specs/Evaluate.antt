@@ -12,17 +12,19 @@ use Rattle.lists.specs.Streams.{Stream, cap, const, group, add, merge}
 abbrev pub Values : Type 0
 Values = ℕ → ℕ
 
-unfoldable pub num : Values → Number → ℕ
-num v (Plain n) = n
-num v (Symbol k) = v k
+-- what a time, bound or limit comes to
+unfoldable pub amount : Values → Number → ℕ
+amount v (Plain n) = n
+amount v (Symbol k) = v k
 
--- ---- the named loop: 1 and on the loops around, counted outward; the whole run is the largest, so that the inner of two is the smaller
+-- ---- the loop that a list names: 1 and on the loops around the node, counted outward, and 255 the whole run, so that the inner of two is the smaller
 
+-- the inner of the node's own named loop and its limit's
 unfoldable pub inner : Limit → ℕ → ℕ
 inner Unlimited k = k
 inner (AtMost j m) k = min j k
 
--- a name inside a loop's body, seen from outside: the loop itself gives way to the whole run
+-- a loop named inside a loop's body, counted from outside: that very loop gives way to the whole run
 unfoldable pub outward : ℕ → ℕ
 outward k = cond (leb k 1) wholeRun (cond (leb wholeRun k) wholeRun (k - 1))
 
@@ -32,6 +34,7 @@ seen Sequence k = k
 seen Choice k = k
 seen (Loop n) k = outward k
 
+-- a block names the whole run, a sequence or choice the innermost loop that any child names; it does not depend on values
 unfoldable mutual
   pub name : Tree → ℕ
   name (node n f) = inner (n .limit) (nameIn (n .kind) f)
@@ -42,20 +45,21 @@ unfoldable mutual
 
 -- ---- the list
 
+-- a limit m keeps the first m members and puts 0 after
 unfoldable pub limit : Values → Limit → Stream → Stream
 limit v Unlimited f = f
-limit v (AtMost k m) f = cap (num v m) f
+limit v (AtMost k m) f = cap (amount v m) f
 
--- a loop of bound n over a body that names loop k: only the first sum, for ever, where that is this very loop
+-- a loop of bound n over a body that names loop k: groups of n, each summed; only the first sum, for ever, where k is this very loop
 unfoldable pub rounds : ℕ → ℕ → Stream → Stream
 rounds k n f = cond (leb k 1) (const (group n f 0)) (group n f)
 
--- what the first child, whose list f names loop k, comes to
+-- the first child, whose list f names loop k, as its parent takes it: a loop goes round its body
 unfoldable pub turns : Values → Kind → ℕ → Stream → Stream
 turns v (Block t) k f = f
 turns v Sequence k f = f
 turns v Choice k f = f
-turns v (Loop n) k f = rounds k (num v n) f
+turns v (Loop n) k f = rounds k (amount v n) f
 
 -- a choice takes the lists' members together; the others are added
 unfoldable pub join : Kind → Stream → Stream → Stream
@@ -64,9 +68,9 @@ join Sequence f g = add f g
 join Choice f g = merge f g
 join (Loop n) f g = add f g
 
--- without children
+-- what the children's lists are joined to: a block's list repeats its time; 0 changes no sum and no choice
 unfoldable pub start : Values → Kind → Stream
-start v (Block t) = const (num v t)
+start v (Block t) = const (amount v t)
 start v Sequence = const 0
 start v Choice = const 0
 start v (Loop n) = const 0
@@ -80,6 +84,7 @@ unfoldable mutual
   before v k nil = start v k
   before v k (t ▸ f) = join k (turns v k (name t) (list v t)) (before v (rest k) f)
 
+-- the root list's first member
 unfoldable pub figure : Values → Tree → ℕ
 figure v t = list v t 0
 

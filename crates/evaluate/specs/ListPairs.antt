@@ -1,4 +1,4 @@
--- The list call's pairs of a tree.
+-- Document 01, "Evaluation": the pairs of value and count that the list call writes.
 use mathlib.Core.Bool.{cond}
 use mathlib.Core.List.{List}
 use Prim.Native.Nat.{ℕ, _+_}
@@ -6,14 +6,12 @@ use lib.Dec.{leb}
 use Rattle.evaluate.specs.Nodes.{Limit, Unlimited, AtMost, Kind, Block, Sequence, Choice, Loop}
 use Rattle.table.specs.Trees.{Tree, node, Forest, nil, _▸_, rest}
 use Rattle.lists.specs.Pairs.{Pair, pairs}
-use Rattle.evaluate.specs.Evaluate.{Values, num, name, list}
+use Rattle.evaluate.specs.Evaluate.{Values, amount, name, list}
 
--- ---- how far to look
-
--- a place from which a tree's list is constant
+-- a place from which a tree's list is constant: how far to look for pairs
 unfoldable pub placeOf : Values → Limit → ℕ → ℕ
 placeOf v Unlimited p = p
-placeOf v (AtMost k m) p = num v m
+placeOf v (AtMost k m) p = amount v m
 
 unfoldable pub turned : Kind → ℕ → ℕ → ℕ
 turned (Block t) k p = p

@@ -9,7 +9,7 @@ use lib.ListN.{length}
 use Rattle.evaluate.specs.Nodes.{Kind, Block, Sequence, Choice, Loop, Limit, Unlimited, AtMost}
 use Rattle.booleans.specs.Tests.{_and_}
 use Rattle.table.specs.Trees.{Tree, node, Forest, nil, _▸_, rest}
-use Rattle.evaluate.specs.Evaluate.{outward, Values, num, figure}
+use Rattle.evaluate.specs.Evaluate.{outward, Values, amount, figure}
 use Rattle.evaluate.specs.Closed.{isUnlimited}
 
 -- a pass of a sequence is one pass of each child in order; of a choice, one pass of one child; of a loop, some of the body, then one of the exit
@@ -27,6 +27,7 @@ abbrev mutual
   PassIn (t ▸ f) Choice = Pass t ⊎ PassIn f Choice
   PassIn (t ▸ f) (Loop n) = List (Pass t) × PassIn f Sequence
 
+-- a number of each, summed
 unfoldable pub total {ℓ} : {A : Type ℓ} → (A → ℕ) → List A → ℕ
 total f [] = 0
 total f (x ∷ xs) = f x + total f xs
@@ -91,7 +92,7 @@ module _ (v : Values) where
     cost (node n f) r = costIn f (n .kind) r
 
     pub costIn : (f : Forest) (k : Kind) → PassIn f k → ℕ
-    costIn nil (Block x) r = num v x
+    costIn nil (Block x) r = amount v x
     costIn nil Sequence r = 0
     costIn nil Choice r = absurd r
     costIn nil (Loop n) r = 0
@@ -104,12 +105,12 @@ module _ (v : Values) where
   -- z passes of a node keep its limit
   unfoldable pub keeps : Limit → ℕ → Type 0
   keeps Unlimited z = Unit {0}
-  keeps (AtMost k m) z = z ≤ num v m
+  keeps (AtMost k m) z = z ≤ amount v m
 
   -- z passes of a node in one pass of the nearest loop around it keep its limit, if that names this loop
   unfoldable pub here : Limit → ℕ → Type 0
   here Unlimited z = Unit {0}
-  here (AtMost k m) z = k ≤ 1 → z ≤ num v m
+  here (AtMost k m) z = k ≤ 1 → z ≤ amount v m
 
   -- each pass of each loop within a pass makes at most its bound of passes of the body, and keeps the limits that name it
   abbrev mutual
@@ -123,7 +124,7 @@ module _ (v : Values) where
     AdmittedIn (t ▸ f) Choice (inl r) = Admitted t r
     AdmittedIn (t ▸ f) Choice (inr r) = AdmittedIn f Choice r
     AdmittedIn (t ▸ f) (Loop n) r =
-        (length (r .0) ≤ num v n) × ((x : Spot t) → here (limitAt t x) (total (λ p. count t p x) (r .0))) × All (λ p. Admitted t p) (r .0) × AdmittedIn f Sequence (r .1)
+        (length (r .0) ≤ amount v n) × ((x : Spot t) → here (limitAt t x) (total (λ p. count t p x) (r .0))) × All (λ p. Admitted t p) (r .0) × AdmittedIn f Sequence (r .1)
 
   -- an admitted run: one pass of the root, which keeps the limits that are still in sight there, those on the whole run
   pub record Run (t : Tree) (r : Pass t) : Type 0 where

@@ -6,16 +6,16 @@ use Prim.Native.Nat.{ℕ, zero, suc, _+_, _-_, _≤_, _<_}
 use lib.Dec.{eqb, ltb}
 use Rattle.lists.specs.Streams.{Stream, const}
 
--- ---- pairs
-
+-- a value, and how often it comes
 abbrev pub Pair : Type 0
 Pair = ℕ × ℕ
 
--- one more member in front
+-- one more x in front of pairs that begin with x: a count for ever stays so
 unfoldable pub grown : ℕ → ℕ → List Pair → List Pair
 grown x zero r = (x, 0) ∷ r
 grown x (suc c) r = (x, suc (suc c)) ∷ r
 
+-- one more member in front
 unfoldable pub inFront : ℕ → List Pair → List Pair
 inFront x [] = (x, 1) ∷ []
 inFront x (p ∷ r) = cond (eqb x (p .0)) (grown (p .0) (p .1) r) ((x, 1) ∷ p ∷ r)

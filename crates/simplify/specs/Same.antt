@@ -5,20 +5,20 @@ use Rattle.simplify.specs.Nodes.{Number, Plain, Symbol, Limit, Unlimited
 use Rattle.booleans.specs.Tests.{_and_}
 use Rattle.table.specs.Trees.{Tree, node, Forest, nil, _▸_}
 
-unfoldable pub sameNum : Number → Number → Bool
-sameNum (Plain m) (Plain n) = eqb m n
-sameNum (Plain m) (Symbol n) = false
-sameNum (Symbol m) (Plain n) = false
-sameNum (Symbol m) (Symbol n) = eqb m n
+unfoldable pub sameNumber : Number → Number → Bool
+sameNumber (Plain m) (Plain n) = eqb m n
+sameNumber (Plain m) (Symbol n) = false
+sameNumber (Symbol m) (Plain n) = false
+sameNumber (Symbol m) (Symbol n) = eqb m n
 
 unfoldable pub sameLimit : Limit → Limit → Bool
 sameLimit Unlimited Unlimited = true
 sameLimit Unlimited (AtMost j n) = false
 sameLimit (AtMost k m) Unlimited = false
-sameLimit (AtMost k m) (AtMost j n) = eqb k j and sameNum m n
+sameLimit (AtMost k m) (AtMost j n) = eqb k j and sameNumber m n
 
 unfoldable pub sameKind : Kind → Kind → Bool
-sameKind (Block m) (Block n) = sameNum m n
+sameKind (Block m) (Block n) = sameNumber m n
 sameKind (Block m) Sequence = false
 sameKind (Block m) Choice = false
 sameKind (Block m) (Loop n) = false
@@ -33,7 +33,7 @@ sameKind Choice (Loop n) = false
 sameKind (Loop m) (Block n) = false
 sameKind (Loop m) Sequence = false
 sameKind (Loop m) Choice = false
-sameKind (Loop m) (Loop n) = sameNum m n
+sameKind (Loop m) (Loop n) = sameNumber m n
 
 -- two trees with the same bytes
 unfoldable mutual

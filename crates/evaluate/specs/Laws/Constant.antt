@@ -11,7 +11,7 @@ use Rattle.table.specs.Numbers.{wholeRun}
 use Rattle.table.specs.Trees.{Tree, node, Forest, nil, _▸_, rest, around}
 use Rattle.lists.specs.Streams.{Stream, group, add, merge, const, cap}
 use Rattle.lists.specs.Laws.MergeLaws.{Const, group-const, add-consts, merge-consts}
-use Rattle.evaluate.specs.Evaluate.{rounds, outward, Values, num, seen, turns, join, start, inner, limit, name, nameIn, list, before}
+use Rattle.evaluate.specs.Evaluate.{rounds, outward, Values, amount, seen, turns, join, start, inner, limit, name, nameIn, list, before}
 use Rattle.evaluate.specs.Closed.{isUnlimited, stays, closed, closedIn, isPlain, plainKind, plainLimit, symbolFree, symbolFreeIn}
 use Rattle.evaluate.specs.Laws.Monotone.{name-le, nameIn-le}
 
@@ -34,7 +34,7 @@ unfolding turns seen
 turns-const v (Block t) n f h g = g h
 turns-const v Sequence n f h g = g h
 turns-const v Choice n f h g = g h
-turns-const v (Loop m) n f h g = rounds-const n (num v m) f (λ e. g (outward-run n h e))
+turns-const v (Loop m) n f h g = rounds-const n (amount v m) f (λ e. g (outward-run n h e))
 
 join-const : (k : Kind) (f g : Stream) → Const f → Const g → Const (join k f g)
 unfolding join
@@ -136,19 +136,19 @@ closedIn-const v k f r =
 -- ---- symbol-free
 
 module _ (v w : Values) where
-  num-free : (n : Number) → T (isPlain n) → num v n ≡ num w n
-  unfolding isPlain num
-  num-free (Plain n) h = refl
-  num-free (Symbol k) h = absurd h
+  amount-free : (n : Number) → T (isPlain n) → amount v n ≡ amount w n
+  unfolding isPlain amount
+  amount-free (Plain n) h = refl
+  amount-free (Symbol k) h = absurd h
 
   limit-free : (l : Limit) (f : Stream) → T (plainLimit l) → limit v l f ≡ limit w l f
   unfolding plainLimit limit
   limit-free Unlimited f h = refl
-  limit-free (AtMost k m) f h = ap (λ n. cap n f) (num-free m h)
+  limit-free (AtMost k m) f h = ap (λ n. cap n f) (amount-free m h)
 
   start-free : (k : Kind) → T (plainKind k) → start v k ≡ start w k
   unfolding plainKind start
-  start-free (Block t) h = ap const (num-free t h)
+  start-free (Block t) h = ap const (amount-free t h)
   start-free Sequence h = refl
   start-free Choice h = refl
   start-free (Loop n) h = refl
@@ -158,7 +158,7 @@ module _ (v w : Values) where
   turns-free (Block t) n f h = refl
   turns-free Sequence n f h = refl
   turns-free Choice n f h = refl
-  turns-free (Loop m) n f h = ap (λ x. rounds n x f) (num-free m h)
+  turns-free (Loop m) n f h = ap (λ x. rounds n x f) (amount-free m h)
 
   rest-plain : (k : Kind) → T (plainKind (rest k))
   unfolding plainKind rest

@@ -14,7 +14,7 @@ use Rattle.table.specs.Trees.{Tree, node, Forest, nil, _▸_, rest}
 use Rattle.lists.specs.Streams.{Stream, S, group, const}
 use Rattle.lists.specs.Laws.Sums.{S-group, S-const, S-mono, S-add, S-cap}
 use Rattle.lists.specs.Laws.Merge.{merge-over}
-use Rattle.evaluate.specs.Evaluate.{inner, outward, rounds, Values, num, seen, name, nameIn, limit, turns, join, start, list, before, figure}
+use Rattle.evaluate.specs.Evaluate.{inner, outward, rounds, Values, amount, seen, name, nameIn, limit, turns, join, start, list, before, figure}
 use Rattle.evaluate.specs.Runs.{total, All, Pass, PassIn, Spot, SpotIn, out, seenLimit, limitAt, limitIn, count, countIn, cost, costIn, keeps, here, Admitted, AdmittedIn, Run}
 use Rattle.evaluate.specs.Laws.Monotone.{list-falls, before-falls}
 
@@ -174,7 +174,7 @@ module _ (v : Values) where
   -- z passes of a node keep its limit, if that names loop k or one further out
   unfoldable ok : ℕ → Limit → ℕ → Type 0
   ok k Unlimited z = Unit {0}
-  ok k (AtMost j m) z = k ≤ j → z ≤ num v m
+  ok k (AtMost j m) z = k ≤ j → z ≤ amount v m
 
   keeps-ok : (l : Limit) (z : ℕ) → keeps v l z → ok 0 l z
   unfolding keeps ok
@@ -208,7 +208,7 @@ module _ (v : Values) where
   ok-both Unlimited z h o = tt
   ok-both (AtMost j m) z h o = λ g. go (leb j 1) refl o
     where
-      go : (b : Bool) → leb j 1 ≡ b → ok 0 (cond b Unlimited (AtMost (outward j) m)) z → z ≤ num v m
+      go : (b : Bool) → leb j 1 ≡ b → ok 0 (cond b Unlimited (AtMost (outward j) m)) z → z ≤ amount v m
       go true e o = h (leb-true j 1 e)
       go false e o = o (omega arith)
 
@@ -216,7 +216,7 @@ module _ (v : Values) where
   unfolding limit inner ok
   limit-sound Unlimited f P k z o h = h
   limit-sound (AtMost j m) f P k z o h =
-      let e : min (num v m) P ≡ P = omega (arith, o (omega arith)) in
+      let e : min (amount v m) P ≡ P = omega (arith, o (omega arith)) in
       rw (S-cap, e) h
 
   own : {A : Type 0} (k : ℕ) (l : Limit) (rs : List A) → ok k l (total (λ r. 1) rs) → ok k l (length rs)
@@ -245,7 +245,7 @@ module _ (v : Values) where
 
     soundIn : (f : Forest) (k : Kind) (rs : List (PassIn f k)) → All (GoodIn f k) rs → FitsIn f k (nameIn k f) (λ x. total (λ r. countIn f k r x) rs)
         → total (costIn v f k) rs ≤ S (before v k f) (length rs)
-    soundIn nil (Block y) rs g h = omega (arith, total-const (num v y) rs, S-const (num v y) (length rs))
+    soundIn nil (Block y) rs g h = omega (arith, total-const (amount v y) rs, S-const (amount v y) (length rs))
     soundIn nil Sequence rs g h = omega (arith, total-const 0 rs)
     soundIn nil Choice rs g h = omega (arith, total-none (costIn v nil Choice) rs)
     soundIn nil (Loop n) rs g h = omega (arith, total-const 0 rs)
@@ -271,8 +271,8 @@ module _ (v : Values) where
         = λ r q.
         all-both _ _ (r .0) (q .0 .2)
         (all-down (count t) (λ x z. ok 0 (limitAt t x) z) (λ x y z. ok-fewer 0 (limitAt t x) y z) (r .0) (bodies r q)) in
-        let i : total (λ r. total (cost v t) (r .0)) rs ≤ S (rounds (name t) (num v n) (list v t)) (length rs)
-        = rounds-sound (name t) (num v n) (list v t) (cost v t) rs
+        let i : total (λ r. total (cost v t) (r .0)) rs ≤ S (rounds (name t) (amount v n) (list v t)) (length rs)
+        = rounds-sound (name t) (amount v n) (list v t) (cost v t) rs
         (all-impl (GoodIn (t ▸ f) (Loop n)) _ (λ r q. q .0 .0) rs g)
         (λ e. all-impl (GoodIn (t ▸ f) (Loop n)) _ (λ r q. sound t (r .0) (good r q) (λ x. ok-outer 0 (name t) _ _ zero-le (bodies r q x))) rs g)
         (λ e. sound t (flat rs) (all-flat _ rs (all-impl (GoodIn (t ▸ f) (Loop n)) _ good rs g))
@@ -282,7 +282,7 @@ module _ (v : Values) where
         (λ x. ok-fewer _ _ _ _ (le-of-eq (total-map (λ p. countIn f Sequence p x) (λ (r : PassIn (t ▸ f) (Loop n)). r .1) rs))
         (ok-outer (min (outward (name t)) (nameIn Sequence f)) (nameIn Sequence f) _ _ (omega arith) (h (inr x)))) in
         omega
-        (arith, total-add (λ r. total (cost v t) (r .0)) (λ r. costIn v f Sequence (r .1)) rs, S-add (rounds (name t) (num v n) (list v t)) (before v Sequence f) (length rs), i, simp (total-map, length-map) at j)
+        (arith, total-add (λ r. total (cost v t) (r .0)) (λ r. costIn v f Sequence (r .1)) rs, S-add (rounds (name t) (amount v n) (list v t)) (before v Sequence f) (length rs), i, simp (total-map, length-map) at j)
 
   -- no admitted run costs more than the figure
   pub covered : (t : Tree) (r : Pass t) → Run v t r → cost v t r ≤ figure v t

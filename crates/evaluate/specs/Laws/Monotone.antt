@@ -14,14 +14,14 @@ use Rattle.lists.specs.Streams.{Stream, S, const, add, group}
 use Rattle.lists.specs.Laws.Sums.{Falls, cap-falls, const-falls, group-falls, add-falls, S-add, S-cap, S-group, S-const, S-mono}
 use Rattle.lists.specs.Laws.Merge.{merge-falls}
 use Rattle.lists.specs.Laws.MergeLaws.{Under, under-refl, merge-mono}
-use Rattle.evaluate.specs.Evaluate.{Values, num, limit, rounds, turns, join, start, name, list, before, figure, fits, fitsIn, outward, inner, nameIn}
+use Rattle.evaluate.specs.Evaluate.{Values, amount, limit, rounds, turns, join, start, name, list, before, figure, fits, fitsIn, outward, inner, nameIn}
 
 -- ---- lists never rise
 
 pub limit-falls : (v : Values) (l : Limit) (f : Stream) → Falls f → Falls (limit v l f)
 unfolding limit
 limit-falls v Unlimited f h = h
-limit-falls v (AtMost k m) f h = cap-falls (num v m) f h
+limit-falls v (AtMost k m) f h = cap-falls (amount v m) f h
 
 pub rounds-falls : (k n : ℕ) (f : Stream) → Falls f → Falls (rounds k n f)
 unfolding rounds
@@ -32,7 +32,7 @@ unfolding turns
 turns-falls v (Block t) n f h = h
 turns-falls v Sequence n f h = h
 turns-falls v Choice n f h = h
-turns-falls v (Loop m) n f h = rounds-falls n (num v m) f h
+turns-falls v (Loop m) n f h = rounds-falls n (amount v m) f h
 
 pub join-falls : (k : Kind) (f g : Stream) → Falls f → Falls g → Falls (join k f g)
 unfolding join
@@ -65,17 +65,17 @@ unfolding S
 first f g u = omega (arith, u 1)
 
 module _ (v w : Values) (le : (k : ℕ) → v k ≤ w k) where
-  num-mono : (n : Number) → num v n ≤ num w n
-  unfolding num
-  num-mono (Plain n) = omega arith
-  num-mono (Symbol k) = le k
+  amount-mono : (n : Number) → amount v n ≤ amount w n
+  unfolding amount
+  amount-mono (Plain n) = omega arith
+  amount-mono (Symbol k) = le k
 
   limit-mono : (l : Limit) (f g : Stream) → Under f g → Under (limit v l f) (limit w l g)
   unfolding limit
   limit-mono Unlimited f g u P = u P
   limit-mono (AtMost k m) f g u P =
-      let h : min (num v m) P ≤ min (num w m) P = omega (arith, num-mono m) in
-      omega (arith, S-cap (num v m) f P, S-cap (num w m) g P, u (min (num v m) P), S-mono g _ _ h)
+      let h : min (amount v m) P ≤ min (amount w m) P = omega (arith, amount-mono m) in
+      omega (arith, S-cap (amount v m) f P, S-cap (amount w m) g P, u (min (amount v m) P), S-mono g _ _ h)
 
   const-mono : (a b : ℕ) → a ≤ b → Under (const a) (const b)
   const-mono a b l P = omega (arith, S-const a P, S-const b P, mul-le-mul-left P l)
@@ -96,7 +96,7 @@ module _ (v w : Values) (le : (k : ℕ) → v k ≤ w k) where
   turns-mono (Block t) n f g u = u
   turns-mono Sequence n f g u = u
   turns-mono Choice n f g u = u
-  turns-mono (Loop m) n f g u = rounds-mono n _ _ f g (num-mono m) u
+  turns-mono (Loop m) n f g u = rounds-mono n _ _ f g (amount-mono m) u
 
   add-mono : (f g f′ g′ : Stream) → Under f f′ → Under g g′ → Under (add f g) (add f′ g′)
   add-mono f g f′ g′ a b P = omega (arith, S-add f g P, S-add f′ g′ P, a P, b P)
@@ -110,7 +110,7 @@ module _ (v w : Values) (le : (k : ℕ) → v k ≤ w k) where
 
   start-mono : (k : Kind) → Under (start v k) (start w k)
   unfolding start
-  start-mono (Block t) = const-mono _ _ (num-mono t)
+  start-mono (Block t) = const-mono _ _ (amount-mono t)
   start-mono Sequence = under-refl _
   start-mono Choice = under-refl _
   start-mono (Loop n) = under-refl _

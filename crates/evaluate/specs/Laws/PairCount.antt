@@ -9,7 +9,7 @@ use Rattle.lists.specs.Streams.{Stream, taken}
 use Rattle.lists.specs.Laws.Falls.{Few, add-few, merge-few, const-few, group-few, cap-few}
 use Rattle.lists.specs.Laws.Sums.{Falls}
 use Rattle.evaluate.specs.Nodes.{Limit, Unlimited, AtMost, Kind, Block, Sequence, Choice, Loop}
-use Rattle.evaluate.specs.Evaluate.{name, join, rounds, Values, num, turns, start, limit, list, before}
+use Rattle.evaluate.specs.Evaluate.{name, join, rounds, Values, amount, turns, start, limit, list, before}
 use Rattle.evaluate.specs.Laws.Monotone.{list-falls}
 
 -- a bound on that, for every P and all values
@@ -48,7 +48,7 @@ unfolding turns grouped
 turns-few v (Block t) n w f h a = a
 turns-few v Sequence n w f h a = a
 turns-few v Choice n w f h a = a
-turns-few v (Loop m) n w f h a = rounds-few n (num v m) w f h a
+turns-few v (Loop m) n w f h a = rounds-few n (amount v m) w f h a
 
 start-few : (v : Values) (k : Kind) → Few 0 (start v k)
 unfolding start
@@ -60,7 +60,7 @@ start-few v (Loop n) = const-few _
 limit-few : (v : Values) (l : Limit) (w : ℕ) (f : Stream) → Few w f → Few (own l w) (limit v l f)
 unfolding own limit
 limit-few v Unlimited w f a P = a P
-limit-few v (AtMost k m) w f a P = omega (arith, cap-few (num v m) f P .1, a P)
+limit-few v (AtMost k m) w f a P = omega (arith, cap-few (amount v m) f P .1, a P)
 
 mutual
   unfolding bound list

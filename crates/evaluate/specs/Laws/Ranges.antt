@@ -13,7 +13,7 @@ use Rattle.lists.specs.Pairs.{reach}
 use Rattle.lists.specs.Laws.Sums.{S-le, S-const, falls-le}
 use Rattle.lists.specs.Laws.Pairs.{pairs-reach}
 use Rattle.evaluate.specs.Nodes.{Unlimited, Limit, AtMost}
-use Rattle.evaluate.specs.Evaluate.{Values, num, limit, figure, fits, list}
+use Rattle.evaluate.specs.Evaluate.{Values, amount, limit, figure, fits, list}
 use Rattle.evaluate.specs.ListPairs.{place, listPairs}
 use Rattle.evaluate.specs.Laws.Monotone.{list-falls}
 use Rattle.evaluate.specs.Laws.PairCount.{bound}
@@ -25,7 +25,7 @@ use Rattle.evaluate.specs.Laws.ListPairs.{few-list-pairs}
 limit-first : (v : Values) (l : Limit) (f : Stream) → limit v l f 0 ≤ f 0
 unfolding limit cap
 limit-first v Unlimited f = omega arith
-limit-first v (AtMost k m) f = by-cond (λ x. x ≤ f 0) (ltb 0 (num v m)) _ _ (λ e. omega arith) (λ e. omega arith)
+limit-first v (AtMost k m) f = by-cond (λ x. x ≤ f 0) (ltb 0 (amount v m)) _ _ (λ e. omega arith) (λ e. omega arith)
 
 pub figure-most : (v : Values) (t : Tree) → T (fits v t) → figure v t ≤ mostTime
 unfolding fits figure list

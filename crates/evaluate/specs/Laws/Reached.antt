@@ -14,7 +14,7 @@ use Rattle.table.specs.Trees.{Tree, node, Forest, nil, _▸_, rest, around, siz
 use Rattle.table.specs.Questions.{arity, listed, listedIn}
 use Rattle.lists.specs.Streams.{Stream, const, add, merge, taken}
 use Rattle.lists.specs.Laws.MergeLaws.{group-const}
-use Rattle.evaluate.specs.Evaluate.{rounds, Values, num, name, limit, turns, join, start, list, before, figure}
+use Rattle.evaluate.specs.Evaluate.{rounds, Values, amount, name, limit, turns, join, start, list, before, figure}
 use Rattle.evaluate.specs.Closed.{isUnlimited, stays, closed, closedIn}
 use Rattle.evaluate.specs.Runs.{limitFree, limitFreeIn, out, seenLimit, Spot, SpotIn, limitAt, limitIn, total, All, Pass, PassIn, cost, costIn, keeps, here, Admitted, AdmittedIn, Reached}
 use Rattle.evaluate.specs.Laws.Constant.{closed-const, unlimited-is}
@@ -114,7 +114,7 @@ module _ (v : Values) where
   loop-best n t f h a b =
       let (c, e) = closed-const v t (free-closed t 0 h) in
       let c₀ : list v t 0 ≡ c = unfold const in ap (λ g. g 0) e in
-      let m = num v n in
+      let m = amount v n in
       record {
         pass = (copies m (a .pass), b .pass);
         good = (

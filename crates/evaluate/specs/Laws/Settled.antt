@@ -11,7 +11,7 @@ use Rattle.table.specs.Questions.{countInRange, limitInRange, listed, listedIn}
 use Rattle.lists.specs.Streams.{Stream}
 use Rattle.lists.specs.Laws.Sums.{Falls}
 use Rattle.lists.specs.Laws.Settled.{Settled, add-settled, merge-settled, const-settled, group-settled, cap-settled}
-use Rattle.evaluate.specs.Evaluate.{join, rounds, Values, num, limit, turns, start, name, list, before}
+use Rattle.evaluate.specs.Evaluate.{join, rounds, Values, amount, limit, turns, start, name, list, before}
 use Rattle.evaluate.specs.ListPairs.{placeOf, turned, place, placeIn}
 use Rattle.evaluate.specs.Laws.Monotone.{list-falls, before-falls, turns-falls}
 use Rattle.evaluate.specs.Laws.PairCount.{own, grouped, bound, boundIn}
@@ -33,14 +33,14 @@ rounds-settled k n p f a =
 limit-settled : (v : Values) (l : Limit) (p : ℕ) (f : Stream) → Settled p f → Settled (placeOf v l p) (limit v l f)
 unfolding placeOf limit
 limit-settled v Unlimited p f a i q = a i q
-limit-settled v (AtMost k m) p f a i q = cap-settled (num v m) (num v m) f (omega arith) i q
+limit-settled v (AtMost k m) p f a i q = cap-settled (amount v m) (amount v m) f (omega arith) i q
 
 turns-settled : (v : Values) (k : Kind) (n p : ℕ) (f : Stream) → Settled p f → Settled (turned k n p) (turns v k n f)
 unfolding turns turned
 turns-settled v (Block t) n p f a i q = a i q
 turns-settled v Sequence n p f a i q = a i q
 turns-settled v Choice n p f a i q = a i q
-turns-settled v (Loop m) n p f a i q = rounds-settled n (num v m) p f a i q
+turns-settled v (Loop m) n p f a i q = rounds-settled n (amount v m) p f a i q
 
 start-settled : (v : Values) (k : Kind) (p : ℕ) → Settled p (start v k)
 unfolding start
@@ -64,15 +64,15 @@ mutual
 -- ---- with limits at most their ceiling, no place is past that many for each fall that `bound` counts
 
 module _ (v : Values) (ranged : (k : ℕ) → k < firstTimeSymbol → v k ≤ mostCount) where
-  pub num-most : (m : Number) → T (countInRange m) → num v m ≤ mostCount
-  unfolding countInRange num
-  num-most (Plain n) h = leb→le n mostCount h
-  num-most (Symbol s) h = ranged s (ltb→lt s firstTimeSymbol h)
+  pub amount-most : (m : Number) → T (countInRange m) → amount v m ≤ mostCount
+  unfolding countInRange amount
+  amount-most (Plain n) h = leb→le n mostCount h
+  amount-most (Symbol s) h = ranged s (ltb→lt s firstTimeSymbol h)
 
   own-most : (l : Limit) (w p : ℕ) → T (limitInRange l) → p ≤ w * mostCount → placeOf v l p ≤ own l w * mostCount
   unfolding own placeOf limitInRange
   own-most Unlimited w p h l = l
-  own-most (AtMost k m) w p h l = omega (arith, num-most m (both _ _ h .1))
+  own-most (AtMost k m) w p h l = omega (arith, amount-most m (both _ _ h .1))
 
   turned-most : (k : Kind) (n w p : ℕ) → p ≤ w * mostCount → turned k n p ≤ grouped k n w * mostCount
   unfolding turned grouped

@@ -10,7 +10,7 @@ use Rattle.table.specs.Questions.{arity, timeInRange, kindInRange, limitInRange
 use Rattle.table.specs.Trees.{Tree, node, nil, _▸_, size, records}
 use Rattle.lists.specs.Streams.{const}
 use Rattle.evaluate.specs.Closed.{isPlain, plainKind}
-use Rattle.evaluate.specs.Evaluate.{Values, num, limit, start, list, inner, name, fits}
+use Rattle.evaluate.specs.Evaluate.{Values, amount, limit, start, list, inner, name, fits}
 use Rattle.evaluate.specs.Laws.Constant.{unlimited-is}
 use Rattle.simplify.specs.Nodes.{Plain, Symbol, Kind, Block, Sequence, Choice, Loop, Unlimited, Limit}
 use Rattle.simplify.specs.Rules.{isBlock, timeOfKind, leaf, bare, timeOf}
@@ -35,7 +35,7 @@ bare-is (node n nil) h =
 bare-is (node n (t ▸ f)) h = absurd h
 
 pub leaf-list : (v : Values) (x : ℕ) → list v (leaf x Unlimited) ≡ const x
-unfolding leaf list limit start num
+unfolding leaf list limit start amount
 leaf-list v x = refl
 
 pub leaf-name : (x : ℕ) → name (leaf x Unlimited) ≡ wholeRun
@@ -43,7 +43,7 @@ unfolding leaf name inner
 leaf-name x = refl
 
 pub leaf-fits : (v : Values) (x : ℕ) (l : Limit) → x ≤ mostTime → T (fits v (leaf x l))
-unfolding leaf fits list start num const
+unfolding leaf fits list start amount const
 leaf-fits v x l h = join-and _ _ (le→leb x mostTime h) tt
 
 pub leaf-listed : (x : ℕ) (l : Limit) → x ≤ mostTime → T (limitInRange l) → T (listed (leaf x l))

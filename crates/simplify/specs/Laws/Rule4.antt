@@ -11,7 +11,7 @@ use Rattle.table.specs.Trees.{Forest, nil, _▸_, size, records, recordsIn, nod
 use Rattle.table.specs.Laws.Trees.{some-records}
 use Rattle.lists.specs.Streams.{const}
 use Rattle.evaluate.specs.Closed.{closedIn, symbolFree}
-use Rattle.evaluate.specs.Evaluate.{Values, num, inner, name, limit, start, list, before, fits, zeros}
+use Rattle.evaluate.specs.Evaluate.{Values, amount, inner, name, limit, start, list, before, fits, zeros}
 use Rattle.evaluate.specs.Laws.Constant.{closedIn-run, closedIn-const, before-free}
 use Rattle.simplify.specs.Nodes.{Kind, Block, Sequence, Choice, Loop, Node}
 use Rattle.simplify.specs.Rules.{isBlock, leaf}
@@ -37,7 +37,7 @@ pub rule4-refines : (n : Node) (f : Forest) → T (symbolFree (node n f)) → T 
     → Refines (leaf (before zeros (n .kind) f 0) (n .limit)) (node n f)
 rule4-refines n f h i r = record {
   sameName = unfold name in unfold leaf in ap (inner (n .limit)) (sym (closedIn-run k f r));
-  sameList = λ v. unfold list in unfold leaf in unfold start in unfold num in ap (limit v (n .limit)) (sym (closedIn-const v k f r ∙ ap const (first v)));
+  sameList = λ v. unfold list in unfold leaf in unfold start in unfold amount in ap (limit v (n .limit)) (sym (closedIn-const v k f r ∙ ap const (first v)));
   stillFits = λ v q. leaf-fits v x (n .limit) (few v q);
   stillListed = λ q l. leaf-listed x (n .limit) (few zeros q) (unfold listed in both _ _ (both _ _ (both _ _ l .0) .0) .1);
   deep = unfold depth in omega (arith, leaf-depth x (n .limit));

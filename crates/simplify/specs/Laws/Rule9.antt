@@ -11,7 +11,7 @@ use Rattle.table.specs.Questions.{listed, depth, loops, named, weight, share}
 use Rattle.table.specs.Trees.{nil, _▸_, records, node, Tree, rest, around}
 use Rattle.lists.specs.Streams.{const, Stream, S, group, add}
 use Rattle.lists.specs.Laws.MergeLaws.{add-zero-r, add-zero-l}
-use Rattle.evaluate.specs.Evaluate.{rounds, outward, num, inner, name, limit, start, list, fits, seen, turns, join}
+use Rattle.evaluate.specs.Evaluate.{rounds, outward, amount, inner, name, limit, start, list, fits, seen, turns, join}
 use Rattle.evaluate.specs.Laws.Monotone.{name-le}
 use Rattle.simplify.specs.Nodes.{Loop, Unlimited, Plain}
 use Rattle.simplify.specs.Laws.Refines.{Refines}
@@ -31,7 +31,7 @@ names-run k h = go (eqb k 1) refl h
     go false e h = ap outward (eqb→eq k wholeRun h) ∙ unfold outward in refl
 
 pub rule9-refines : (b e : Tree) → outward (name b) ≡ wholeRun → Refines e (node (at (Loop (Plain 0)) Unlimited) (b ▸ e ▸ nil))
-unfolding name seen rest inner list limit turns start num join fits listed depth loops around named weight share records
+unfolding name seen rest inner list limit turns start amount join fits listed depth loops around named weight share records
 rule9-refines b e h = record {
   sameName = omega (arith, name-le e);
   sameList = λ v. sym (ap₂ add (rounds-zero (name b) (list v b)) (add-zero-r (list v e)) ∙ add-zero-l _);

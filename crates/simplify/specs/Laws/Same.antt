@@ -5,25 +5,25 @@ use Rattle.booleans.specs.Laws.{both}
 use Rattle.table.specs.Trees.{Forest, nil, _▸_, node, Tree}
 use Rattle.evaluate.specs.Evaluate.{limit}
 use Rattle.simplify.specs.Nodes.{Number, Plain, Symbol, Limit, Unlimited, AtMost, Kind, Block, Sequence, Choice, Loop, Node}
-use Rattle.simplify.specs.Same.{sameNum, sameLimit, sameKind, same, sameIn}
+use Rattle.simplify.specs.Same.{sameNumber, sameLimit, sameKind, same, sameIn}
 
-pub num-is : (m n : Number) → T (sameNum m n) → m ≡ n
-unfolding sameNum
-num-is (Plain m) (Plain n) h = ap Plain (eqb→eq m n h)
-num-is (Plain m) (Symbol n) h = absurd h
-num-is (Symbol m) (Plain n) h = absurd h
-num-is (Symbol m) (Symbol n) h = ap Symbol (eqb→eq m n h)
+pub number-is : (m n : Number) → T (sameNumber m n) → m ≡ n
+unfolding sameNumber
+number-is (Plain m) (Plain n) h = ap Plain (eqb→eq m n h)
+number-is (Plain m) (Symbol n) h = absurd h
+number-is (Symbol m) (Plain n) h = absurd h
+number-is (Symbol m) (Symbol n) h = ap Symbol (eqb→eq m n h)
 
 pub limit-is : (l r : Limit) → T (sameLimit l r) → l ≡ r
 unfolding sameLimit
 limit-is Unlimited Unlimited h = refl
 limit-is Unlimited (AtMost j n) h = absurd h
 limit-is (AtMost k m) Unlimited h = absurd h
-limit-is (AtMost k m) (AtMost j n) h = let (a, b) = both _ _ h in ap₂ AtMost (eqb→eq k j a) (num-is m n b)
+limit-is (AtMost k m) (AtMost j n) h = let (a, b) = both _ _ h in ap₂ AtMost (eqb→eq k j a) (number-is m n b)
 
 pub kind-is : (j k : Kind) → T (sameKind j k) → j ≡ k
 unfolding sameKind
-kind-is (Block m) (Block n) h = ap Block (num-is m n h)
+kind-is (Block m) (Block n) h = ap Block (number-is m n h)
 kind-is (Block m) Sequence h = absurd h
 kind-is (Block m) Choice h = absurd h
 kind-is (Block m) (Loop n) h = absurd h
@@ -38,7 +38,7 @@ kind-is Choice (Loop n) h = absurd h
 kind-is (Loop m) (Block n) h = absurd h
 kind-is (Loop m) Sequence h = absurd h
 kind-is (Loop m) Choice h = absurd h
-kind-is (Loop m) (Loop n) h = ap Loop (num-is m n h)
+kind-is (Loop m) (Loop n) h = ap Loop (number-is m n h)
 
 abbrev pub at : Kind → Limit → Node
 at k l = record { kind = k; limit = l }
