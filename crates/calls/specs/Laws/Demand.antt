@@ -15,7 +15,7 @@ use Rattle.table.specs.Laws.RoundTrip.{length-encode}
 use Rattle.table.specs.Laws.Accepted.{IsTable, is-table}
 use Rattle.table.specs.Laws.NotRefused.{reads-back, not-refused}
 use Rattle.evaluate.specs.Evaluate.{fits, zeros}
-use Rattle.evaluate.specs.Laws.Monotone.{figure-mono, fits-mono}
+use Rattle.evaluate.specs.Laws.Monotone.{figure-mono, fits-zeros}
 use Rattle.simplify.specs.Steps.{Made, isNone, step, steps}
 use Rattle.simplify.specs.Laws.Stepping.{Kept}
 use Rattle.simplify.specs.Laws.Stepwise.{steps-kept, steps-made, steps-within, steps-spent, steps-finished}
@@ -69,7 +69,7 @@ module _ (b : List ℕ) (n : ℕ) (v w : List ℕ) (h : AreBytes b) (e : refusal
       }
 
   too-large : fits zeros (decode b) ≡ false → (u : List ℕ) (x : ℕ) → figureAnswer b u ≡ Quote.Figure x → ⊥
-  too-large z u x p = subst T z (fits-mono zeros (valuesOf u) (λ k. omega arith) (decode b) (is-figure u (decode b) x (sym (figure-of b u e) ∙ p) .1))
+  too-large z u x p = subst T z (fits-zeros (valuesOf u) (decode b) (is-figure u (decode b) x (sym (figure-of b u e) ∙ p) .1))
 
   refusal-is : (out : List ℕ) → simplifyRefusal b out ≡ cond (leb (length b) (length out)) (cond (fits zeros (decode b)) 0 10) 8
   unfolding simplifyRefusal

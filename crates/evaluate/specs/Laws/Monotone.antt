@@ -14,7 +14,7 @@ use Rattle.lists.specs.Streams.{Stream, S, const, add, group}
 use Rattle.lists.specs.Laws.Sums.{Falls, cap-falls, const-falls, group-falls, add-falls, S-add, S-cap, S-group, S-const, S-mono}
 use Rattle.lists.specs.Laws.Merge.{merge-falls}
 use Rattle.lists.specs.Laws.MergeLaws.{Under, under-refl, merge-mono}
-use Rattle.evaluate.specs.Evaluate.{Values, amount, limit, rounds, turns, join, start, name, list, before, figure, fits, fitsIn, outward, inner, nameIn}
+use Rattle.evaluate.specs.Evaluate.{Values, amount, limit, rounds, turns, join, start, name, list, before, figure, fits, fitsIn, outward, inner, nameIn, zeros}
 
 -- ---- lists never rise
 
@@ -144,6 +144,10 @@ module _ (v w : Values) (le : (k : ℕ) → v k ≤ w k) where
     pub fitsIn-mono : (f : Forest) → T (fitsIn w f) → T (fitsIn v f)
     fitsIn-mono nil h = tt
     fitsIn-mono (t ▸ f) h = let (a, b) = both _ _ h in join-and _ _ (fits-mono t a) (fitsIn-mono f b)
+
+-- so no values give a figure where question 10 says no at zeros
+pub fits-zeros : (v : Values) (t : Tree) → T (fits v t) → T (fits zeros t)
+fits-zeros v t h = fits-mono zeros v (λ k. omega arith) t h
 
 -- ---- names are at most 255
 

@@ -1,9 +1,11 @@
--- Tests of sameness say what they test.
-use mathlib.Core.Path.{_≡_, ap, refl, ap₂}
-use lib.Dec.{T, eqb→eq}
-use Rattle.booleans.specs.Laws.{both}
+-- Tests of sameness say what they test: two trees are the same exactly where their bytes are.
+use mathlib.Core.Path.{_≡_, ap, refl, sym, ap₂, _∙_, subst}
+use lib.Dec.{T, eqb→eq, eqb-refl}
+use Rattle.booleans.specs.Laws.{both, join-and}
 use Rattle.table.specs.Trees.{Forest, nil, _▸_, node, Tree}
-use Rattle.evaluate.specs.Evaluate.{limit}
+use Rattle.table.specs.Questions.{listed}
+use Rattle.table.specs.Table.{encode, decode}
+use Rattle.table.specs.Laws.NotRefused.{reads-back}
 use Rattle.simplify.specs.Nodes.{Number, Plain, Symbol, Limit, Unlimited, AtMost, Kind, Block, Sequence, Choice, Loop, Node}
 use Rattle.simplify.specs.Same.{sameNumber, sameLimit, sameKind, same, sameIn}
 
@@ -46,8 +48,6 @@ at k l = record { kind = k; limit = l }
 pub node-is : (n : Node) (k : Kind) (l : Limit) → n .kind ≡ k → n .limit ≡ l → n ≡ at k l
 node-is n k l p q = ap₂ at p q
 
--- ---- rule 8
-
 mutual
   unfolding same
 
@@ -62,3 +62,35 @@ mutual
   sameIn-is nil (u ▸ g) h = absurd h
   sameIn-is (t ▸ f) nil h = absurd h
   sameIn-is (t ▸ f) (u ▸ g) h = let (a, b) = both _ _ h in ap₂ _▸_ (same-is t u a) (sameIn-is f g b)
+
+-- ---- and back
+
+self-number : (m : Number) → T (sameNumber m m)
+unfolding sameNumber
+self-number (Plain n) = eqb-refl n
+self-number (Symbol s) = eqb-refl s
+
+self-limit : (l : Limit) → T (sameLimit l l)
+unfolding sameLimit
+self-limit Unlimited = tt
+self-limit (AtMost k m) = join-and _ _ (eqb-refl k) (self-number m)
+
+self-kind : (k : Kind) → T (sameKind k k)
+unfolding sameKind
+self-kind (Block t) = self-number t
+self-kind Sequence = tt
+self-kind Choice = tt
+self-kind (Loop n) = self-number n
+
+mutual
+  unfolding same
+
+  pub self : (t : Tree) → T (same t t)
+  self (node n f) = join-and _ _ (join-and _ _ (self-kind (n .kind)) (self-limit (n .limit))) (selfIn f)
+
+  selfIn : (f : Forest) → T (sameIn f f)
+  selfIn nil = tt
+  selfIn (t ▸ f) = join-and _ _ (self t) (selfIn f)
+
+pub bytes-same : (t u : Tree) → T (listed t) → T (listed u) → encode t ≡ encode u → T (same t u)
+bytes-same t u l m e = subst (λ w. T (same t w)) (sym (reads-back t l) ∙ ap decode e ∙ reads-back u m) (self t)

@@ -8,7 +8,7 @@ use native.Mathlib.Omega.{arith}
 use lib.Dec.{T, leb→le}
 use Rattle.booleans.specs.Laws.{both, by-cond}
 use Rattle.booleans.specs.Tests.{_and_}
-use Rattle.table.specs.Questions.{arity, Accepted, listed, named, limitInRange}
+use Rattle.table.specs.Questions.{arity, Accepted, listed, limitInRange}
 use Rattle.table.specs.Trees.{Tree, node, Forest, nil, _▸_, size, rest, records}
 use Rattle.table.specs.Laws.Trees.{some-records}
 use Rattle.lists.specs.Streams.{const}

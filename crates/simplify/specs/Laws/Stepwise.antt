@@ -5,6 +5,7 @@ use mathlib.Core.Option.{Option, some, none}
 use Prim.Native.Nat.{ℕ, zero, suc, _≤_}
 use native.Mathlib.Omega.{arith}
 use lib.Dec.{T}
+use Rattle.table.specs.Numbers.{mostRecords}
 use Rattle.table.specs.Trees.{Tree, records}
 use Rattle.table.specs.Questions.{Accepted}
 use Rattle.table.specs.Laws.Trees.{some-records}
@@ -85,3 +86,7 @@ pub steps-end : (n : ℕ) (t : Tree) → T (fits zeros t) → Accepted t → rec
 unfolding steps
 steps-end zero t f a l = absurd (omega (arith, some-records t))
 steps-end (suc n) t f a l = onward-ends n t (steps-end n) f a l _ (step-steps t)
+
+-- so rules stop fitting within 512 steps
+pub steps-end-in : (t : Tree) → T (fits zeros t) → Accepted t → steps mostRecords t .finished ≡ true
+steps-end-in t f a = steps-end mostRecords t f a (a .short)
