@@ -12,7 +12,7 @@ use Rattle.table.specs.Bytes.{le, un}
 use Rattle.table.specs.Table.{flag, numFrom, kindByte, valueNum, kindFrom, loopByte, limitNum, limitFrom, recordBytes, encode, firstNode, childByte, firstOnes, afterOnes, forest, top, decode, formTrees, each}
 use Rattle.table.specs.Checking.{question1, question2, limitCount, recordInRange, question3, question4, question5, question6, question7, firstNo, refusal}
 use Rattle.lists.specs.Streams.{S, const, add, cap, group, shift, merge, next, taken}
-use Rattle.lists.specs.Pairs.{Pair, grown, inFront, tail, pairs}
+use Rattle.lists.specs.Pairs.{Pairs, ever, run, inFront, tail, pairs}
 use Rattle.evaluate.specs.Evaluate.{amount, inner, outward, seen, name, limit, rounds, turns, join, start, list, figure, fits, zeros}
 use Rattle.evaluate.specs.Closed.{stays, closed, isPlain, plainKind, plainLimit, symbolFree, isUnlimited}
 use Rattle.evaluate.specs.ListPairs.{placeOf, turned, place, listPairs}
@@ -59,7 +59,7 @@ pub data Case : Type 0 where
   -- the figure call answers this figure on the tree's table, with 32 zeros
   quotes : Tree → ℕ → Case
   -- the tree's list has these pairs
-  lists : Tree → List Pair → Case
+  lists : Tree → Pairs → Case
   -- simplifying finishes with this tree, after so many steps
   becomes : (original result : Tree) → (count : ℕ) → Case
 
@@ -71,11 +71,11 @@ pub isFigure : ℕ → Quote → Bool
 isFigure x (Quote.Figure y) = eqb x y
 isFigure x (Quote.Refused q) = false
 
-pub samePairs : List Pair → List Pair → Bool
-samePairs [] [] = true
-samePairs [] (q ∷ s) = false
-samePairs (p ∷ r) [] = false
-samePairs (p ∷ r) (q ∷ s) = eqb (p .0) (q .0) and eqb (p .1) (q .1) and samePairs r s
+pub samePairs : Pairs → Pairs → Bool
+samePairs (ever v) (ever w) = eqb v w
+samePairs (ever v) (run w d s) = false
+samePairs (run v c r) (ever w) = false
+samePairs (run v c r) (run w d s) = eqb v w and eqb c d and samePairs r s
 
 pub holds : Case → Bool
 holds (quotes t x) = isFigure x (figureAnswer (encode t) (repeat howManyValues))
@@ -116,8 +116,8 @@ starred =
     -- F
     ∷ quotes (caseE 1) 245
     -- G: the body's list, naming an outer loop, and the loop's
-    ∷ lists (either (block 30 / 1 at 2) (block 20)) ((30, 1) ∷ (20, 0) ∷ [])
-    ∷ lists (loop 3 (either (block 30 / 1 at 2) (block 20)) (block 0)) ((70, 1) ∷ (60, 0) ∷ [])
+    ∷ lists (either (block 30 / 1 at 2) (block 20)) (run 30 1 (ever 20))
+    ∷ lists (loop 3 (either (block 30 / 1 at 2) (block 20)) (block 0)) (run 70 1 (ever 60))
     -- H, and what it would be, were the limited term shared out
     ∷ quotes (loop 2 (either (both (block 5) term) (both (block 4) term)) (block 0)) 29
     ∷ quotes (loop 2 (both (either (block 5) (block 4)) term) (block 0)) 20
@@ -132,7 +132,7 @@ starred =
 
 -- to unfold this is to unfold all that the cases compute with
 unfoldable pub computed : ℕ
-unfolding block symbol _/_at_ sequence both either loop repeat isFigure samePairs holds allHold _and_ _⧺_ size rest around records S const add cap group shift merge next taken amount inner outward seen name limit rounds turns join start list figure fits arity timeInRange countInRange kindInRange limitInRange listed depth loops nameOk named share weight stays closed isPlain plainKind plainLimit symbolFree sameNumber sameLimit sameKind same isUnlimited isBlock isSum limitOf children relimit leaf bare timeOfKind timeOf when rule1 gives anyGives giveWay rule2 alone rule3 rule4 isZero anyZero without rule5 bares others total largest rule6 atFirst rule7 isPair headOf tailOf firstOf secondOf allPairs firsts shares sharedOut rule8 exit rule9 orElse also rule inside step isNone onward steps le un flag numFrom kindByte valueNum kindFrom loopByte limitNum limitFrom recordBytes encode firstNode childByte firstOnes afterOnes forest top decode formTrees each limitCount recordInRange firstNo question1 question2 question3 question4 question5 question6 question7 refusal placeOf turned place grown inFront tail pairs listPairs ceiling ranged question9 quoteOf figureAnswer
+unfolding block symbol _/_at_ sequence both either loop repeat isFigure samePairs holds allHold _and_ _⧺_ size rest around records S const add cap group shift merge next taken amount inner outward seen name limit rounds turns join start list figure fits arity timeInRange countInRange kindInRange limitInRange listed depth loops nameOk named share weight stays closed isPlain plainKind plainLimit symbolFree sameNumber sameLimit sameKind same isUnlimited isBlock isSum limitOf children relimit leaf bare timeOfKind timeOf when rule1 gives anyGives giveWay rule2 alone rule3 rule4 isZero anyZero without rule5 bares others total largest rule6 atFirst rule7 isPair headOf tailOf firstOf secondOf allPairs firsts shares sharedOut rule8 exit rule9 orElse also rule inside step isNone onward steps le un flag numFrom kindByte valueNum kindFrom loopByte limitNum limitFrom recordBytes encode firstNode childByte firstOnes afterOnes forest top decode formTrees each limitCount recordInRange firstNo question1 question2 question3 question4 question5 question6 question7 refusal placeOf turned place inFront tail pairs listPairs ceiling ranged question9 quoteOf figureAnswer
 computed = 0
 
 pub starred-hold : allHold starred ≡ true

@@ -1,11 +1,10 @@
 -- Document 01, "Evaluation": the pairs of value and count that the list call writes.
 use mathlib.Core.Bool.{cond}
-use mathlib.Core.List.{List}
 use Prim.Native.Nat.{ℕ, _+_}
 use lib.Dec.{leb}
 use Rattle.evaluate.specs.Nodes.{Limit, Unlimited, AtMost, Kind, Block, Sequence, Choice, Loop}
 use Rattle.table.specs.Trees.{Tree, node, Forest, nil, _▸_, rest}
-use Rattle.lists.specs.Pairs.{Pair, pairs}
+use Rattle.lists.specs.Pairs.{Pairs, pairs}
 use Rattle.evaluate.specs.Evaluate.{Values, amount, name, list}
 
 -- a place from which a tree's list is constant: how far to look for pairs
@@ -27,6 +26,6 @@ unfoldable mutual
   placeIn v k nil = 0
   placeIn v k (t ▸ f) = turned k (name t) (place v t) + placeIn v (rest k) f
 
--- what the list call writes
-unfoldable pub listPairs : Values → Tree → List Pair
+-- the pairs of a tree's list
+unfoldable pub listPairs : Values → Tree → Pairs
 listPairs v t = pairs (list v t) (place v t)
