@@ -5,3 +5,8 @@ pub mod MergeLaws
 pub mod Falls
 pub mod Settled
 pub mod Pairs
+pub mod Expand
+pub mod Cap
+pub mod Add
+pub mod Union
+pub mod Group
