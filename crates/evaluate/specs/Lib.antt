@@ -4,5 +4,6 @@ pub mod Evaluate
 pub mod Closed
 pub mod Runs
 pub mod ListPairs
+pub mod Evaluator
 -- What is proved of them.
 pub mod Laws

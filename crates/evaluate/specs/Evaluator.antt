@@ -1,0 +1,97 @@
+-- The evaluation of a table's tree as the program does it: one walk, on bytes, with lists as pairs.
+-- It is total, and meant where questions 1 to 7 and 9 say yes: Laws/Evaluator says what it then finds. Elsewhere its tests keep every number in range.
+use mathlib.Core.Bool.{Bool, true, false, cond}
+use mathlib.Core.List.{List}
+use Prim.Native.Nat.{ℕ, zero, suc, _+_, _*_, min}
+use lib.Dec.{leb}
+use lib.ListN.{drop, length}
+use Rattle.table.specs.Numbers.{recordLength, wholeRun, mostTime, mostCount, mostWeight}
+use Rattle.table.specs.Trees.{rest}
+use Rattle.table.specs.Table.{firstNode, childByte}
+use Rattle.lists.specs.Pairs.{Pairs, ever, top, width}
+use Rattle.lists.specs.Operations.{addPairs, mergePairs, groupPairs, capPairs}
+use Rattle.lists.specs.Laws.Expand.{first}
+use Rattle.evaluate.specs.Nodes.{Limit, Unlimited, AtMost, Kind, Block, Sequence, Choice, Loop}
+use Rattle.evaluate.specs.Evaluate.{Values, amount, outward}
+
+-- what a walk finds of a tree, or of a node's children so far: the pairs of the list, the loop it names, how many records, and whether question 10 says yes
+pub record Found : Type 0 where
+  pub pairs : Pairs
+  pub named : ℕ
+  pub records : ℕ
+  pub fits : Bool
+
+-- where question 10 says no, nothing else is found
+abbrev pub unfit : Found
+unfit = record { pairs = ever 0; named = wholeRun; records = 0; fits = false }
+
+abbrev pub found : Pairs → (named records : ℕ) → Found
+found p k n = record { pairs = p; named = k; records = n; fits = true }
+
+-- pairs whose first value is within the ceiling of question 10
+abbrev pub checked : Pairs → (named records : ℕ) → Found
+checked p k n = cond (leb (top p) mostTime) (found p k n) unfit
+
+-- a choice takes the lists' members together; the others are added
+unfoldable pub joinPairs : Kind → Pairs → Pairs → Pairs
+joinPairs (Block t) r s = addPairs r s
+joinPairs Sequence r s = addPairs r s
+joinPairs Choice r s = mergePairs r s
+joinPairs (Loop n) r s = addPairs r s
+
+-- the children so far, and the next one
+unfoldable pub joined : Kind → Found → Found → Found
+joined k s c =
+    cond (leb (width (s .pairs) + width (c .pairs)) mostWeight)
+    (checked (joinPairs k (s .pairs) (c .pairs)) (min (s .named) (c .named)) (s .records + c .records))
+    unfit
+
+-- a loop of bound n over its body: the first sum where the body names this very loop, else groups of n
+unfoldable pub looped : ℕ → Found → Found
+looped n c =
+    cond (leb n mostCount)
+    (cond (leb (c .named) 1) (checked (ever (first (c .pairs) n)) (outward (c .named)) (c .records))
+    (cond (leb (2 * width (c .pairs)) mostWeight) (checked (groupPairs n (c .pairs)) (outward (c .named)) (c .records)) unfit))
+    unfit
+
+-- the first child, as its parent takes it
+unfoldable pub goneRound : Values → Kind → Found → Found
+goneRound v (Block t) c = c
+goneRound v Sequence c = c
+goneRound v Choice c = c
+goneRound v (Loop n) c = looped (amount v n) c
+
+-- one after the other, where the first fits
+abbrev pub andThen : Found → (Found → Found) → Found
+andThen c f = cond (c .fits) (f c) unfit
+
+-- n more children of a node of kind k, after those of s; f evaluates a tree by the bytes from its record on. What does not fit ends the walk.
+unfoldable pub evaluateMore : Values → (List ℕ → Found) → Kind → ℕ → List ℕ → Found → Found
+evaluateMore v f k zero b s = s
+evaluateMore v f k (suc n) b s =
+    andThen (f (drop (recordLength * s .records) b)) (λ c.
+    andThen (goneRound v k c) (λ d.
+    andThen (joined k s d) (λ e. evaluateMore v f (rest k) n b e)))
+
+-- a node of this kind and its children, before its own limit; a block has none
+unfoldable pub evaluateBelow : Values → (List ℕ → Found) → Kind → ℕ → List ℕ → Found
+evaluateBelow v f (Block t) n b = checked (ever (amount v t)) wholeRun 0
+evaluateBelow v f Sequence n b = evaluateMore v f Sequence n b (found (ever 0) wholeRun 0)
+evaluateBelow v f Choice n b = evaluateMore v f Choice n b (found (ever 0) wholeRun 0)
+evaluateBelow v f (Loop m) n b = evaluateMore v f (Loop m) n b (found (ever 0) wholeRun 0)
+
+-- the node's own limit, and its record
+unfoldable pub limited : Values → Limit → Found → Found
+limited v Unlimited s = found (s .pairs) (s .named) (suc (s .records))
+limited v (AtMost k m) s =
+    cond (leb (amount v m) mostCount)
+    (cond (leb (suc (width (s .pairs))) mostWeight) (found (capPairs (amount v m) (s .pairs)) (min k (s .named)) (suc (s .records))) unfit)
+    unfit
+
+-- the node of b's first record with everything below it, at most h nodes deep
+unfoldable pub evaluateNode : Values → (h : ℕ) → List ℕ → Found
+evaluateNode v zero b = unfit
+evaluateNode v (suc h) b =
+    cond (leb recordLength (length b))
+    (andThen (evaluateBelow v (evaluateNode v h) (firstNode b .kind) (childByte b) (drop recordLength b)) (limited v (firstNode b .limit)))
+    unfit
