@@ -5,3 +5,4 @@ pub mod RoundTrip
 pub mod Canonical
 pub mod Accepted
 pub mod NotRefused
+pub mod Reading

@@ -1,4 +1,32 @@
-// The node of a tree table, as document 01 lists it: a record without its number of children.
+// The reader of tree tables: the node of a record, and questions 1 to 4 of document 01.
+ghost use mathlib.Core.Path.{_≡_};
+ghost use Prim.Native.Nat.{_+_, _*_, _^_, _<_, _≤_};
+ghost use lib.ListN.{length};
+ghost use Rattle.table.specs.Numbers.{recordLength, mostRecords};
+ghost use Rattle.table.specs.Table.{field, numFrom, kindFrom, limitFrom, firstNode, childByte};
+ghost use Rattle.table.specs.Questions.{timeInRange, countInRange, kindInRange};
+ghost use Rattle.table.specs.Checking.{kindListed, limitListed, recordListed, limitCount, recordInRange};
+ghost use Rattle.table.specs.Checking.{question1, question2, question3, question4};
+
+// ---- Numbers, as in specs/Numbers.antt
+
+pub const RECORD_LENGTH: usize = 16;
+
+pub const MOST_RECORDS: usize = 512;
+
+pub const HOW_MANY_VALUES: u64 = 32;
+
+pub const FIRST_TIME_SYMBOL: u64 = 16;
+
+pub const MOST_TIME: u64 = 1_000_000_000_000;
+
+pub const MOST_COUNT: u64 = 1_000_000;
+
+pub const WHOLE_RUN: u8 = 255;
+
+pub const MOST_LOOPS: u8 = 8;
+
+// ---- The node: a record without its number of children
 
 // A time, bound or limit: a plain number, or a symbol by its number.
 pub enum Number {
@@ -23,4 +51,239 @@ pub enum Kind {
 pub struct Node {
     pub kind: Kind,
     pub limit: Limit,
+}
+
+// ---- Fields
+
+// A byte as a wider number.
+fn widen(x: u8) -> usize
+    ensures { λ r. ⌜ (r ≡ x) × (r < 256) ⌝ }
+{
+    x as usize
+}
+
+// The number that four bytes write, lowest first.
+fn four_bytes(b0: u8, b1: u8, b2: u8, b3: u8) -> u64
+    ensures { λ r. ⌜ (r ≡ b0 + 256 * (b1 + 256 * (b2 + 256 * b3))) × (r < 2 ^ 32) ⌝ }
+{
+    (b0 as u64) + 256 * ((b1 as u64) + 256 * ((b2 as u64) + 256 * (b3 as u64)))
+}
+
+// The field of four bytes that starts at `at`.
+pub fn read_u32(b: &[u8], at: usize) -> u64
+    requires { ⌜ at + 4 ≤ length (now b) ⌝ }
+    ensures { λ r. ⌜ (r ≡ field (now (b .entry)) at 4) × (r < 2 ^ 32) ⌝ }
+{
+    four_bytes(b[at], b[at + 1], b[at + 2], b[at + 3])
+}
+
+// The field of eight bytes that starts at `at`.
+pub fn read_u64(b: &[u8], at: usize) -> u64
+    requires { ⌜ at + 8 ≤ length (now b) ⌝ }
+    ensures { λ r. ⌜ r ≡ field (now (b .entry)) at 8 ⌝ }
+{
+    read_u32(b, at) + 4294967296 * read_u32(b, at + 4)
+}
+
+// ---- The node of a record
+
+// A field with its flag, which is 0 for a plain number.
+fn number_from(flag: u8, x: u64) -> Number
+    ensures { λ r. ⌜ r ≡ numFrom flag x ⌝ }
+{
+    if flag == 0 {
+        Number::Plain(x)
+    } else {
+        Number::Symbol(x)
+    }
+}
+
+// The kind by byte 0, with the value that a block or a loop has.
+fn kind_from(byte: u8, value: Number) -> Kind
+    ensures { λ r. ⌜ r ≡ kindFrom byte value ⌝ }
+{
+    match byte {
+        0 => Kind::Block(value),
+        1 => Kind::Sequence,
+        2 => Kind::Choice,
+        _ => Kind::Loop(value),
+    }
+}
+
+// The limit by byte 3, with its number.
+fn limit_from(byte: u8, most: Number) -> Limit
+    ensures { λ r. ⌜ r ≡ limitFrom byte most ⌝ }
+{
+    if byte == 0 {
+        Limit::Unlimited
+    } else {
+        Limit::AtMost(byte, most)
+    }
+}
+
+// The node of the record at the front of `b`, the part of the table that starts there.
+pub fn read_node(b: &[u8]) -> Node
+    requires { ⌜ recordLength ≤ length (now b) ⌝ }
+    ensures { λ r. ⌜ r ≡ firstNode (now (b .entry)) ⌝ }
+{
+    let flags = b[1];
+    let value = number_from(flags % 2, read_u64(b, 8));
+    let most = number_from(flags / 2, read_u32(b, 4));
+    let kind = kind_from(b[0], value);
+    let limit = limit_from(b[3], most);
+    Node {
+        kind: kind,
+        limit: limit,
+    }
+}
+
+// How many children the record at the front of `b` announces.
+pub fn child_count(b: &[u8]) -> usize
+    requires { ⌜ recordLength ≤ length (now b) ⌝ }
+    ensures { λ r. ⌜ (r ≡ childByte (now (b .entry))) × (r < 256) ⌝ }
+{
+    widen(b[2])
+}
+
+// ---- Question 1
+
+// Is the length a multiple of the record's, from one record to the most?
+pub fn length_allowed(table: &[u8]) -> bool
+    ensures { λ r. ⌜ r ≡ question1 (now (table .entry)) ⌝ }
+{
+    let n = table.len();
+    (n % RECORD_LENGTH == 0) & (RECORD_LENGTH <= n) & (n <= RECORD_LENGTH * MOST_RECORDS)
+}
+
+// ---- Question 2
+
+fn kind_listed(kind: u8, children: u8, flag: u8, value: u64) -> bool
+    ensures { λ r. ⌜ r ≡ kindListed kind children flag value ⌝ }
+{
+    (kind == 0) & (children == 0)
+        | (kind == 3) & (children == 2)
+        | ((kind == 1) | (kind == 2)) & (1 <= children) & (flag == 0) & (value == 0)
+}
+
+fn limit_listed(named: u8, flag: u8, most: u64) -> bool
+    ensures { λ r. ⌜ r ≡ limitListed named flag most ⌝ }
+{
+    (1 <= named) & (named <= MOST_LOOPS)
+        | (named == WHOLE_RUN)
+        | (named == 0) & (flag == 0) & (most == 0)
+}
+
+// Are the fields of the record at the front of `b` as listed?
+fn record_listed(b: &[u8]) -> bool
+    requires { ⌜ recordLength ≤ length (now b) ⌝ }
+    ensures { λ r. ⌜ r ≡ recordListed (now (b .entry)) ⌝ }
+{
+    let flags = b[1];
+    let kind = kind_listed(b[0], b[2], flags % 2, read_u64(b, 8));
+    let limit = limit_listed(b[3], flags / 2, read_u32(b, 4));
+    kind & limit & (flags < 4)
+}
+
+// Are the fields of every record as listed?
+pub fn records_listed(table: &[u8]) -> bool
+    ensures { λ r. ⌜ r ≡ question2 (now (table .entry)) ⌝ }
+{
+    let n = table.len() / RECORD_LENGTH;
+    let mut i: usize = 0;
+    while i < n {
+        let at = RECORD_LENGTH * i;
+        if !record_listed(&table[at..]) {
+            return false;
+        }
+        i += 1;
+    }
+    true
+}
+
+// ---- Question 3
+
+fn time_in_range(time: Number) -> bool
+    ensures { λ r. ⌜ r ≡ timeInRange time ⌝ }
+{
+    match time {
+        Number::Plain(n) => n <= MOST_TIME,
+        Number::Symbol(s) => (FIRST_TIME_SYMBOL <= s) & (s < HOW_MANY_VALUES),
+    }
+}
+
+fn count_in_range(count: Number) -> bool
+    ensures { λ r. ⌜ r ≡ countInRange count ⌝ }
+{
+    match count {
+        Number::Plain(n) => n <= MOST_COUNT,
+        Number::Symbol(s) => s < FIRST_TIME_SYMBOL,
+    }
+}
+
+fn kind_in_range(kind: Kind) -> bool
+    ensures { λ r. ⌜ r ≡ kindInRange kind ⌝ }
+{
+    match kind {
+        Kind::Block(time) => time_in_range(time),
+        Kind::Sequence => true,
+        Kind::Choice => true,
+        Kind::Loop(bound) => count_in_range(bound),
+    }
+}
+
+fn limit_in_range(limit: Limit) -> bool
+    ensures { λ r. ⌜ r ≡ limitCount limit ⌝ }
+{
+    match limit {
+        Limit::Unlimited => true,
+        Limit::AtMost(_, most) => count_in_range(most),
+    }
+}
+
+// Are the numbers of the record at the front of `b` in range?
+fn record_in_range(b: &[u8]) -> bool
+    requires { ⌜ recordLength ≤ length (now b) ⌝ }
+    ensures { λ r. ⌜ r ≡ recordInRange (now (b .entry)) ⌝ }
+{
+    let node = read_node(b);
+    let kind = node.kind;
+    let limit = node.limit;
+    kind_in_range(kind) & limit_in_range(limit)
+}
+
+// Are the numbers of every record in range?
+pub fn records_in_range(table: &[u8]) -> bool
+    ensures { λ r. ⌜ r ≡ question3 (now (table .entry)) ⌝ }
+{
+    let n = table.len() / RECORD_LENGTH;
+    let mut i: usize = 0;
+    while i < n {
+        let at = RECORD_LENGTH * i;
+        if !record_in_range(&table[at..]) {
+            return false;
+        }
+        i += 1;
+    }
+    true
+}
+
+// ---- Question 4
+
+// Do the records form exactly one tree? Each takes the place of one wanted tree and wants its children.
+pub fn one_tree(table: &[u8]) -> bool
+    requires { ⌜ length (now table) ≤ recordLength * mostRecords ⌝ }
+    ensures { λ r. ⌜ r ≡ question4 (now (table .entry)) ⌝ }
+{
+    let n = table.len() / RECORD_LENGTH;
+    let mut wanted: usize = 1;
+    let mut i: usize = 0;
+    while i < n {
+        if wanted == 0 {
+            return false;
+        }
+        let at = RECORD_LENGTH * i;
+        wanted = wanted - 1 + child_count(&table[at..]);
+        i += 1;
+    }
+    wanted == 0
 }
