@@ -9,10 +9,11 @@ use lib.ListN.{getD, drop, length}
 use borrow.Author.Tests.{ne-eqb}
 use Rattle.booleans.specs.Tests.{_and_}
 use Rattle.booleans.specs.Laws.{join-and, two, left, both}
+use Rattle.table.specs.Numbers.{recordLength, mostRecords, mostChildren, wholeRun, mostLoops}
 use Rattle.table.specs.Trees.{Forest, nil, _▸_, size, records}
-use Rattle.table.specs.Questions.{arity, limitInRange, kindInRange, listed, listedIn, Accepted, named}
+use Rattle.table.specs.Questions.{arity, limitInRange, kindInRange, listed, listedIn, Accepted}
 use Rattle.table.specs.Bytes.{AreBytes}
-use Rattle.table.specs.Table.{numFrom, kindFrom, limitFrom, firstNode, childByte, field, firstOnes, afterOnes, forest, formTrees, each, top, decode, encode}
+use Rattle.table.specs.Table.{numFrom, kindFrom, limitFrom, firstNode, childByte, field, firstOnes, afterOnes, forest, formTrees, each, top, decode, encode, recordCount}
 use Rattle.table.specs.Checking.{kindListed, limitListed, limitCount, recordListed, recordInRange, firstNo, question1, question2, question3, question4, question5, question6, question7, questions, refusal}
 use Rattle.table.specs.Laws.RoundTrip.{size-first, size-after, length-encode}
 use Rattle.table.specs.Laws.Canonical.{bytes-drop, encode-decode}
@@ -20,8 +21,8 @@ use Rattle.table.specs.Laws.Canonical.{bytes-drop, encode-decode}
 kind-arity : (k c s v : ℕ) → c < 256 → T (kindListed k c s v) → T (arity (kindFrom k (numFrom s v)) c)
 unfolding arity kindFrom
 kind-arity zero c s v l t = left (eqb c 0) (left (eqb c 0 || false) t)
-kind-arity (suc zero) c s v l t = let q = two (leb 1 c && eqb s 0) _ t in join-and _ _ (two (leb 1 c) _ (q .0) .0) (le→leb c 255 (omega arith))
-kind-arity (suc (suc zero)) c s v l t = let q = two (leb 1 c && eqb s 0) _ t in join-and _ _ (two (leb 1 c) _ (q .0) .0) (le→leb c 255 (omega arith))
+kind-arity (suc zero) c s v l t = let q = two (leb 1 c && eqb s 0) _ t in join-and _ _ (two (leb 1 c) _ (q .0) .0) (le→leb c mostChildren (omega arith))
+kind-arity (suc (suc zero)) c s v l t = let q = two (leb 1 c && eqb s 0) _ t in join-and _ _ (two (leb 1 c) _ (q .0) .0) (le→leb c mostChildren (omega arith))
 kind-arity (suc (suc (suc zero))) c s v l t = left (eqb c 2) t
 kind-arity (suc (suc (suc (suc k)))) c s v l t =
     absurd (simp (ne-eqb (suc (suc (suc (suc k)))) 0 (omega arith), ne-eqb (suc (suc (suc (suc k)))) 1 (omega arith), ne-eqb (suc (suc (suc (suc k)))) 2 (omega arith), ne-eqb (suc (suc (suc (suc k)))) 3 (omega arith)) at t)
@@ -29,7 +30,7 @@ kind-arity (suc (suc (suc (suc k)))) c s v l t =
 limit-ranged : (k s m : ℕ) → T (limitListed k s m) → T (limitCount (limitFrom k (numFrom s m))) → T (limitInRange (limitFrom k (numFrom s m)))
 unfolding limitCount limitInRange limitFrom
 limit-ranged zero s m t c = tt
-limit-ranged (suc k) s m t c = join-and _ _ (go (leb 1 (suc k)) (leb (suc k) 8) (eqb (suc k) 255) (eqb (suc k) 0) (ne-eqb (suc k) 0 (omega arith)) t) c
+limit-ranged (suc k) s m t c = join-and _ _ (go (leb 1 (suc k)) (leb (suc k) mostLoops) (eqb (suc k) wholeRun) (eqb (suc k) 0) (ne-eqb (suc k) 0 (omega arith)) t) c
   where
     go : (a b d e : Bool) → e ≡ false → T ((a && b) || d || (e && eqb s 0 && eqb m 0)) → T ((a and b) || d)
     go a b d true q t = absurd (subst T q tt)
@@ -69,8 +70,8 @@ forest-listed (suc n) zero b h l r t = absurd t
 forest-listed (suc n) (suc k) b h l r t =
     let p = both _ _ l in
     let q = both _ _ r in
-    let ih = forest-listed n (k + childByte b) (drop 16 b) (bytes-drop b 16 h) (p .1) (q .1) t in
-    let f = forest n (drop 16 b) in
+    let ih = forest-listed n (k + childByte b) (drop recordLength b) (bytes-drop b recordLength h) (p .1) (q .1) t in
+    let f = forest n (drop recordLength b) in
     let s : size (firstOnes (childByte b) f) ≡ childByte b = size-first (childByte b) f (omega arith) in
     let (x, y, z) = record-ok b h (p .0) (q .0) in (
       join-and _ _ (join-and _ _ (join-and _ _ (join-and _ _ x y) (rw s z)) (first-listed (childByte b) f (ih .0))) (after-listed (childByte b) f (ih .0)),
@@ -82,7 +83,7 @@ unfolding listed top size
 top-listed nil e h = absurd (omega arith)
 top-listed (t ▸ f) e h = both _ _ h .0
 
-decode-listed : (b : List ℕ) → size (forest (length b / 16) b) ≡ 1 → T (listedIn (forest (length b / 16) b)) → T (listed (decode b))
+decode-listed : (b : List ℕ) → size (forest (recordCount b) b) ≡ 1 → T (listedIn (forest (recordCount b) b)) → T (listed (decode b))
 unfolding decode
 decode-listed b e h = top-listed _ e h
 
@@ -115,13 +116,13 @@ is-table b h e =
     let l = both _ _ (y .0) in
     let m = both _ _ (l .0) in
     let d = both _ _ (y .1 .1 .1 .1 .0) in
-    let w = eqb→eq (length b % 16) 0 (m .0) in
+    let w = eqb→eq (length b % recordLength) 0 (m .0) in
     let k = encode-decode b h w (y .1 .0) (y .1 .1 .1 .0) in
-    let f = forest-listed (length b / 16) 1 b h (y .1 .0) (y .1 .1 .0) (y .1 .1 .1 .0) in
-    let g : 16 * records (decode b) ≡ length b = sym (length-encode (decode b)) ∙ ap length k in
+    let f = forest-listed (recordCount b) 1 b h (y .1 .0) (y .1 .1 .0) (y .1 .1 .1 .0) in
+    let g : recordLength * records (decode b) ≡ length b = sym (length-encode (decode b)) ∙ ap length k in
     record {
       accepted = record {
-        short = omega (arith, leb→le (length b) 8192 (l .1));
+        short = omega (arith, leb→le (length b) (recordLength * mostRecords) (l .1));
         listed = decode-listed b (f .1) (f .0);
         deep = leb→le _ _ (d .0);
         nested = leb→le _ _ (d .1);

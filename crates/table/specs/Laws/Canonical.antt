@@ -9,9 +9,10 @@ use lib.ListN.{take, drop, length, length-drop, getD}
 use lib.Seq.{take-add, getD-drop, length-take-le, take-length}
 use borrow.Author.Tests.{ne-eqb}
 use Rattle.booleans.specs.Laws.{two, both}
+use Rattle.table.specs.Numbers.{recordLength}
 use Rattle.table.specs.Trees.{size, Forest, nil, _▸_}
 use Rattle.table.specs.Bytes.{AreBytes, le, un}
-use Rattle.table.specs.Table.{recordBytes, firstNode, childByte, encodes, firstOnes, forest, formTrees, flag, numFrom, raw, kindByte, valueNum, kindFrom, loopByte, limitNum, limitFrom, field, each, encode, top, decode}
+use Rattle.table.specs.Table.{recordBytes, firstNode, childByte, encodes, firstOnes, forest, formTrees, flag, numFrom, raw, kindByte, valueNum, kindFrom, loopByte, limitNum, limitFrom, field, each, encode, top, decode, recordCount}
 use Rattle.table.specs.Checking.{kindListed, limitListed, recordListed}
 use Rattle.table.specs.Laws.Bytes.{le-un}
 use Rattle.table.specs.Laws.RoundTrip.{size-first, size-after, encodes-split}
@@ -20,23 +21,23 @@ use Rattle.table.specs.Laws.RoundTrip.{size-first, size-after, encodes-s
 
 -- a record that says what it holds in one way only
 abbrev pub OneWay : List ℕ → Type 0
-OneWay b = recordBytes (firstNode b) (childByte b) ≡ take 16 b
+OneWay b = recordBytes (firstNode b) (childByte b) ≡ take recordLength b
 
 unfoldable pub OneWayAll : ℕ → List ℕ → Type 0
 OneWayAll zero b = Unit {0}
-OneWayAll (suc n) b = OneWay b × OneWayAll n (drop 16 b)
+OneWayAll (suc n) b = OneWay b × OneWayAll n (drop recordLength b)
 
-pub encodes-forest : (n k : ℕ) (b : List ℕ) → OneWayAll n b → T (formTrees n k b) → (size (forest n b) ≡ k) × (encodes (forest n b) ≡ take (16 * n) b)
+pub encodes-forest : (n k : ℕ) (b : List ℕ) → OneWayAll n b → T (formTrees n k b) → (size (forest n b) ≡ k) × (encodes (forest n b) ≡ take (recordLength * n) b)
 unfolding OneWayAll formTrees forest encodes size
 encodes-forest zero k b h t = (sym (eqb→eq k 0 t), refl)
 encodes-forest (suc n) zero b h t = absurd t
 encodes-forest (suc n) (suc k) b h t =
-    let f = forest n (drop 16 b) in
+    let f = forest n (drop recordLength b) in
     let c = childByte b in
-    let ih = encodes-forest n (k + c) (drop 16 b) (h .1) t in
+    let ih = encodes-forest n (k + c) (drop recordLength b) (h .1) t in
     let s : size (firstOnes c f) ≡ c = size-first c f (omega arith) in
     let a = size-after c f in
-    let m : 16 * suc n ≡ 16 + 16 * n = omega arith in
+    let m : recordLength * suc n ≡ recordLength + recordLength * n = omega arith in
     (omega arith, rw (s, append-assoc, encodes-split c f, ih .1, h .0, m, take-add) refl)
 
 flag-num : (s x : ℕ) → s < 2 → flag (numFrom s x) ≡ s
@@ -88,10 +89,10 @@ take-four (x ∷ y ∷ []) h = absurd (omega arith)
 take-four (x ∷ y ∷ z ∷ []) h = absurd (omega arith)
 take-four (x ∷ y ∷ z ∷ w ∷ r) h = refl
 
-take-record : (b : List ℕ) → take 16 b ≡ take 4 b ++ take 4 (drop 4 b) ++ take 8 (drop 8 b)
+take-record : (b : List ℕ) → take recordLength b ≡ take 4 b ++ take 4 (drop 4 b) ++ take 8 (drop 8 b)
 take-record b = take-add 8 8 b ∙ ap (λ x. x ++ take 8 (drop 8 b)) (take-add 4 4 b)
 
-pub plain-listed : (b : List ℕ) → AreBytes b → 16 ≤ length b → T (recordListed b) → OneWay b
+pub plain-listed : (b : List ℕ) → AreBytes b → recordLength ≤ length b → T (recordListed b) → OneWay b
 unfolding recordBytes firstNode childByte
 plain-listed b h l t =
     let S = kindListed (getD b 0 0) (getD b 2 0) (getD b 1 0 % 2) (field b 8 8) in
@@ -104,12 +105,12 @@ plain-listed b h l t =
     let g : getD b 1 0 % 2 + 2 * (getD b 1 0 / 2) ≡ getD b 1 0 = omega arith in
     rw (k .0, k .1, k .2, m .0, m .1, m .2, g, le-field b 4 4 h (omega arith), le-field b 8 8 h (omega arith), take-record b, take-four b (omega arith))
 
-pub plain-all : (n : ℕ) (b : List ℕ) → AreBytes b → 16 * n ≤ length b → T (each recordListed n b) → OneWayAll n b
+pub plain-all : (n : ℕ) (b : List ℕ) → AreBytes b → recordLength * n ≤ length b → T (each recordListed n b) → OneWayAll n b
 unfolding OneWayAll each
 plain-all zero b h l t = tt
 plain-all (suc n) b h l t =
     let q = both _ _ t in
-    (plain-listed b h (omega arith) (q .0), plain-all n (drop 16 b) (bytes-drop b 16 h) (rw length-drop (omega arith)) (q .1))
+    (plain-listed b h (omega arith) (q .0), plain-all n (drop recordLength b) (bytes-drop b recordLength h) (rw length-drop (omega arith)) (q .1))
 
 encode-top : (f : Forest) → size f ≡ 1 → encode (top f) ≡ encodes f
 unfolding top size encode
@@ -117,9 +118,9 @@ encode-top nil e = absurd (omega arith)
 encode-top (t ▸ nil) e = sym (append-nil (encode t))
 encode-top (t ▸ u ▸ f) e = absurd (omega arith)
 
-pub encode-decode : (b : List ℕ) → AreBytes b → length b % 16 ≡ 0 → T (each recordListed (length b / 16) b) → T (formTrees (length b / 16) 1 b) → encode (decode b) ≡ b
+pub encode-decode : (b : List ℕ) → AreBytes b → length b % recordLength ≡ 0 → T (each recordListed (recordCount b) b) → T (formTrees (recordCount b) 1 b) → encode (decode b) ≡ b
 unfolding decode
 encode-decode b h l q t =
-    let r = encodes-forest (length b / 16) 1 b (plain-all _ b h (omega arith) q) t in
-    let w : 16 * (length b / 16) ≡ length b = omega arith in
+    let r = encodes-forest (recordCount b) 1 b (plain-all _ b h (omega arith) q) t in
+    let w : recordLength * (recordCount b) ≡ length b = omega arith in
     encode-top _ (r .0) ∙ r .1 ∙ rw w (take-length b)

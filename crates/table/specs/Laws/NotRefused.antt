@@ -10,11 +10,11 @@ use lib.ListN.{length}
 use Rattle.table.specs.Nodes.{Number, Plain, Symbol, Kind, Block, Sequence, Choice, Loop, Limit, Unlimited, AtMost, Node}
 use Rattle.booleans.specs.Tests.{_and_}
 use Rattle.booleans.specs.Laws.{both, lft, both-and, join-and}
-use Rattle.table.specs.Numbers.{mostChildren, wholeRun, mostLoops, mostDepth, mostWeight}
+use Rattle.table.specs.Numbers.{mostChildren, wholeRun, mostLoops, mostDepth, mostWeight, recordLength, mostRecords, mostTime, mostCount, firstTimeSymbol, howManyValues}
 use Rattle.table.specs.Trees.{Tree, node, Forest, nil, _▸_, size, records, recordsIn}
 use Rattle.table.specs.Questions.{timeInRange, countInRange, kindInRange, limitInRange, listed, listedIn, arity, depth, loops, named, weight, Accepted}
 use Rattle.table.specs.Bytes.{le, un}
-use Rattle.table.specs.Table.{raw, flag, kindByte, valueNum, loopByte, limitNum, recordBytes, each, encode, encodes, formTrees, decode}
+use Rattle.table.specs.Table.{raw, flag, kindByte, valueNum, loopByte, limitNum, recordBytes, each, encode, encodes, formTrees, decode, recordCount}
 use Rattle.table.specs.Checking.{kindListed, limitListed, recordListed, limitCount, recordInRange, question1, question2, question3, question4, question5, question6, question7, questions, refusal}
 use Rattle.table.specs.Laws.Trees.{some-records}
 use Rattle.table.specs.Laws.RoundTrip.{WritesKind, WritesLimit, WritesNode, Writes, WritesAll, flag-low, flag-high, kind-value, limit-most, head-bytes, drop-bytes, children-bytes, decode-encode, length-encode}
@@ -24,13 +24,13 @@ use Rattle.table.specs.Laws.Accepted.{Yes, yes-all}
 
 time-writes : (v : Number) → T (timeInRange v) → raw v < 256 ^ 8
 unfolding timeInRange
-time-writes (Plain n) t = omega (arith, leb→le n 1_000_000_000_000 t)
-time-writes (Symbol n) t = omega (arith, ltb→lt n 32 (both _ _ t .1))
+time-writes (Plain n) t = omega (arith, leb→le n mostTime t)
+time-writes (Symbol n) t = omega (arith, ltb→lt n howManyValues (both _ _ t .1))
 
 count-writes : (v : Number) → T (countInRange v) → (raw v < 256 ^ 4) × (raw v < 256 ^ 8)
 unfolding countInRange
-count-writes (Plain n) t = let l = leb→le n 1_000_000 t in omega arith
-count-writes (Symbol n) t = let l = ltb→lt n 16 t in omega arith
+count-writes (Plain n) t = let l = leb→le n mostCount t in omega arith
+count-writes (Symbol n) t = let l = ltb→lt n firstTimeSymbol t in omega arith
 
 kind-writes : (k : Kind) → T (kindInRange k) → WritesKind k
 unfolding kindInRange WritesKind
@@ -77,8 +77,8 @@ names-ok : (l : Limit) → T (limitInRange l) → T (limitListed (loopByte l) (f
 unfolding limitInRange loopByte limitNum flag
 names-ok Unlimited h = tt
 names-ok (AtMost k m) h =
-    lft ((leb 1 k && leb k 8) || eqb k 255) (eqb k 0 && eqb (flag m) 0 && eqb (raw m) 0)
-    (go (leb 1 k) (leb k 8) (eqb k 255) (both ((leb 1 k and leb k 8) || eqb k 255) (countInRange m) h .0))
+    lft ((leb 1 k && leb k mostLoops) || eqb k wholeRun) (eqb k 0 && eqb (flag m) 0 && eqb (raw m) 0)
+    (go (leb 1 k) (leb k mostLoops) (eqb k wholeRun) (both ((leb 1 k and leb k mostLoops) || eqb k wholeRun) (countInRange m) h .0))
   where
     go : (a b c : Bool) → T ((a and b) || c) → T ((a && b) || c)
     go true true c h = tt
@@ -167,24 +167,24 @@ mutual
 pub reads-back : (t : Tree) → T (listed t) → decode (encode t) ≡ t
 reads-back t l = decode-encode t (tree-writes t l)
 
-count-records : (t : Tree) → length (encode t) / 16 ≡ records t + 0
+count-records : (t : Tree) → recordCount (encode t) ≡ records t + 0
 count-records t = rw length-encode (omega arith)
 
 whole-each : (p : List ℕ → Bool) → ((n : Node) (c : ℕ) (r : List ℕ) → T (kindInRange (n .kind)) → T (limitInRange (n .limit)) → T (arity (n .kind) c) → T (p (recordBytes n c ++ r)))
-    → (t : Tree) → T (listed t) → T (each p (length (encode t) / 16) (encode t))
+    → (t : Tree) → T (listed t) → T (each p (recordCount (encode t)) (encode t))
 whole-each p h t l = rw (count-records t) (rw (← append-nil (encode t)) (each-tree p h t l 0 [] (unfold each in tt)))
 
-whole-form : (t : Tree) → T (formTrees (length (encode t) / 16) 1 (encode t))
+whole-form : (t : Tree) → T (formTrees (recordCount (encode t)) 1 (encode t))
 whole-form t = rw (count-records t) (rw (← append-nil (encode t)) (subst T (sym (form-tree t 0 0 [])) (unfold formTrees in tt)))
 
 pub not-refused : (t : Tree) → Accepted t → refusal (encode t) ≡ 0
 unfolding refusal question1 question2 question3 question4 question5 question6 question7 Yes
 not-refused t a =
     let e = reads-back t (a .listed) in
-    let w : length (encode t) ≡ 16 * records t = length-encode t in
-    let z : length (encode t) % 16 ≡ 0 = omega arith in
-    let o : 16 ≤ length (encode t) = omega (arith, some-records t) in
-    let s : length (encode t) ≤ 8192 = omega (arith, a .short) in
+    let w : length (encode t) ≡ recordLength * records t = length-encode t in
+    let z : length (encode t) % recordLength ≡ 0 = omega arith in
+    let o : recordLength ≤ length (encode t) = omega (arith, some-records t) in
+    let s : length (encode t) ≤ recordLength * mostRecords = omega (arith, a .short) in
     yes-all 1 (questions (encode t)) (
       join-and _ _ (join-and _ _ (subst (λ x. T (eqb x 0)) (sym z) tt) (le→leb _ _ o)) (le→leb _ _ s),
       (

@@ -6,10 +6,11 @@ use native.Mathlib.Nat.{suc-add, zero-add, add-assoc}
 use native.Mathlib.Omega.{arith}
 use lib.ListN.{length, drop, length-append}
 use lib.Seq.{drop-at}
+use Rattle.table.specs.Numbers.{recordLength}
 use Rattle.table.specs.Nodes.{Number, Limit, Unlimited, AtMost, Kind, Block, Sequence, Choice, Loop, Node, Plain, Symbol}
 use Rattle.table.specs.Trees.{Forest, nil, _▸_, _⧺_, size, Tree, node, records, recordsIn}
 use Rattle.table.specs.Bytes.{le, un}
-use Rattle.table.specs.Table.{firstOnes, afterOnes, encodes, raw, flag, numFrom, kindByte, valueNum, kindFrom, loopByte, limitNum, limitFrom, recordBytes, firstNode, childByte, forest, encode, top, decode}
+use Rattle.table.specs.Table.{firstOnes, afterOnes, encodes, raw, flag, numFrom, kindByte, valueNum, kindFrom, loopByte, limitNum, limitFrom, recordBytes, firstNode, childByte, forest, encode, top, decode, recordCount}
 use Rattle.table.specs.Laws.Bytes.{un-le}
 
 -- ---- forests
@@ -107,7 +108,7 @@ head-bytes n c r h = λ i. record {
   limit = head-limit (valueNum (n .kind)) (n .limit) (h .limit) i;
 }
 
-pub length-bytes : (n : Node) (c : ℕ) → length (recordBytes n c) ≡ 16
+pub length-bytes : (n : Node) (c : ℕ) → length (recordBytes n c) ≡ recordLength
 unfolding recordBytes le
 length-bytes n c = refl
 
@@ -115,8 +116,8 @@ pub children-bytes : (n : Node) (c : ℕ) (r : List ℕ) → childByte (recordBy
 unfolding childByte recordBytes
 children-bytes n c r = refl
 
-pub drop-bytes : (n : Node) (c : ℕ) (r : List ℕ) → drop 16 (recordBytes n c ++ r) ≡ r
-drop-bytes n c r = drop-at (recordBytes n c) r 16 (length-bytes n c)
+pub drop-bytes : (n : Node) (c : ℕ) (r : List ℕ) → drop recordLength (recordBytes n c ++ r) ≡ r
+drop-bytes n c r = drop-at (recordBytes n c) r recordLength (length-bytes n c)
 
 -- ---- a tree read back
 
@@ -145,15 +146,15 @@ mutual
 mutual
   unfolding encode records
 
-  pub length-encode : (t : Tree) → length (encode t) ≡ 16 * records t
+  pub length-encode : (t : Tree) → length (encode t) ≡ recordLength * records t
   length-encode (node nd f) = rw (length-append, length-bytes, length-encodes f) (omega arith)
 
-  pub length-encodes : (f : Forest) → length (encodes f) ≡ 16 * recordsIn f
+  pub length-encodes : (f : Forest) → length (encodes f) ≡ recordLength * recordsIn f
   length-encodes nil = omega arith
   length-encodes (t ▸ f) = rw (length-append, length-encode t, length-encodes f) (omega arith)
 
 pub decode-encode : (t : Tree) → Writes t → decode (encode t) ≡ t
 unfolding decode top
 decode-encode t h =
-    let n : length (encode t) / 16 ≡ records t + 0 = rw length-encode (omega arith) in
+    let n : recordCount (encode t) ≡ records t + 0 = rw length-encode (omega arith) in
     rw n (rw (← append-nil (encode t)) (ap top (forest-tree t h 0 [])))
