@@ -23,11 +23,11 @@ rounds-const k n f h =
 -- what a name seen from outside says of the name inside
 outward-run : (k : ℕ) → wholeRun ≤ outward k → leb k 1 ≡ false → wholeRun ≤ k
 unfolding outward
-outward-run k h e = go (leb 255 k) refl (rw e at h)
+outward-run k h e = go (leb wholeRun k) refl (rw e at h)
   where
-    go : (c : Bool) → leb 255 k ≡ c → 255 ≤ cond c 255 (k - 1) → 255 ≤ k
-    go true e₂ h = leb-true 255 k e₂
-    go false e₂ h = let h₁ : 255 ≤ k - 1 = h in omega arith
+    go : (c : Bool) → leb wholeRun k ≡ c → wholeRun ≤ cond c wholeRun (k - 1) → wholeRun ≤ k
+    go true e₂ h = leb-true wholeRun k e₂
+    go false e₂ h = let h₁ : wholeRun ≤ k - 1 = h in omega arith
 
 turns-const : (v : Values) (k : Kind) (n : ℕ) (f : Stream) → wholeRun ≤ seen k n → (wholeRun ≤ n → Const f) → Const (turns v k n f)
 unfolding turns seen
@@ -79,14 +79,14 @@ record Named (d k : ℕ) : Type 0 where
 
 outward-named : (d k : ℕ) → Named (suc d) k → Named d (outward k)
 unfolding outward
-outward-named d k h = go (leb k 1) refl (leb 255 k) refl
+outward-named d k h = go (leb k 1) refl (leb wholeRun k) refl
   where
-    go : (b : Bool) → leb k 1 ≡ b → (c : Bool) → leb 255 k ≡ c → Named d (cond b 255 (cond c 255 (k - 1)))
+    go : (b : Bool) → leb k 1 ≡ b → (c : Bool) → leb wholeRun k ≡ c → Named d (cond b wholeRun (cond c wholeRun (k - 1)))
     go true e c q = record { low = omega arith; high = λ g. omega arith }
     go false e true q = record { low = omega arith; high = λ g. omega arith }
     go false e false q =
         let l : 1 < k = leb-false k 1 e in
-        let r : Named d (k - 1) = record { low = omega arith; high = λ g. absurd (omega (arith, h .high (omega arith), leb-false 255 k q)) } in
+        let r : Named d (k - 1) = record { low = omega arith; high = λ g. absurd (omega (arith, h .high (omega arith), leb-false wholeRun k q)) } in
         r
 
 seen-named : (k : Kind) (d n : ℕ) → Named (around k d) n → Named d (seen k n)

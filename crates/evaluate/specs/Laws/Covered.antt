@@ -10,6 +10,7 @@ use lib.Dec.{leb}
 use lib.ListN.{length, length-append}
 use borrow.Author.Tests.{leb-true, leb-false, lt-leb}
 use Rattle.evaluate.specs.Nodes.{Limit, Unlimited, AtMost, Kind, Block, Sequence, Choice, Loop}
+use Rattle.table.specs.Numbers.{wholeRun}
 use Rattle.table.specs.Trees.{Tree, node, Forest, nil, _▸_, rest}
 use Rattle.lists.specs.Streams.{Stream, S, group, const}
 use Rattle.lists.specs.Laws.Sums.{S-group, S-const, S-mono, S-add, S-cap}
@@ -141,12 +142,12 @@ inner-le (AtMost j m) k = omega arith
 
 outward-le : (k j : ℕ) → 1 < k → k ≤ j → outward k ≤ outward j
 unfolding outward
-outward-le k j l g = rw (lt-leb k 1 l, lt-leb j 1 (omega arith)) (go (leb 255 k) refl (leb 255 j) refl)
+outward-le k j l g = rw (lt-leb k 1 l, lt-leb j 1 (omega arith)) (go (leb wholeRun k) refl (leb wholeRun j) refl)
   where
-    go : (b : Bool) → leb 255 k ≡ b → (c : Bool) → leb 255 j ≡ c → cond b 255 (k - 1) ≤ cond c 255 (j - 1)
+    go : (b : Bool) → leb wholeRun k ≡ b → (c : Bool) → leb wholeRun j ≡ c → cond b wholeRun (k - 1) ≤ cond c wholeRun (j - 1)
     go true p true q = omega arith
-    go true p false q = omega (arith, leb-true 255 k p, leb-false 255 j q)
-    go false p true q = let r : k - 1 ≤ 255 = omega (arith, leb-false 255 k p) in r
+    go true p false q = omega (arith, leb-true wholeRun k p, leb-false wholeRun j q)
+    go false p true q = let r : k - 1 ≤ wholeRun = omega (arith, leb-false wholeRun k p) in r
     go false p false q = let r : k - 1 ≤ j - 1 = omega arith in r
 
 group-first : (n : ℕ) (f : Stream) → group n f 0 ≡ S f n

@@ -153,12 +153,12 @@ fits-zeros v t h = fits-mono zeros v (λ k. omega arith) t h
 
 pub outward-le : (k : ℕ) → outward k ≤ wholeRun
 unfolding outward
-outward-le k = go (leb k 1) (leb 255 k) refl
+outward-le k = go (leb k 1) (leb wholeRun k) refl
   where
-    go : (b c : Bool) → leb 255 k ≡ c → cond b 255 (cond c 255 (k - 1)) ≤ 255
+    go : (b c : Bool) → leb wholeRun k ≡ c → cond b wholeRun (cond c wholeRun (k - 1)) ≤ wholeRun
     go true c e = omega arith
     go false true e = omega arith
-    go false false e = let r : k - 1 ≤ 255 = omega (arith, leb-false 255 k e) in r
+    go false false e = let r : k - 1 ≤ wholeRun = omega (arith, leb-false wholeRun k e) in r
 
 inner-le : (l : Limit) (k : ℕ) → k ≤ wholeRun → inner l k ≤ wholeRun
 unfolding inner

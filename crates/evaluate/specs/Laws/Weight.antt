@@ -27,12 +27,12 @@ Near d k = k < wholeRun → k ≤ d
 
 within-mono : (d a b : ℕ) → Near d a → a ≤ b → within d a ≤ within d b
 unfolding within
-within-mono d a b h l = go (leb 255 a) refl (leb 255 b) refl
+within-mono d a b h l = go (leb wholeRun a) refl (leb wholeRun b) refl
   where
-    go : (x : Bool) → leb 255 a ≡ x → (y : Bool) → leb 255 b ≡ y → cond x d (a - 1) ≤ cond y d (b - 1)
+    go : (x : Bool) → leb wholeRun a ≡ x → (y : Bool) → leb wholeRun b ≡ y → cond x d (a - 1) ≤ cond y d (b - 1)
     go true e true e′ = omega arith
-    go true e false e′ = absurd (omega (arith, leb-true 255 a e, leb-false 255 b e′))
-    go false e true e′ = let q : a - 1 ≤ d = omega (arith, h (leb-false 255 a e)) in q
+    go true e false e′ = absurd (omega (arith, leb-true wholeRun a e, leb-false wholeRun b e′))
+    go false e true e′ = let q : a - 1 ≤ d = omega (arith, h (leb-false wholeRun a e)) in q
     go false e false e′ = let q : a - 1 ≤ b - 1 = omega arith in q
 
 inner-near : (l : Limit) (d k : ℕ) → T (nameOk l d) → Near d k → Near d (inner l k)
@@ -46,12 +46,12 @@ inner-near (AtMost j m) d k t h = λ q. go (leb j d) refl t q
 
 outward-near : (d k : ℕ) → Near (suc d) k → Near d (outward k)
 unfolding outward
-outward-near d k h = go (leb k 1) (leb 255 k) refl
+outward-near d k h = go (leb k 1) (leb wholeRun k) refl
   where
-    go : (a b : Bool) → leb 255 k ≡ b → cond a 255 (cond b 255 (k - 1)) < 255 → cond a 255 (cond b 255 (k - 1)) ≤ d
+    go : (a b : Bool) → leb wholeRun k ≡ b → cond a wholeRun (cond b wholeRun (k - 1)) < wholeRun → cond a wholeRun (cond b wholeRun (k - 1)) ≤ d
     go true b e q = absurd (omega arith)
     go false true e q = absurd (omega arith)
-    go false false e q = let r : k - 1 ≤ d = omega (arith, h (leb-false 255 k e)) in r
+    go false false e q = let r : k - 1 ≤ d = omega (arith, h (leb-false wholeRun k e)) in r
 
 seen-near : (k : Kind) (d n : ℕ) → Near (around k d) n → Near d (seen k n)
 unfolding seen around
@@ -81,18 +81,18 @@ mutual
 
 within-run : (d k : ℕ) → wholeRun ≤ k → within d k ≡ d
 unfolding within
-within-run d k h = rw (le-leb 255 k h) refl
+within-run d k h = rw (le-leb wholeRun k h) refl
 
 within-loop : (d k : ℕ) → k < wholeRun → within d k ≡ k - 1
 unfolding within
-within-loop d k h = rw (lt-leb 255 k h) refl
+within-loop d k h = rw (lt-leb wholeRun k h) refl
 
 share-is : (j d : ℕ) (m : Number) → d < wholeRun → T (nameOk (AtMost j m) d) → share (AtMost j m) d ≡ 2 ^ within d j
 unfolding nameOk share
 share-is j d m l t = go (eqb j wholeRun) refl t
   where
     go : (b : Bool) → eqb j wholeRun ≡ b → T (leb j d || b) → cond b (2 ^ d) (2 ^ (j - 1)) ≡ 2 ^ within d j
-    go true e t = ap (λ x. 2 ^ x) (sym (within-run d j (omega (arith, eqb-true j 255 e))))
+    go true e t = ap (λ x. 2 ^ x) (sym (within-run d j (omega (arith, eqb-true j wholeRun e))))
     go false e t = ap (λ x. 2 ^ x) (sym (within-loop d j (omega (arith, leb→le j d (left (leb j d) t)))))
       where
         left : (a : Bool) → T (a || false) → T a
@@ -114,16 +114,16 @@ own-bound (AtMost j m) d k w x q t h b = unfold own in unfold inner in go (unfol
         product p r y s a e b g = omega arith
 
 deeper : (d n : ℕ) → 1 < n → within (suc d) n ≡ suc (within d (outward n))
-deeper d n l = go (leb 255 n) refl
+deeper d n l = go (leb wholeRun n) refl
   where
-    go : (b : Bool) → leb 255 n ≡ b → within (suc d) n ≡ suc (within d (outward n))
+    go : (b : Bool) → leb wholeRun n ≡ b → within (suc d) n ≡ suc (within d (outward n))
     go true e =
-        let o : outward n ≡ 255 = unfold outward in rw (lt-leb n 1 l, e) refl in
-        within-run (suc d) n (leb-true 255 n e) ∙ ap suc (sym (ap (within d) o ∙ within-run d 255 (omega arith)))
+        let o : outward n ≡ wholeRun = unfold outward in rw (lt-leb n 1 l, e) refl in
+        within-run (suc d) n (leb-true wholeRun n e) ∙ ap suc (sym (ap (within d) o ∙ within-run d wholeRun (omega arith)))
     go false e =
         let o : outward n ≡ n - 1 = unfold outward in rw (lt-leb n 1 l, e) refl in
         let z : n - 1 ≡ suc (n - 1 - 1) = omega arith in
-        within-loop (suc d) n (leb-false 255 n e) ∙ z ∙ ap suc (sym (ap (within d) o ∙ within-loop d (n - 1) (omega (arith, leb-false 255 n e))))
+        within-loop (suc d) n (leb-false wholeRun n e) ∙ z ∙ ap suc (sym (ap (within d) o ∙ within-loop d (n - 1) (omega (arith, leb-false wholeRun n e))))
 
 grouped-bound : (k : Kind) (d n w : ℕ) → grouped k n w * 2 ^ within d (seen k n) ≤ w * 2 ^ within (around k d) n
 unfolding grouped seen around

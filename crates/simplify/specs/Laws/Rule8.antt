@@ -6,7 +6,7 @@ use native.Mathlib.Omega.{arith}
 use lib.Dec.{T, leb→le, le→leb}
 use Rattle.booleans.specs.Laws.{both, join-and}
 use Rattle.booleans.specs.Tests.{_and_}
-use Rattle.table.specs.Numbers.{mostTime}
+use Rattle.table.specs.Numbers.{mostTime, wholeRun}
 use Rattle.table.specs.Questions.{listed, listedIn, depth, depthIn, loops, loopsIn, named, namedIn, weight, weightIn, arity, kindInRange, limitInRange, nameOk, share}
 use Rattle.table.specs.Trees.{nil, _▸_, node, Tree, Forest, size, rest, around, records, recordsIn}
 use Rattle.lists.specs.Streams.{const, add, merge}
@@ -54,7 +54,7 @@ unfolding withEach name seen rest inner
 each-name t nil x = omega (arith, name-le x, name-le t)
 each-name t (u ▸ c) x = shuffle (name t) (nameIn Choice (u ▸ c)) (name x) _ (name-le x) (each-name u c x)
   where
-    shuffle : (a b x y : ℕ) → x ≤ 255 → y ≡ min b x → min (min a (min x 255)) y ≡ min (min a b) x
+    shuffle : (a b x y : ℕ) → x ≤ wholeRun → y ≡ min b x → min (min a (min x wholeRun)) y ≡ min (min a b) x
     shuffle a b x y h e = omega arith
 
 each-list : (v : Values) (t : Tree) (c : Forest) (x : Tree) (k : ℕ) → list v x ≡ const k
