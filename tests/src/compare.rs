@@ -13,8 +13,8 @@ pub fn second_check(table: &[u8]) -> Checked {
     }
 }
 
-/// Makes a call on a copy of the bytes whose address is `shift` past a multiple of 16, with `filler`
-/// on both sides, and asserts that no byte of all this has changed.
+/// Makes a call on a copy of the bytes whose address is `shift` past a multiple of 16, with
+/// `filler` on both sides, and asserts that no byte of all this has changed.
 pub fn lend<A>(bytes: &[u8], shift: usize, filler: u8, call: impl FnOnce(&[u8]) -> A) -> A {
     const SIDE: usize = 32;
     let mut buffer = vec![filler; SIDE + bytes.len() + SIDE];
@@ -81,6 +81,8 @@ impl Comparison {
 
 /// The table, a record to a line.
 pub fn shown(table: &[u8]) -> String {
-    let lines = table.chunks(RECORD_BYTES).map(|record| format!("{record:?}\n"));
+    let lines = table
+        .chunks(RECORD_BYTES)
+        .map(|record| format!("{record:?}\n"));
     format!("{} bytes\n{}", table.len(), lines.collect::<String>())
 }

@@ -34,34 +34,54 @@ fn small_byte(rng: &mut Rng, zeros: u64) -> u8 {
     }
 }
 
-/// Records that questions 2 and 3 accept, some number of them.
+/// Some number of records that questions 2 and 3 accept.
 pub fn good_records(rng: &mut Rng) -> Vec<u8> {
     let most = rng.pick(&[3, 10, 100, MOST_RECORDS]);
-    let blocks = rng.within(30..=70);
+    let mix = Mix::new(rng);
     let records = rng.size(1..=most);
-    (0..records).flat_map(|_| good_record(rng, blocks)).collect()
+    (0..records).flat_map(|_| good_record(rng, &mix)).collect()
 }
 
 /// Records that questions 2 and 3 accept, up to where the first tree ends or the table is full.
 pub fn first_tree(rng: &mut Rng) -> Vec<u8> {
-    let blocks = rng.within(35..=60);
+    let mix = Mix::new(rng);
     let mut table = Vec::new();
     let mut missing = 1;
     while missing > 0 && table.len() < MOST_RECORDS * RECORD_BYTES {
-        let record = good_record(rng, blocks);
+        let record = good_record(rng, &mix);
         missing = missing - 1 + usize::from(record[2]);
         table.extend(record);
     }
     table
 }
 
-/// A record that questions 2 and 3 accept; of a hundred, `blocks` are blocks.
-fn good_record(rng: &mut Rng, blocks: u64) -> [u8; RECORD_BYTES] {
+/// What the records of one table are like.
+struct Mix {
+    /// Blocks in a hundred records.
+    blocks: u64,
+    /// One record in so many has a limit.
+    limits: u64,
+    /// One limit in so many names a loop.
+    named: u64,
+}
+
+impl Mix {
+    fn new(rng: &mut Rng) -> Self {
+        Mix {
+            blocks: rng.within(40..=60),
+            limits: rng.within(1..=20),
+            named: rng.within(1..=20),
+        }
+    }
+}
+
+/// A record that questions 2 and 3 accept.
+fn good_record(rng: &mut Rng, mix: &Mix) -> [u8; RECORD_BYTES] {
     let mut record = [0; RECORD_BYTES];
-    let kind = if rng.within(0..=99) < blocks {
+    let kind = if rng.within(1..=100) <= mix.blocks {
         BLOCK
     } else {
-        rng.pick(&[SEQUENCE, CHOICE, LOOP])
+        rng.pick(&[SEQUENCE, CHOICE, LOOP, LOOP])
     };
     let (children, value) = match kind {
         BLOCK => (0, rng.pick(&[0, 16, 31])),
@@ -72,12 +92,21 @@ fn good_record(rng: &mut Rng, blocks: u64) -> [u8; RECORD_BYTES] {
     record[1] = flag(rng, VALUE_IS_SYMBOL, value > 0);
     record[2] = children;
     record[8] = value;
-    if rng.once_in(6) {
-        record[3] = rng.pick(&[1, 1, 1, 2, 2, 3, 4, 5, 6, 7, 8, WHOLE_RUN]);
-        record[4] = rng.within(COUNT_SYMBOLS) as u8;
+    if rng.once_in(mix.limits) {
         record[1] |= flag(rng, LIMIT_IS_SYMBOL, true);
+        record[3] = names(rng, mix);
+        record[4] = rng.within(COUNT_SYMBOLS) as u8;
     }
     record
+}
+
+/// Byte 3 of a limit. The innermost loops are the likeliest to be there.
+fn names(rng: &mut Rng, mix: &Mix) -> u8 {
+    if rng.once_in(mix.named) {
+        rng.pick(&[1, 1, 1, 2, 2, 3, 4, 5, 6, 7, 8])
+    } else {
+        WHOLE_RUN
+    }
 }
 
 fn flag(rng: &mut Rng, flag: u8, allowed: bool) -> u8 {

@@ -67,7 +67,7 @@ fn little_endian(bytes: &[u8]) -> u64 {
 /// Question 1: is the length a multiple of 16 from 16 to 8,192?
 fn is_length_right(table: &[u8]) -> bool {
     let longest = MOST_RECORDS * RECORD_BYTES;
-    table.len() % RECORD_BYTES == 0 && (RECORD_BYTES..=longest).contains(&table.len())
+    table.len().is_multiple_of(RECORD_BYTES) && (RECORD_BYTES..=longest).contains(&table.len())
 }
 
 /// Question 2: are kind, flags, children and byte 3 as listed, flag 1 only on blocks and loops,

@@ -9,7 +9,7 @@ impl Rng {
         Rng(seed)
     }
 
-    pub fn next(&mut self) -> u64 {
+    pub fn number(&mut self) -> u64 {
         self.0 = self.0.wrapping_add(0x9e37_79b9_7f4a_7c15);
         let mut z = self.0;
         z = (z ^ (z >> 30)).wrapping_mul(0xbf58_476d_1ce4_e5b9);
@@ -22,8 +22,8 @@ impl Rng {
         let (low, high) = range.into_inner();
         assert!(low <= high, "empty range");
         match (high - low).checked_add(1) {
-            Some(count) => low + self.next() % count,
-            None => self.next(),
+            Some(count) => low + self.number() % count,
+            None => self.number(),
         }
     }
 
@@ -38,7 +38,7 @@ impl Rng {
     }
 
     pub fn byte(&mut self) -> u8 {
-        self.next() as u8
+        self.number() as u8
     }
 
     /// True once in `times` on average.

@@ -4,7 +4,7 @@
 mod random;
 
 use crate::format::*;
-pub use random::{grow, loops_around, pad, put_limits, spine, within_limits};
+pub use random::{grow, loops_around, pad, put_limits, spine, within_limits, without_limits};
 
 #[derive(Clone, Copy, Debug, PartialEq, Eq)]
 pub enum Amount {
@@ -74,14 +74,11 @@ impl Tree {
             Kind::Loop(bound) => (LOOP, number(bound)),
         };
         let names = self.limit.map_or(NO_LIMIT, |limit| limit.names);
-        let (limit, limit_is_symbol) = self
-            .limit
-            .map_or((0, false), |limit| number(limit.amount));
+        let (limit, limit_is_symbol) = self.limit.map_or((0, false), |limit| number(limit.amount));
 
         let mut record = [0; RECORD_BYTES];
         record[0] = kind;
-        record[1] =
-            flag(VALUE_IS_SYMBOL, value_is_symbol) | flag(LIMIT_IS_SYMBOL, limit_is_symbol);
+        record[1] = flag(VALUE_IS_SYMBOL, value_is_symbol) | flag(LIMIT_IS_SYMBOL, limit_is_symbol);
         record[2] = u8::try_from(self.children.len()).expect("at most 255 children");
         record[3] = names;
         let limit = u32::try_from(limit).expect("a limit of 32 bits");

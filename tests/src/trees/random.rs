@@ -8,9 +8,7 @@ use std::ops::RangeInclusive;
 /// A tree of exactly that many records that every question accepts, often with limits up to the
 /// full weight.
 pub fn within_limits(rng: &mut Rng, records: usize) -> Tree {
-    let depth = rng.size(3..=MOST_DEPTH);
-    let loops = rng.size(0..=MOST_LOOPS);
-    let mut tree = grow(rng, records, depth, loops);
+    let mut tree = without_limits(rng, records);
     let weight = match rng.index(4) {
         0 => 0,
         1 => MOST_WEIGHT,
@@ -18,6 +16,22 @@ pub fn within_limits(rng: &mut Rng, records: usize) -> Tree {
     };
     put_limits(rng, &mut tree, weight);
     tree
+}
+
+/// A tree of exactly that many records, grown at random or, where it can be, along a spine with
+/// many loops.
+pub fn without_limits(rng: &mut Rng, records: usize) -> Tree {
+    if (9..=200).contains(&records) && rng.once_in(2) {
+        let depth = rng.size(5..=MOST_DEPTH.min(records.div_ceil(2)));
+        let loops = rng.size(3..=MOST_LOOPS.min(depth - 2));
+        let mut tree = spine(rng, depth, loops);
+        pad(rng, &mut tree, records);
+        tree
+    } else {
+        let depth = rng.size(3..=MOST_DEPTH);
+        let loops = rng.size(0..=MOST_LOOPS);
+        grow(rng, records, depth, loops)
+    }
 }
 
 /// A tree without limits of exactly that many records, at most that deep, with at most that many
@@ -89,7 +103,8 @@ enum Step {
 }
 
 /// A tree without limits that is exactly that deep and has exactly that many loops around its
-/// deepest node, and no more around any other. The depth must exceed the loops.
+/// deepest node, and no more around any other. The depth is at least the loops and 2, so that some
+/// step is a list, and there are at most two records for each step below the root.
 pub fn spine(rng: &mut Rng, depth: usize, loops: usize) -> Tree {
     let steps = spine_steps(rng, depth, loops);
     let end = block(rng);
@@ -104,13 +119,13 @@ fn spine_steps(rng: &mut Rng, depth: usize, loops: usize) -> Vec<Step> {
     let mut steps = vec![Step::List; depth - 1];
     steps[..loops].fill(Step::Body);
     rng.shuffle(&mut steps);
-    let mut bodies = 0;
+    let (mut bodies, mut lists) = (0, 0);
     for step in &mut steps {
         match step {
             Step::Body => bodies += 1,
             // A loop left by its exit has a body too, which must not have more loops around it.
-            _ if bodies < loops && rng.once_in(4) => *step = Step::Exit,
-            _ => {}
+            _ if lists > 0 && bodies < loops && rng.once_in(4) => *step = Step::Exit,
+            _ => lists += 1,
         }
     }
     steps
