@@ -6,3 +6,5 @@ pub mod Canonical
 pub mod Accepted
 pub mod NotRefused
 pub mod Reading
+pub mod Survey
+pub mod Refusal

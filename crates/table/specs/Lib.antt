@@ -6,5 +6,6 @@ pub mod Questions
 pub mod Bytes
 pub mod Table
 pub mod Checking
+pub mod Survey
 -- What is proved of them.
 pub mod Laws

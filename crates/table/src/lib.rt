@@ -1,4 +1,4 @@
-// The reader of tree tables: the node of a record, and questions 1 to 4 of document 01.
+// The reader of tree tables: the node of a record, and questions 1 to 7 of document 01.
 ghost use mathlib.Core.Path.{_≡_};
 ghost use Prim.Native.Nat.{_+_, _*_, _^_, _<_, _≤_};
 ghost use lib.ListN.{length};
@@ -6,7 +6,11 @@ ghost use Rattle.table.specs.Numbers.{recordLength, mostRecords};
 ghost use Rattle.table.specs.Table.{field, numFrom, kindFrom, limitFrom, firstNode, childByte};
 ghost use Rattle.table.specs.Questions.{timeInRange, countInRange, kindInRange};
 ghost use Rattle.table.specs.Checking.{kindListed, limitListed, recordListed, limitCount, recordInRange};
-ghost use Rattle.table.specs.Checking.{question1, question2, question3, question4};
+ghost use Rattle.table.specs.Checking.{question1, question2, question3, question4, refusal};
+ghost use Rattle.table.specs.Numbers.{mostLoops, mostDepth};
+ghost use Rattle.table.specs.Trees.{around};
+ghost use Rattle.table.specs.Questions.{nameOk};
+ghost use Rattle.table.specs.Survey.{mostShare, nameShare, listedShare, withNext, withParent, Small, surveyNode, surveyChildren, surveyRefusal};
 
 // ---- Numbers, as in specs/Numbers.antt
 
@@ -25,6 +29,10 @@ pub const MOST_COUNT: u64 = 1_000_000;
 pub const WHOLE_RUN: u8 = 255;
 
 pub const MOST_LOOPS: u8 = 8;
+
+pub const MOST_WEIGHT: u64 = 255;
+
+pub const MOST_DEPTH: usize = 32;
 
 // ---- The node: a record without its number of children
 
@@ -286,4 +294,211 @@ pub fn one_tree(table: &[u8]) -> bool
         i += 1;
     }
     wanted == 0
+}
+
+// ---- Questions 5 to 7
+
+// What a walk finds of a tree, or of several in a row: how many records, whether they are as question 5 asks, whether question 6 says yes, and
+// question 7's sum. Of trees that are not as question 5 asks it finds nothing else.
+pub struct Survey {
+    pub records: usize,
+    pub fits: bool,
+    pub named: bool,
+    pub weight: u64,
+}
+
+// The loops around a node's first child: a loop is around its body alone.
+fn loops_inside(kind: Kind, outer: u8) -> u8
+    requires { ⌜ outer ≤ mostLoops ⌝ }
+    ensures { λ r. ⌜ r ≡ around kind outer ⌝ }
+{
+    match kind {
+        Kind::Block(_) => outer,
+        Kind::Sequence => outer,
+        Kind::Choice => outer,
+        Kind::Loop(_) => outer + 1,
+    }
+}
+
+// Question 6 of a limit, with `outer` loops around its node.
+fn names_loop(limit: Limit, outer: u8) -> bool
+    ensures { λ r. ⌜ r ≡ nameOk limit outer ⌝ }
+{
+    match limit {
+        Limit::Unlimited => true,
+        Limit::AtMost(name, _) => (name <= outer) | (name == WHOLE_RUN),
+    }
+}
+
+fn power_of_two(n: u8) -> u64
+    requires { ⌜ n ≤ mostLoops ⌝ }
+    ensures { λ r. ⌜ (r ≡ 2 ^ n) × (r ≤ mostShare) ⌝ }
+{
+    1 << (n as u64)
+}
+
+// What a limit that names this loop adds to question 7's sum.
+fn name_share(name: u8, outer: u8) -> u64
+    requires { ⌜ outer ≤ mostLoops ⌝ }
+    ensures { λ r. ⌜ (r ≡ nameShare name outer) × (r ≤ mostShare) ⌝ }
+{
+    if name == WHOLE_RUN {
+        return power_of_two(outer);
+    }
+    if name == 0 {
+        return 0;
+    }
+    if MOST_LOOPS < name {
+        return 0;
+    }
+    power_of_two(name - 1)
+}
+
+fn limit_share(limit: Limit, outer: u8) -> u64
+    requires { ⌜ outer ≤ mostLoops ⌝ }
+    ensures { λ r. ⌜ (r ≡ listedShare limit outer) × (r ≤ mostShare) ⌝ }
+{
+    match limit {
+        Limit::Unlimited => 0,
+        Limit::AtMost(name, _) => name_share(name, outer),
+    }
+}
+
+impl Survey {
+    // Of a tree that is not as question 5 asks.
+    const UNFIT: Survey = Survey {
+        records: 0,
+        fits: false,
+        named: false,
+        weight: 0,
+    };
+
+    // Of no tree at all.
+    const EMPTY: Survey = Survey {
+        records: 0,
+        fits: true,
+        named: true,
+        weight: 0,
+    };
+
+    // Trees that fit, and the next one, which fits too.
+    fn with_next(self, next: Survey) -> Survey
+        requires { ⌜ (self .records + next .records ≤ mostRecords) × (self .weight + next .weight ≤ mostShare * mostRecords) ⌝ }
+        ensures { λ r. ⌜ r ≡ withNext self next ⌝ }
+    {
+        Survey {
+            records: self.records + next.records,
+            fits: true,
+            named: self.named & next.named,
+            weight: self.weight + next.weight,
+        }
+    }
+
+    // Children, and the node that they belong to.
+    fn with_parent(self, limit: Limit, outer: u8) -> Survey
+        requires { ⌜ (outer ≤ mostLoops) × (self .records ≤ mostRecords) × (self .weight ≤ mostShare * self .records) ⌝ }
+        ensures { λ r. ⌜ (r ≡ withParent limit outer self) × (r .records ≤ self .records + 1) × (r .weight ≤ mostShare * r .records) ⌝ }
+    {
+        if self.fits {
+            Survey {
+                records: self.records + 1,
+                fits: true,
+                named: names_loop(limit, outer) & self.named,
+                weight: limit_share(limit, outer) + self.weight,
+            }
+        } else {
+            Survey::UNFIT
+        }
+    }
+
+    // The first of questions 5 to 7 that says no, or 0.
+    fn refusal(self) -> u64
+        ensures { λ r. ⌜ r ≡ surveyRefusal self ⌝ }
+    {
+        if self.fits {
+            if self.named {
+                if self.weight <= MOST_WEIGHT { 0 } else { 7 }
+            } else {
+                6
+            }
+        } else {
+            5
+        }
+    }
+}
+
+// The node at the front of `table` with everything below it, at most `depth` nodes deep, with `outer` loops around it.
+fn survey_node(table: &[u8], depth: usize, outer: u8) -> Survey
+    requires { ⌜ length (now table) ≤ recordLength * mostRecords ⌝ }
+    ensures { λ r. ⌜ r ≡ surveyNode depth outer (now (table .entry)) ⌝ }
+    ensures { λ r. ⌜ Small (now (table .entry)) r ⌝ }
+{
+    if depth == 0 {
+        return Survey::UNFIT;
+    }
+    if table.len() < RECORD_LENGTH {
+        return Survey::UNFIT;
+    }
+    if MOST_LOOPS < outer {
+        return Survey::UNFIT;
+    }
+    let node = read_node(table);
+    let kind = node.kind;
+    let limit = node.limit;
+    let count = child_count(table);
+    let first = loops_inside(kind, outer);
+    let below = survey_children(&table[RECORD_LENGTH..], depth - 1, first, outer, count);
+    below.with_parent(limit, outer)
+}
+
+// The `count` children at the front of `table`, each at most `depth` nodes deep, with `first` loops around the first and `others` around the others.
+// A child that does not fit ends the walk: it tells no place for the next, and so no record is read twice.
+fn survey_children(table: &[u8], depth: usize, first: u8, others: u8, count: usize) -> Survey
+    requires { ⌜ length (now table) ≤ recordLength * mostRecords ⌝ }
+    ensures { λ r. ⌜ r ≡ surveyChildren depth first others count (now (table .entry)) ⌝ }
+    ensures { λ r. ⌜ Small (now (table .entry)) r ⌝ }
+{
+    let mut found = Survey::EMPTY;
+    let mut outer = first;
+    let mut left = count;
+    while 0 < left {
+        let at = RECORD_LENGTH * found.records;
+        let child = survey_node(&table[at..], depth, outer);
+        if !child.fits {
+            return Survey::UNFIT;
+        }
+        found = found.with_next(child);
+        outer = others;
+        left = left - 1;
+    }
+    found
+}
+
+// The tree of a table. Where questions 1 to 4 say yes, this answers 5 to 7.
+pub fn survey_table(table: &[u8]) -> Survey
+    requires { ⌜ length (now table) ≤ recordLength * mostRecords ⌝ }
+    ensures { λ r. ⌜ r ≡ surveyNode mostDepth 0 (now (table .entry)) ⌝ }
+{
+    survey_node(table, MOST_DEPTH, 0)
+}
+
+// ---- Questions 1 to 7
+
+// The number of the first question that says no, or 0: each is put to the whole table before the next.
+pub fn refusal_of(table: &[u8]) -> u64
+    ensures { λ r. ⌜ r ≡ refusal (now (table .entry)) ⌝ }
+{
+    if !length_allowed(table) {
+        return 1;
+    }
+    if !records_listed(table) {
+        return 2;
+    }
+    if !records_in_range(table) {
+        return 3;
+    }
+    if !one_tree(table) {
+        return 4;
+    }
+    survey_table(table).refusal()
 }

@@ -63,7 +63,7 @@ after-listed zero f h = h
 after-listed (suc n) nil h = tt
 after-listed (suc n) (t ▸ f) h = after-listed n f (both _ _ h .1)
 
-forest-listed : (n k : ℕ) (b : List ℕ) → AreBytes b → T (each recordListed n b) → T (each recordInRange n b) → T (formTrees n k b) → T (listedIn (forest n b)) × (size (forest n b) ≡ k)
+pub forest-listed : (n k : ℕ) (b : List ℕ) → AreBytes b → T (each recordListed n b) → T (each recordInRange n b) → T (formTrees n k b) → T (listedIn (forest n b)) × (size (forest n b) ≡ k)
 unfolding listed forest each formTrees size
 forest-listed zero k b h l r t = (tt, sym (eqb→eq k 0 t))
 forest-listed (suc n) zero b h l r t = absurd t
@@ -83,7 +83,7 @@ unfolding listed top size
 top-listed nil e h = absurd (omega arith)
 top-listed (t ▸ f) e h = both _ _ h .0
 
-decode-listed : (b : List ℕ) → size (forest (recordCount b) b) ≡ 1 → T (listedIn (forest (recordCount b) b)) → T (listed (decode b))
+pub decode-listed : (b : List ℕ) → size (forest (recordCount b) b) ≡ 1 → T (listedIn (forest (recordCount b) b)) → T (listed (decode b))
 unfolding decode
 decode-listed b e h = top-listed _ e h
 
