@@ -1,4 +1,7 @@
 // The outside calls. Each answers with an enum: one case with what was asked for, one with the number of the question that says no.
+use table::RECORD_LENGTH;
+ghost use mathlib.Core.Path.{_≡_};
+ghost use Rattle.calls.specs.Answers.{checkAnswer};
 
 // Checking: how many records the accepted table has.
 pub enum Checked {
@@ -22,4 +25,16 @@ pub enum Ending {
 pub enum Simplified {
     Written(usize, u64, Ending),
     Refused(u64),
+}
+
+// Puts questions 1 to 7 to a table of any bytes.
+pub fn check(table: &[u8]) -> Checked
+    ensures { λ r. ⌜ r ≡ checkAnswer (now (table .entry)) ⌝ }
+{
+    let number = table::refusal_of(table);
+    if number == 0 {
+        Checked::Accepted(table.len() / RECORD_LENGTH)
+    } else {
+        Checked::Refused(number)
+    }
 }
