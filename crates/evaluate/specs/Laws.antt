@@ -9,3 +9,7 @@ pub mod ListPairs
 pub mod Ranges
 pub mod Covered
 pub mod Reached
+pub mod Found
+pub mod Children
+pub mod Evaluator
+pub mod Sane

@@ -1,7 +1,8 @@
 -- Joining lists, as a sequence or a choice does: zero, order and brackets do not matter.
-use mathlib.Core.Path.{_≡_, _∙_, ap, sym}
+use mathlib.Core.Path.{_≡_, _∙_, ap, sym, refl}
 use Prim.Native.Nat.{_≤_}
 use native.Mathlib.Omega.{arith}
+use Rattle.table.specs.Trees.{rest}
 use Rattle.lists.specs.Streams.{Stream, const, add, merge, taken}
 use Rattle.lists.specs.Laws.MergeLaws.{merge-zero, add-zero-r, merge-comm, add-comm, merge-assoc, add-assoc}
 use Rattle.lists.specs.Laws.Sums.{Falls, const-falls}
@@ -49,3 +50,10 @@ join-right (Block t) f g = omega arith
 join-right Sequence f g = omega arith
 join-right Choice f g = omega arith
 join-right (Loop n) f g = omega arith
+
+pub rest-join : (k : Kind) (f g : Stream) → join (rest k) f g ≡ join k f g
+unfolding join rest
+rest-join (Block t) f g = refl
+rest-join Sequence f g = refl
+rest-join Choice f g = refl
+rest-join (Loop n) f g = refl

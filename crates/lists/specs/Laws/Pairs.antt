@@ -1,17 +1,17 @@
 -- Pairs: a stream that never rises has canonical pairs, they stand for it, and they are its only ones.
-use mathlib.Core.Path.{_≡_, refl, sym, ap, _∙_, subst}
-use mathlib.Core.Bool.{Bool, true, false, cond}
-use Prim.Native.Nat.{ℕ, zero, suc, _+_, _-_, _≤_, _<_}
+use mathlib.Core.Path.{_≡_, refl, sym, ap, _∙_, fun-ext}
+use mathlib.Core.Bool.{Bool, true, false}
+use Prim.Native.Nat.{ℕ, _+_, _-_, _<_, suc, _≤_, zero}
 use native.Mathlib.Nat.{le-antisymm}
 use native.Mathlib.Omega.{arith}
-use lib.Dec.{leb, ltb, eqb, leb·suc-suc, eqb→eq}
-use borrow.Author.Tests.{leb-true, leb-false, lt-ltb, le-ltb, eqb-false}
+use lib.Dec.{eqb, leb·suc-suc, eqb→eq, leb}
+use borrow.Author.Tests.{lt-ltb, le-ltb, eqb-false, leb-true, leb-false}
 use Rattle.booleans.specs.Laws.{by-cond}
+use Rattle.lists.specs.Pairs.{Pairs, ever, run, expand, top, Canonical, width, places, inFront, tail, pairs, ArePairs}
 use Rattle.lists.specs.Streams.{Stream}
-use Rattle.lists.specs.Pairs.{Pairs, ever, run, expand, top, Canonical, width, places, inFront, tail, pairs}
-use Rattle.lists.specs.Laws.Sums.{Falls}
-use Rattle.lists.specs.Laws.Falls.{falls, drop, falls-suc, drop-none, drop-some}
+use Rattle.lists.specs.Laws.Falls.{drop, drop-some, drop-none, falls, falls-suc}
 use Rattle.lists.specs.Laws.Settled.{Settled}
+use Rattle.lists.specs.Laws.Sums.{Falls}
 
 -- ---- what pairs stand for
 
@@ -148,3 +148,14 @@ unique-pairs (run v c r) (run w d s) h k e =
     let p : c ≡ d = le-antisymm (no-longer v c r w d s h k e q) (no-longer w d s v c r k h (λ i. sym (e i)) (sym q)) in
     let z : r ≡ s = unique-pairs r s (h .2) (k .2) (λ i. sym (expand-past v c r i) ∙ e (c + i) ∙ ap (λ x. expand (run w d s) (x + i)) p ∙ expand-past w d s i) in
     cc
+
+-- ---- pairs
+
+pub members : {f : Stream} {r : Pairs} → ArePairs f r → expand r ≡ f
+members a = fun-ext (a .means)
+
+pub are-pairs : {f : Stream} {r : Pairs} → Canonical r → expand r ≡ f → ArePairs f r
+are-pairs h e = record { canonical = h; means = λ i. ap (λ g. g i) e }
+
+pub top-is : {f : Stream} {r : Pairs} → ArePairs f r → top r ≡ f 0
+top-is {f} {r} a = sym (first-top r (a .canonical)) ∙ a .means 0

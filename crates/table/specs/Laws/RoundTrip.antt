@@ -5,12 +5,12 @@ use Prim.Native.Nat.{ℕ, zero, suc, _≤_, _-_, _^_, _<_, _+_, _*_, _%_, _/_}
 use native.Mathlib.Nat.{suc-add, zero-add, add-assoc}
 use native.Mathlib.Omega.{arith}
 use lib.ListN.{length, drop, length-append}
-use lib.Seq.{drop-at}
-use Rattle.table.specs.Numbers.{recordLength}
+use lib.Seq.{drop-at, drop-drop}
 use Rattle.table.specs.Nodes.{Number, Limit, Unlimited, AtMost, Kind, Block, Sequence, Choice, Loop, Node, Plain, Symbol}
-use Rattle.table.specs.Trees.{Forest, nil, _▸_, _⧺_, size, Tree, node, records, recordsIn}
 use Rattle.table.specs.Bytes.{le, un}
+use Rattle.table.specs.Numbers.{recordLength}
 use Rattle.table.specs.Table.{firstOnes, afterOnes, encodes, raw, flag, numFrom, kindByte, valueNum, kindFrom, loopByte, limitNum, limitFrom, recordBytes, firstNode, childByte, forest, encode, top, decode, recordCount}
+use Rattle.table.specs.Trees.{Forest, nil, _▸_, _⧺_, size, Tree, node, records, recordsIn}
 use Rattle.table.specs.Laws.Bytes.{un-le}
 
 -- ---- forests
@@ -158,3 +158,9 @@ unfolding decode top
 decode-encode t h =
     let n : recordCount (encode t) ≡ records t + 0 = rw length-encode (omega arith) in
     rw n (rw (← append-nil (encode t)) (ap top (forest-tree t h 0 [])))
+
+-- what stands behind n records and the tree t
+pub drop-tree : (t : Tree) (n : ℕ) (b z : List ℕ) → drop (recordLength * n) b ≡ encode t ++ z → drop (recordLength * (n + records t)) b ≡ z
+drop-tree t n b z e =
+    let m : recordLength * (n + records t) ≡ recordLength * n + recordLength * records t = omega arith in
+    rw (m, ← drop-drop, e) (drop-at (encode t) z (recordLength * records t) (length-encode t))

@@ -1,31 +1,30 @@
 -- What the walk finds of the table of a listed tree, and so what it answers to questions 5 to 7; and the walk's cases, as the program meets them.
-use mathlib.Core.Path.{_≡_, refl, sym, ap, subst, _∙_}
-use mathlib.Core.Bool.{Bool, true, false, cond, _&&_, _||_}
-use mathlib.Core.List.{List, [], _++_, append-assoc, append-nil}
-use Prim.Native.Nat.{ℕ, zero, suc, max, _+_, _-_, _*_, _^_, _%_, _<_, _≤_}
+use mathlib.Core.Path.{_≡_, refl, _∙_, sym, subst, ap}
+use mathlib.Core.Bool.{Bool, true, false, _&&_, cond, _||_}
+use mathlib.Core.List.{List, _++_, append-assoc, [], append-nil}
+use Prim.Native.Nat.{ℕ, max, _-_, _^_, suc, _+_, zero, _*_, _%_, _<_, _≤_}
 use native.Mathlib.Nat.{zero-add, add-zero, add-assoc}
 use native.Mathlib.Numerals.{sub-one}
 use native.Mathlib.Omega.{arith}
-use lib.Dec.{T, leb, eqb, leb·zero, leb·suc-zero, leb·suc-suc, eqb→eq}
-use lib.ListN.{length, drop, length-append, length-drop}
-use lib.Seq.{drop-at, drop-drop}
+use lib.Dec.{leb, T, eqb, leb·suc-zero, leb·suc-suc, leb·zero, eqb→eq}
+use lib.ListN.{length, length-append, drop, length-drop}
 use borrow.Author.Tests.{le-leb, lt-leb, leb-true, leb-false}
-use Rattle.booleans.specs.Tests.{_and_}
 use Rattle.booleans.specs.Laws.{both}
-use Rattle.table.specs.declared.Survey.{Survey}
+use Rattle.booleans.specs.Tests.{_and_}
 use Rattle.table.specs.Nodes.{Kind, Block, Sequence, Choice, Loop, Limit, Unlimited, AtMost, Node}
-use Rattle.table.specs.Numbers.{recordLength, wholeRun, mostLoops, mostDepth, mostWeight}
-use Rattle.table.specs.Trees.{Tree, node, Forest, nil, _▸_, size, rest, around, records, recordsIn}
-use Rattle.table.specs.Questions.{countInRange, limitInRange, listed, listedIn, depth, depthIn, loops, loopsIn, nameOk, named, namedIn, share, weight, weightIn}
 use Rattle.table.specs.Bytes.{AreBytes}
-use Rattle.table.specs.Table.{recordBytes, encode, encodes, firstNode, childByte, recordCount, decode}
-use Rattle.table.specs.Checking.{question1, question2, question3, question4, question5, question6, question7}
-use Rattle.table.specs.Survey.{unfit, empty, withNext, listedShare, withParent, surveyMore, surveyNode, surveyChildren, mostShare, Small}
-use Rattle.table.specs.Laws.RoundTrip.{WritesNode, Writes, head-bytes, children-bytes, drop-bytes, length-bytes, length-encode}
-use Rattle.table.specs.Laws.Canonical.{encode-decode}
+use Rattle.table.specs.Checking.{question5, question6, question7, question1, question2, question3, question4}
+use Rattle.table.specs.Numbers.{wholeRun, mostLoops, recordLength, mostWeight, mostDepth}
+use Rattle.table.specs.Questions.{countInRange, limitInRange, share, named, weight, namedIn, weightIn, depth, loops, depthIn, loopsIn, nameOk, listed, listedIn}
+use Rattle.table.specs.Survey.{listedShare, unfit, withParent, surveyNode, surveyChildren, empty, withNext, surveyMore, Small, mostShare}
+use Rattle.table.specs.Table.{recordBytes, encode, encodes, decode, recordCount, firstNode, childByte}
+use Rattle.table.specs.Trees.{rest, around, Tree, records, Forest, recordsIn, node, size, nil, _▸_}
+use Rattle.table.specs.declared.Survey.{Survey}
 use Rattle.table.specs.Laws.Accepted.{forest-listed, decode-listed}
+use Rattle.table.specs.Laws.Canonical.{encode-decode}
 use Rattle.table.specs.Laws.NotRefused.{tree-writes}
 use Rattle.table.specs.Laws.Reading.{and-is}
+use Rattle.table.specs.Laws.RoundTrip.{WritesNode, head-bytes, children-bytes, drop-bytes, length-bytes, Writes, drop-tree}
 
 -- ---- tests
 
@@ -125,12 +124,6 @@ node-surveyed n f z zero d w l e = rw leb·suc-zero refl
 node-surveyed n f z (suc h) d w l e =
     rw (append-assoc, survey-record n (size f) (encodes f ++ z) h d w, e h, leb·suc-suc, leb-max)
     (parent-fits (leb (depthIn f) h) (leb d mostLoops) (leb (loopsIn (n .kind) f d) mostLoops) (n .limit) d _ _ (parent-is n f d l))
-
--- what stands behind n records and the tree t
-drop-tree : (t : Tree) (n : ℕ) (b z : List ℕ) → drop (recordLength * n) b ≡ encode t ++ z → drop (recordLength * (n + records t)) b ≡ z
-drop-tree t n b z e =
-    let m : recordLength * (n + records t) ≡ recordLength * n + recordLength * records t = omega arith in
-    rw (m, ← drop-drop, e) (drop-at (encode t) z (recordLength * records t) (length-encode t))
 
 next-none : (k : Kind) (s : Survey) (h d : ℕ) → s .fits ≡ true → s ≡ cond (fittingIn k nil h d) (withNext s (surveyIn k nil d)) unfit
 unfolding records depth loops named weight _and_

@@ -1,0 +1,126 @@
+-- What the evaluator's walk finds of a node's children, one after the other.
+use mathlib.Core.Path.{_≡_, refl, sym, ap, _∙_}
+use mathlib.Core.List.{List}
+use Prim.Native.Nat.{_≤_, ℕ, _+_, min, suc, _*_, _<_}
+use native.Mathlib.Nat.{le-trans}
+use native.Mathlib.Omega.{arith}
+use lib.Dec.{T, eqb→eq}
+use lib.ListN.{drop}
+use Rattle.booleans.specs.Laws.{both, join-and}
+use Rattle.table.specs.Numbers.{mostTime, wholeRun, recordLength, mostCount, mostWeight, firstTimeSymbol}
+use Rattle.table.specs.Questions.{arity, kindInRange}
+use Rattle.table.specs.Trees.{rest, Forest, recordsIn, nil, _▸_, size, Tree, records}
+use Rattle.lists.specs.Pairs.{ever, width, Canonical}
+use Rattle.lists.specs.Streams.{const, Stream}
+use Rattle.lists.specs.Laws.Pairs.{are-pairs}
+use Rattle.lists.specs.Laws.Sums.{Falls, const-falls}
+use Rattle.lists.specs.Laws.Union.{expand-ever}
+use Rattle.evaluate.specs.Nodes.{Kind, Block, Sequence, Choice, Loop}
+use Rattle.evaluate.specs.Evaluate.{Values, start, join, before, fits, fitsIn, nameIn, amount, name, turns, list, seen, figure}
+use Rattle.evaluate.specs.Evaluator.{Found, found, evaluateMore, evaluateBelow}
+use Rattle.evaluate.specs.Laws.Found.{Finds, Holds, known-finds, same-finds, found-holds, checked-finds, then-finds, joined-finds, round-finds}
+use Rattle.evaluate.specs.Laws.Joins.{join-zero, zero-join, join-assoc, join-left, join-right, rest-join}
+use Rattle.evaluate.specs.Laws.Monotone.{before-falls, nameIn-le, list-falls, turns-falls, join-falls}
+use Rattle.evaluate.specs.Laws.PairCount.{boundIn, grouped, bound}
+use Rattle.evaluate.specs.Laws.Ranges.{figure-most}
+
+-- what the children after the first are joined to, and how
+pub rest-start : (v : Values) (k : Kind) → start v (rest k) ≡ const 0
+unfolding start rest
+rest-start v (Block t) = refl
+rest-start v Sequence = refl
+rest-start v Choice = refl
+rest-start v (Loop n) = refl
+
+-- ---- children so far
+
+-- question 10 of a node's children, joined to the list a
+pub record Within (v : Values) (a : Stream) (k : Kind) (f : Forest) : Type 0 where
+  pub low : join k a (before v k f) 0 ≤ mostTime
+  pub fits : T (fitsIn v f)
+
+-- a walk of the children f after those of the list a
+abbrev pub More : (v : Values) (a : Stream) (w j m : ℕ) (k : Kind) (f : Forest) → Found → Type 0
+More v a w j m k f e = Finds (Within v a k f) e (join k a (before v k f)) (w + boundIn k f) (min j (nameIn k f)) (m + recordsIn f)
+
+-- what was found of the children so far
+pub record SoFar (s : Found) (a : Stream) (w j m : ℕ) : Type 0 where
+  pub holds : Holds s a w j m
+  pub falls : Falls a
+  pub low : a 0 ≤ mostTime
+  pub inner : j ≤ wholeRun
+
+-- when none is left
+pub no-more : (v : Values) (k : Kind) (a : Stream) (w j m : ℕ) (s : Found) → start v k ≡ const 0 → SoFar s a w j m → More v a w j m k nil s
+unfolding fits before boundIn nameIn recordsIn
+no-more v k a w j m s e h =
+    let i : a ≡ join k a (start v k) = sym (join-zero k a (h .falls)) ∙ ap (join k a) (sym e) in
+    same-finds (λ x. record { low = rw (← i) x; fits = tt }) (λ x. h .low) i (omega arith) (omega arith) (omega arith) (known-finds (h .low) (h .holds))
+
+-- before the first
+pub none-yet : SoFar (found (ever 0) wholeRun 0) (const 0) 0 wholeRun 0
+unfolding const Canonical width
+none-yet = record { holds = found-holds (const 0) (ever 0) 0 wholeRun 0 (are-pairs tt (expand-ever 0)) (omega arith); falls = const-falls 0; low = omega arith; inner = omega arith }
+
+-- from no children on
+from-none : (v : Values) (k : Kind) (f : Forest) (e : Found) → More v (const 0) 0 wholeRun 0 k f e
+    → Finds ((before v k f 0 ≤ mostTime) × T (fitsIn v f)) e (before v k f) (boundIn k f) (nameIn k f) (recordsIn f)
+from-none v k f e h =
+    let i : join k (const 0) (before v k f) ≡ before v k f = zero-join k _ (before-falls v k f) in
+    same-finds (λ x. (rw i at (x .low), x .fits)) (λ x. record { low = rw i (x .0); fits = x .1 }) i (omega arith) (omega (arith, nameIn-le k f)) (omega arith) h
+
+-- what is found of a node before its own limit, by what is found of its children
+pub below-finds : (v : Values) (k : Kind) (f : Forest) (g : List ℕ → Found) (b : List ℕ) → T (arity k (size f))
+    → (start v k ≡ const 0 → More v (const 0) 0 wholeRun 0 k f (evaluateMore v g k (size f) b (found (ever 0) wholeRun 0)))
+    → Finds ((before v k f 0 ≤ mostTime) × T (fitsIn v f)) (evaluateBelow v g k (size f) b) (before v k f) (boundIn k f) (nameIn k f) (recordsIn f)
+unfolding evaluateBelow start fits before boundIn nameIn recordsIn arity size Canonical width
+below-finds v (Block t) nil g b i q =
+    same-finds (λ x. (x, tt)) (λ x. x .0) refl refl refl refl (checked-finds (const (amount v t)) (ever (amount v t)) 0 wholeRun 0 (are-pairs tt (expand-ever (amount v t))) (omega arith))
+below-finds v (Block t) (u ▸ f) g b i q = absurd (omega (arith, eqb→eq (suc (size f)) 0 i))
+below-finds v Sequence f g b i q = from-none v Sequence f _ (q refl)
+below-finds v Choice f g b i q = from-none v Choice f _ (q refl)
+below-finds v (Loop m) f g b i q = from-none v (Loop m) f _ (q refl)
+
+-- ---- the next child
+
+-- a child's list, as its parent takes it
+abbrev pub childList : Values → Kind → Tree → Stream
+childList v k t = turns v k (name t) (list v t)
+
+child-falls : (v : Values) (k : Kind) (t : Tree) → Falls (childList v k t)
+child-falls v k t = turns-falls v k (name t) _ (list-falls v t)
+
+module _ (v : Values) (ranged : (k : ℕ) → k < firstTimeSymbol → v k ≤ mostCount) where
+  -- The first child, then the others. What is joined on the way has no larger first member than the whole, so the tests on the way ask what question 10 asks of the node.
+  pub next-more : (k : Kind) (t : Tree) (f : Forest) (g : List ℕ → Found) (b : List ℕ) (a : Stream) (w j m : ℕ) (s : Found)
+      → SoFar s a w j m → T (kindInRange k) → w + boundIn k (t ▸ f) ≤ mostWeight
+      → Finds (T (fits v t)) (g (drop (recordLength * s .records) b)) (list v t) (bound t) (name t) (records t)
+      → ((e : Found) → SoFar e (join k a (childList v k t)) (w + grouped k (name t) (bound t)) (min j (seen k (name t))) (m + records t)
+      → More v (join k a (childList v k t)) (w + grouped k (name t) (bound t)) (min j (seen k (name t))) (m + records t) (rest k) f (evaluateMore v g (rest k) (size f) b e))
+      → More v a w j m k (t ▸ f) (evaluateMore v g k (size (t ▸ f)) b s)
+  unfolding fits before boundIn nameIn recordsIn evaluateMore size
+  next-more k t f g b a w j m s h i l c q =
+      same-finds
+      (λ o. record { low = omega (arith, whole, o .1 .1 .1 .low); fits = join-and _ _ (o .0) (o .1 .1 .1 .fits) })
+      (λ o.
+      let (o₁, o₂) = both _ _ (o .fits) in
+      let n : join (rest k) (join k a x) y 0 ≤ mostTime = omega (arith, whole, o .low) in
+      let n₁ : join k a x 0 ≤ mostTime = le-trans (join-left (rest k) (join k a x) y) n in
+      (o₁, (le-trans (join-right k a x) n₁, (n₁, record { low = n; fits = o₂ }))))
+      e (omega arith) (omega arith) (omega arith)
+      (then-finds c (λ o r.
+      then-finds (round-finds v ranged k _ _ _ _ _ r (unfold figure in figure-most v t o) i (omega arith)) (λ o₁ r₁.
+      then-finds (joined-finds k s _ a x w _ j _ m _ (h .holds) r₁ (omega arith)) (λ o₂ r₂.
+      q _ (record { holds = r₂; falls = join-falls k a x (h .falls) (child-falls v k t); low = o₂; inner = omega (arith, h .inner) })))))
+    where
+      x : Stream
+      x = childList v k t
+
+      y : Stream
+      y = before v (rest k) f
+
+      e : join (rest k) (join k a x) y ≡ join k a (join k x y)
+      e = rest-join k (join k a x) y ∙ join-assoc k a x y (h .falls) (child-falls v k t) (before-falls v (rest k) f)
+
+      whole : join (rest k) (join k a x) y 0 ≡ join k a (join k x y) 0
+      whole = ap (λ z. z 0) e

@@ -1,0 +1,151 @@
+-- The evaluator's walk of a table finds the list of its tree where question 10 says yes, and elsewhere that it says no.
+use mathlib.Core.Path.{_≡_, refl, sym, ap, _∙_}
+use mathlib.Core.Bool.{true, Bool, false}
+use mathlib.Core.List.{List, _++_, [], append-assoc, append-nil}
+use Prim.Native.Nat.{ℕ, _≤_, _+_, _*_, suc, zero, _<_}
+use native.Mathlib.Nat.{le-trans}
+use native.Mathlib.Omega.{arith}
+use lib.Dec.{T, leb, leb→le, le→leb}
+use lib.ListN.{drop, length, length-append}
+use borrow.Author.Tests.{le-leb}
+use Rattle.booleans.specs.Laws.{both, T-is, is-T, join-and}
+use Rattle.table.specs.Bytes.{AreBytes}
+use Rattle.table.specs.Checking.{refusal}
+use Rattle.table.specs.Numbers.{mostLoops, mostWeight, recordLength, wholeRun, mostCount, mostDepth, firstTimeSymbol}
+use Rattle.table.specs.Questions.{listed, loops, named, weight, kindInRange, listedIn, loopsIn, namedIn, weightIn, depth, depthIn}
+use Rattle.table.specs.Table.{encode, recordBytes, encodes, decode}
+use Rattle.table.specs.Trees.{Tree, Forest, node, _▸_, around, rest, records, nil, size}
+use Rattle.table.specs.Laws.Accepted.{is-table}
+use Rattle.table.specs.Laws.NotRefused.{tree-writes}
+use Rattle.table.specs.Laws.RoundTrip.{WritesNode, head-bytes, children-bytes, drop-bytes, length-bytes, Writes, drop-tree}
+use Rattle.lists.specs.Pairs.{top, ever}
+use Rattle.lists.specs.Streams.{Stream, const}
+use Rattle.lists.specs.Laws.Pairs.{top-is}
+use Rattle.evaluate.specs.Nodes.{Kind, Node, Block, Sequence, Choice, Loop}
+use Rattle.evaluate.specs.Evaluate.{Values, name, list, figure, fits, start}
+use Rattle.evaluate.specs.Evaluator.{andThen, limited, evaluateBelow, evaluateNode, Found, found, evaluateMore}
+use Rattle.evaluate.specs.ListPairs.{listPairs}
+use Rattle.evaluate.specs.Laws.Children.{More, SoFar, rest-start, no-more, none-yet, below-finds, next-more}
+use Rattle.evaluate.specs.Laws.Found.{Holds, Finds, known-finds, same-finds, then-finds, limited-holds}
+use Rattle.evaluate.specs.Laws.ListPairs.{pairs-are}
+use Rattle.evaluate.specs.Laws.PairCount.{bound, boundIn}
+use Rattle.evaluate.specs.Laws.Weight.{bound-weight, boundIn-weight}
+
+-- ---- with d loops around, what checking lets pass: a tree, and children of a node of kind k
+
+pub record Fair (t : Tree) (d : ℕ) : Type 0 where
+  pub listed : T (listed t)
+  pub nested : loops t d ≤ mostLoops
+  pub named : T (named t d)
+  pub weighed : weight t d ≤ mostWeight
+
+pub record FairIn (k : Kind) (f : Forest) (d : ℕ) : Type 0 where
+  pub ranged : T (kindInRange k)
+  pub listed : T (listedIn f)
+  pub nested : loopsIn k f d ≤ mostLoops
+  pub named : T (namedIn k f d)
+  pub weighed : weightIn k f d ≤ mostWeight
+
+fair-below : (n : Node) (f : Forest) (d : ℕ) → Fair (node n f) d → FairIn (n .kind) f d
+unfolding listed loops named weight
+fair-below n f d a =
+    let (p, l) = both _ _ (a .listed) in
+    record { ranged = both _ _ (both _ _ p .0) .0; listed = l; nested = omega (arith, a .nested); named = both _ _ (a .named) .1; weighed = omega (arith, a .weighed) }
+
+fair-first : (k : Kind) (t : Tree) (f : Forest) (d : ℕ) → FairIn k (t ▸ f) d → Fair t (around k d)
+unfolding listed loops named weight
+fair-first k t f d a = record { listed = both _ _ (a .listed) .0; nested = omega (arith, a .nested); named = both _ _ (a .named) .0; weighed = omega (arith, a .weighed) }
+
+rest-ranged : (k : Kind) → T (kindInRange (rest k))
+unfolding kindInRange rest
+rest-ranged (Block t) = tt
+rest-ranged Sequence = tt
+rest-ranged Choice = tt
+rest-ranged (Loop n) = tt
+
+fair-rest : (k : Kind) (t : Tree) (f : Forest) (d : ℕ) → FairIn k (t ▸ f) d → FairIn (rest k) f d
+unfolding listed loops named weight
+fair-rest k t f d a = record { ranged = rest-ranged k; listed = both _ _ (a .listed) .1; nested = omega (arith, a .nested); named = both _ _ (a .named) .1; weighed = omega (arith, a .weighed) }
+
+-- ---- the table of a tree
+
+-- a node's record, and what follows it
+evaluate-record : (v : Values) (n : Node) (c : ℕ) (r : List ℕ) (h : ℕ) → WritesNode n
+    → evaluateNode v (suc h) (recordBytes n c ++ r) ≡ andThen (evaluateBelow v (evaluateNode v h) (n .kind) c r) (limited v (n .limit))
+unfolding evaluateNode
+evaluate-record v n c r h w =
+    let long : leb recordLength (length (recordBytes n c ++ r)) ≡ true = le-leb recordLength (length (recordBytes n c ++ r)) (rw (length-append, length-bytes) (omega arith)) in
+    simp (head-bytes, children-bytes, drop-bytes, long, w)
+
+-- ---- the walk
+
+-- what the walk e of the tree t answers: question 10 and, where it says yes, the list, its pairs and its first member
+pub record Evaluated (v : Values) (t : Tree) (e : Found) : Type 0 where
+  pub holds : T (fits v t) → Holds e (list v t) (bound t) (name t) (records t)
+  pub pairs : T (fits v t) → e .pairs ≡ listPairs v t
+  pub figure : T (fits v t) → top (e .pairs) ≡ figure v t
+  pub fits : e .fits ≡ fits v t
+
+finds-evaluated : (v : Values) (t : Tree) (e : Found) → Finds (T (fits v t)) e (list v t) (bound t) (name t) (records t) → Evaluated v t e
+unfolding figure
+finds-evaluated v t e h = record {
+  holds = h .holds;
+  pairs = λ i. pairs-are v t (e .pairs) (h .holds i .are);
+  figure = λ i. top-is (h .holds i .are);
+  fits = same (e .fits) (fits v t) (λ i. h .only (T-is _ i)) (λ i. is-T _ (h .holds i .fits));
+}
+  where
+    same : (a b : Bool) → (T a → T b) → (T b → T a) → a ≡ b
+    same true true x y = refl
+    same true false x y = absurd (x tt)
+    same false true x y = absurd (y tt)
+    same false false x y = refl
+
+module _ (v : Values) (ranged : (k : ℕ) → k < firstTimeSymbol → v k ≤ mostCount) where
+  -- by what is found of the children, whatever the fuel
+  node-finds : (n : Node) (f : Forest) (d h : ℕ) (b z : List ℕ) → b ≡ encode (node n f) ++ z → Fair (node n f) d → depth (node n f) ≤ h
+      → ((i : ℕ) → depthIn f ≤ i → start v (n .kind) ≡ const 0
+      → More v (const 0) 0 wholeRun 0 (n .kind) f (evaluateMore v (evaluateNode v i) (n .kind) (size f) (encodes f ++ z) (found (ever 0) wholeRun 0)))
+      → Finds (T (fits v (node n f))) (evaluateNode v h b) (list v (node n f)) (bound (node n f)) (name (node n f)) (records (node n f))
+  unfolding encode depth fits list bound name records listed Writes
+  node-finds n f d zero b z e a l q = absurd (omega arith)
+  node-finds n f d (suc h) b z e a l q =
+      let (p, o) = both _ _ (a .listed) in
+      let (p₁, p₂) = both _ _ p in
+      rw (e, append-assoc, evaluate-record v n (size f) (encodes f ++ z) h (tree-writes (node n f) (a .listed) .0))
+      (same-finds
+      (λ x. join-and _ _ (le→leb _ _ (x .0 .0)) (x .0 .1))
+      (λ x. let (x₁, x₂) = both _ _ x in ((leb→le _ _ x₁, x₂), tt))
+      refl refl refl refl
+      (then-finds {q = Unit {0}} (below-finds v (n .kind) f (evaluateNode v h) (encodes f ++ z) p₂ (q h (omega arith))) (λ x y.
+      known-finds tt (limited-holds v ranged (n .limit) _ _ _ _ _ y (both _ _ p₁ .1) (le-trans (bound-weight (node n f) d (a .nested) (a .named)) (a .weighed))))))
+
+  mutual
+    unfolding depth encode evaluateMore size boundIn
+
+    pub tree-finds : (t : Tree) (d h : ℕ) (b z : List ℕ) → b ≡ encode t ++ z → Fair t d → depth t ≤ h
+        → Finds (T (fits v t)) (evaluateNode v h b) (list v t) (bound t) (name t) (records t)
+    tree-finds (node n f) d h b z e a l =
+        let c = fair-below n f d a in
+        node-finds n f d h b z e a l (λ i o q. forest-finds f (n .kind) d i (encodes f ++ z) z (const 0) 0 wholeRun 0 _ refl c o q none-yet
+        (omega (arith, boundIn-weight (n .kind) f d (c .nested) (c .named), c .weighed)))
+
+    pub forest-finds : (f : Forest) (k : Kind) (d h : ℕ) (b z : List ℕ) (a : Stream) (w j m : ℕ) (s : Found) → drop (recordLength * m) b ≡ encodes f ++ z → FairIn k f d → depthIn f ≤ h
+        → start v k ≡ const 0 → SoFar s a w j m → w + boundIn k f ≤ mostWeight → More v a w j m k f (evaluateMore v (evaluateNode v h) k (size f) b s)
+    forest-finds nil k d h b z a w j m s e c l o g u = no-more v k a w j m s o g
+    forest-finds (t ▸ f) k d h b z a w j m s e c l o g u =
+        let q = e ∙ append-assoc (encode t) (encodes f) z in
+        next-more v ranged k t f (evaluateNode v h) b a w j m s g (c .ranged) u
+        (tree-finds t (around k d) h _ (encodes f ++ z) (ap (λ n. drop (recordLength * n) b) (g .holds .records) ∙ q) (fair-first k t f d c) (omega arith))
+        (λ r i. forest-finds f (rest k) d h b z _ _ _ _ r (drop-tree t m b (encodes f ++ z) q) (fair-rest k t f d c) (omega arith) (rest-start v k) i (omega arith))
+
+  pub evaluated : (t : Tree) (d h : ℕ) (b z : List ℕ) → b ≡ encode t ++ z → Fair t d → depth t ≤ h → Evaluated v t (evaluateNode v h b)
+  evaluated t d h b z e a l = finds-evaluated v t _ (tree-finds t d h b z e a l)
+
+  -- of a table that checking does not refuse
+  pub evaluated-table : (b : List ℕ) → AreBytes b → refusal b ≡ 0 → Evaluated v (decode b) (evaluateNode v mostDepth b)
+  evaluated-table b h e =
+      let t = is-table b h e in
+      let a = t .accepted in
+      evaluated (decode b) 0 mostDepth b [] (sym (append-nil (encode (decode b)) ∙ t .back))
+      (record { listed = a .listed; nested = a .nested; named = a .named; weighed = a .weighed }) (a .deep)
