@@ -4,8 +4,6 @@ use mathlib.Core.Bool.{Bool, true, false, cond, _&&_, _||_}
 use lib.Dec.{T}
 use Rattle.booleans.specs.Tests.{_and_}
 
--- ---- tests
-
 pub both : (a b : Bool) → T (a and b) → T a × T b
 unfolding _and_
 both true b t = (tt, t)
@@ -32,30 +30,29 @@ pub by-conds {ℓ κ μ} : {A : Type ℓ} {B : Type κ} (Q : A → B → Type μ
 by-conds Q true x y z w f g = f tt
 by-conds Q false x y z w f g = g refl
 
-pub two : (a b : Bool) → T (a && b) → T a × T b
-two true b t = (tt, t)
-two false b t = absurd t
+pub &&-both : (a b : Bool) → T (a && b) → T a × T b
+&&-both true b t = (tt, t)
+&&-both false b t = absurd t
 
-pub left : (a : Bool) → T (a || false) → T a
-left true h = tt
-left false h = h
+pub or-false : (a : Bool) → T (a || false) → T a
+or-false true h = tt
+or-false false h = h
 
--- ---- each record passes questions 2 and 3
+pub or-left : (a b : Bool) → T a → T (a || b)
+or-left true b h = tt
+or-left false b h = absurd h
 
-right : (a b : Bool) → T b → T (a || b)
-right true b h = tt
-right false b h = h
-
-pub lft : (a b : Bool) → T a → T (a || b)
-lft true b h = tt
-lft false b h = absurd h
-
-pub both-and : (a b : Bool) → T a → T b → T (a && b)
-both-and true b h i = i
-both-and false b h i = absurd h
-
--- ---- tests say what they test
+pub &&-join : (a b : Bool) → T a → T b → T (a && b)
+&&-join true b h i = i
+&&-join false b h i = absurd h
 
 pub or-else : (a b : Bool) → T (a || b) → a ≡ false → T b
 or-else true b h e = absurd (subst T e tt)
 or-else false b h e = h
+
+-- ---- the code's `&` is the definitions' `and`
+
+pub and-is : (x y : Bool) → (x && y) ≡ (x and y)
+unfolding _and_
+and-is true y = refl
+and-is false y = refl

@@ -4,6 +4,7 @@ use mathlib.Core.Bool.{Bool, true, false}
 use mathlib.Core.List.{List, [], _∷_}
 use Prim.Native.Nat.{ℕ, zero, suc}
 use lib.Dec.{eqb}
+use lib.ListN.{length}
 use Rattle.booleans.specs.Tests.{_and_}
 use Rattle.table.specs.Numbers.{howManyValues, mostRecords}
 use Rattle.table.specs.Trees.{Tree, node, Forest, nil, _▸_, _⧺_, size, rest, around, records}
@@ -21,7 +22,9 @@ use Rattle.simplify.specs.Rules.{isBlock, isSum, limitOf, children, relimit, le
 use Rattle.simplify.specs.Steps.{orElse, also, rule, inside, step, isNone, onward, steps}
 use Rattle.calls.specs.Nodes.{Plain, Symbol, Unlimited, AtMost, Block, Sequence, Choice, Loop}
 use Rattle.calls.specs.declared.Quote.{Quote}
-use Rattle.calls.specs.Answers.{ceiling, ranged, question9, quoteOf, figureAnswer}
+use Rattle.calls.specs.declared.Ending.{Ending}
+use Rattle.calls.specs.declared.Simplified.{Simplified}
+use Rattle.calls.specs.Answers.{ceiling, ranged, question9, quoteOf, figureAnswer, simplifyRefusal, endingOf, made, simplifyAnswer, simplifyWrites}
 
 -- ---- trees, as the document writes them
 
@@ -60,12 +63,12 @@ pub data Case : Type 0 where
   quotes : Tree → ℕ → Case
   -- the tree's list has these pairs
   lists : Tree → Pairs → Case
-  -- simplifying finishes with this tree, after so many steps
+  -- simplifying the tree's table, into a buffer of its length, writes this tree's and finishes after so many steps
   becomes : (original result : Tree) → (count : ℕ) → Case
 
-pub repeat : ℕ → List ℕ
-repeat zero = []
-repeat (suc n) = 0 ∷ repeat n
+pub noughts : ℕ → List ℕ
+noughts zero = []
+noughts (suc n) = 0 ∷ noughts n
 
 pub isFigure : ℕ → Quote → Bool
 isFigure x (Quote.Figure y) = eqb x y
@@ -77,10 +80,26 @@ samePairs (ever v) (run w d s) = false
 samePairs (run v c r) (ever w) = false
 samePairs (run v c r) (run w d s) = eqb v w and eqb c d and samePairs r s
 
+pub sameNumbers : List ℕ → List ℕ → Bool
+sameNumbers [] [] = true
+sameNumbers [] (y ∷ ys) = false
+sameNumbers (x ∷ xs) [] = false
+sameNumbers (x ∷ xs) (y ∷ ys) = eqb x y and sameNumbers xs ys
+
+pub isFinished : Ending → Bool
+isFinished Ending.Finished = true
+isFinished Ending.Spent = false
+
+pub hasWritten : (long count : ℕ) → Simplified → Bool
+hasWritten long count (Simplified.Written l n e) = eqb long l and eqb count n and isFinished e
+hasWritten long count (Simplified.Refused q) = false
+
 pub holds : Case → Bool
-holds (quotes t x) = isFigure x (figureAnswer (encode t) (repeat howManyValues))
+holds (quotes t x) = isFigure x (figureAnswer (encode t) (noughts howManyValues))
 holds (lists t ps) = samePairs ps (listPairs zeros t)
-holds (becomes t u n) = let m = steps mostRecords t in same (m .tree) u and eqb (m .taken) n and m .finished
+holds (becomes t u n) =
+    let out = noughts (length (encode t)) in
+    hasWritten (length (encode u)) n (simplifyAnswer (encode t) mostRecords out) and sameNumbers (simplifyWrites (encode t) mostRecords out) (encode u)
 
 pub allHold : List Case → Bool
 allHold [] = true
@@ -132,7 +151,7 @@ starred =
 
 -- to unfold this is to unfold all that the cases compute with
 unfoldable pub computed : ℕ
-unfolding block symbol _/_at_ sequence both either loop repeat isFigure samePairs holds allHold _and_ _⧺_ size rest around records S const add cap group shift merge next taken amount inner outward seen name limit rounds turns join start list figure fits arity timeInRange countInRange kindInRange limitInRange listed depth loops nameOk named share weight stays closed isPlain plainKind plainLimit symbolFree sameNumber sameLimit sameKind same isUnlimited isBlock isSum limitOf children relimit leaf bare timeOfKind timeOf when rule1 gives anyGives giveWay rule2 alone rule3 rule4 isZero anyZero without rule5 bares others total largest rule6 atFirst rule7 isPair headOf tailOf firstOf secondOf allPairs firsts shares sharedOut rule8 exit rule9 orElse also rule inside step isNone onward steps le un flag numFrom kindByte valueNum kindFrom loopByte limitNum limitFrom recordBytes encode firstNode childByte firstOnes afterOnes forest top decode formTrees each limitCount recordInRange firstNo question1 question2 question3 question4 question5 question6 question7 refusal placeOf turned place inFront tail pairs listPairs ceiling ranged question9 quoteOf figureAnswer
+unfolding block symbol _/_at_ sequence both either loop noughts isFigure samePairs sameNumbers isFinished hasWritten holds allHold _and_ _⧺_ size rest around records S const add cap group shift merge next taken amount inner outward seen name limit rounds turns join start list figure fits arity timeInRange countInRange kindInRange limitInRange listed depth loops nameOk named share weight stays closed isPlain plainKind plainLimit symbolFree sameNumber sameLimit sameKind same isUnlimited isBlock isSum limitOf children relimit leaf bare timeOfKind timeOf when rule1 gives anyGives giveWay rule2 alone rule3 rule4 isZero anyZero without rule5 bares others total largest rule6 atFirst rule7 isPair headOf tailOf firstOf secondOf allPairs firsts shares sharedOut rule8 exit rule9 orElse also rule inside step isNone onward steps le un flag numFrom kindByte valueNum kindFrom loopByte limitNum limitFrom recordBytes encode firstNode childByte firstOnes afterOnes forest top decode formTrees each limitCount recordInRange firstNo question1 question2 question3 question4 question5 question6 question7 refusal placeOf turned place inFront tail pairs listPairs ceiling ranged question9 quoteOf figureAnswer simplifyRefusal endingOf made simplifyAnswer simplifyWrites
 computed = 0
 
 pub starred-hold : allHold starred ≡ true

@@ -107,7 +107,7 @@ module _ (v : Values) where
   keeps Unlimited z = Unit {0}
   keeps (AtMost k m) z = z ≤ amount v m
 
-  -- z passes of a node in one pass of the nearest loop around it keep its limit, if that names this loop
+  -- z passes of a node in one pass of the loop whose body this limit is seen from keep it, if it names that loop
   unfoldable pub here : Limit → ℕ → Type 0
   here Unlimited z = Unit {0}
   here (AtMost k m) z = k ≤ 1 → z ≤ amount v m

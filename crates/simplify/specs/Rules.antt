@@ -17,7 +17,7 @@ isBlock Sequence = false
 isBlock Choice = false
 isBlock (Loop n) = false
 
--- a sequence or a choice
+-- a sequence or a choice: a node that joins its children alike
 unfoldable pub isSum : Kind → Bool
 isSum (Block t) = false
 isSum Sequence = true
@@ -86,7 +86,8 @@ alone l (t ▸ u ▸ f) = none
 unfoldable pub rule3 : Node → Forest → Option Tree
 rule3 n f = cond (isSum (n .kind)) (alone (n .limit) f) none
 
--- 4. a symbol-free node with closed children becomes a block of its first member before its own limit
+-- 4. a symbol-free node, not a block, whose children are each closed once limits naming that node itself are set aside (closedIn counts a loop as
+-- inside for its body), becomes a block of its first member before its own limit, keeping that limit
 unfoldable pub rule4 : Node → Forest → Option Tree
 rule4 n f =
     when (symbolFree (node n f) and not (isBlock (n .kind)) and closedIn (n .kind) f 0)

@@ -5,6 +5,7 @@ pub mod RoundTrip
 pub mod Canonical
 pub mod Accepted
 pub mod NotRefused
+pub mod Written
 pub mod Reading
 pub mod Survey
 pub mod Refusal

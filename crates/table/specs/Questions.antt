@@ -4,7 +4,7 @@ use Prim.Native.Nat.{ℕ, suc, max, _-_, _^_, _+_, _≤_}
 use lib.Dec.{leb, eqb, ltb, T}
 use Rattle.table.specs.Nodes.{Kind, Block, Sequence, Choice, Loop, Number, Plain, Symbol, Limit, Unlimited, AtMost}
 use Rattle.booleans.specs.Tests.{_and_}
-use Rattle.table.specs.Numbers.{mostChildren, mostTime, firstTimeSymbol, howManyValues, mostCount, wholeRun, mostLoops, mostRecords, mostDepth, mostWeight}
+use Rattle.table.specs.Numbers.{mostChildren, mostTime, firstTimeSymbol, howManySymbols, mostCount, wholeRun, mostLoops, mostRecords, mostDepth, mostWeight}
 use Rattle.table.specs.Trees.{Tree, node, Forest, nil, _▸_, size, rest, around, records}
 
 -- ---- 2 and 3: each node by itself
@@ -18,7 +18,7 @@ arity (Loop n) c = eqb c 2
 
 unfoldable pub timeInRange : Number → Bool
 timeInRange (Plain n) = leb n mostTime
-timeInRange (Symbol s) = leb firstTimeSymbol s and ltb s howManyValues
+timeInRange (Symbol s) = leb firstTimeSymbol s and ltb s howManySymbols
 
 unfoldable pub countInRange : Number → Bool
 countInRange (Plain n) = leb n mostCount
@@ -35,6 +35,7 @@ unfoldable pub limitInRange : Limit → Bool
 limitInRange Unlimited = true
 limitInRange (AtMost k m) = ((leb 1 k and leb k mostLoops) || eqb k wholeRun) and countInRange m
 
+-- every node is as questions 2 and 3 ask
 unfoldable mutual
   pub listed : Tree → Bool
   listed (node n f) = kindInRange (n .kind) and limitInRange (n .limit) and arity (n .kind) (size f) and listedIn f

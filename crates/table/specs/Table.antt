@@ -59,7 +59,7 @@ recordBytes n c =
     (kindByte (n .kind) ∷ (flag (valueNum (n .kind)) + 2 * flag (limitNum (n .limit))) ∷ c ∷ loopByte (n .limit) ∷ [])
     ++ le 4 (raw (limitNum (n .limit))) ++ le 8 (raw (valueNum (n .kind)))
 
--- the table of a tree, and of a forest, before what follows
+-- the table of a tree, and of a forest: a node's record first, then its children in order, each with everything below it
 unfoldable mutual
   pub encode : Tree → List ℕ
   encode (node n f) = recordBytes n (size f) ++ encodes f
@@ -68,10 +68,11 @@ unfoldable mutual
   encodes nil = []
   encodes (t ▸ f) = encode t ++ encodes f
 
--- the first record: its node, and how many children
+-- the number in the n bytes from byte i on
 abbrev pub field : List ℕ → ℕ → ℕ → ℕ
 field b i n = un (take n (drop i b))
 
+-- the node of the first record, and how many children it has
 unfoldable pub firstNode : List ℕ → Node
 firstNode b = record {
   kind = kindFrom (getD b 0 0) (numFrom (getD b 1 0 % 2) (field b 8 8));

@@ -18,7 +18,7 @@ pub const RECORD_LENGTH: usize = 16;
 
 pub const MOST_RECORDS: usize = 512;
 
-pub const HOW_MANY_VALUES: u64 = 32;
+pub const HOW_MANY_SYMBOLS: u64 = 32;
 
 pub const FIRST_TIME_SYMBOL: u64 = 16;
 
@@ -215,7 +215,7 @@ fn time_in_range(time: Number) -> bool
 {
     match time {
         Number::Plain(n) => n <= MOST_TIME,
-        Number::Symbol(s) => (FIRST_TIME_SYMBOL <= s) & (s < HOW_MANY_VALUES),
+        Number::Symbol(s) => (FIRST_TIME_SYMBOL <= s) & (s < HOW_MANY_SYMBOLS),
     }
 }
 

@@ -2,13 +2,14 @@
 use mathlib.Core.Path.{_≡_, refl, sym, ap, _∙_, subst}
 use mathlib.Core.Bool.{Bool, true, false, cond}
 use mathlib.Core.List.{List, []}
-use Prim.Native.Nat.{ℕ}
+use Prim.Native.Nat.{ℕ, _≤_}
 use native.Mathlib.Omega.{arith}
 use lib.Dec.{T, leb, eqb}
-use lib.ListN.{length, take, drop}
+use lib.ListN.{length, take, drop, length-append}
 use lib.Seq.{take-at}
+use borrow.Author.Tests.{eqb-true}
 use Rattle.table.specs.Bytes.{AreBytes}
-use Rattle.table.specs.Table.{encode, decode}
+use Rattle.table.specs.Table.{encode, decode, recordCount}
 use Rattle.table.specs.Questions.{Accepted}
 use Rattle.table.specs.Checking.{refusal}
 use Rattle.table.specs.Laws.RoundTrip.{length-encode}
@@ -19,16 +20,21 @@ use Rattle.evaluate.specs.Laws.Monotone.{figure-mono, fits-zeros}
 use Rattle.simplify.specs.Steps.{Made, isNone, step, steps}
 use Rattle.simplify.specs.Laws.Stepping.{Kept}
 use Rattle.simplify.specs.Laws.Stepwise.{steps-kept, steps-made, steps-within, steps-spent, steps-finished}
+use Rattle.calls.specs.declared.Checked.{Checked}
 use Rattle.calls.specs.declared.Quote.{Quote}
 use Rattle.calls.specs.declared.Ending.{Ending}
 use Rattle.calls.specs.declared.Simplified.{Simplified}
-use Rattle.calls.specs.Answers.{valuesOf, quoteOf, figureAnswer, simplifyRefusal, endingOf, made, simplifyAnswer, simplifyWrites, over}
-use Rattle.calls.specs.Demand.{Sold, Demand3}
+use Rattle.calls.specs.Answers.{checkAnswer, valuesOf, quoteOf, figureAnswer, simplifyRefusal, endingOf, made, simplifyAnswer, simplifyWrites, over}
+use Rattle.calls.specs.Demand.{Sold, soldBytes, Demand3}
 use Rattle.calls.specs.Laws.Figures.{is-figure, figure-is, figure-of}
 
 take-over : (front buffer : List ℕ) → take (length front) (over front buffer) ≡ front
 unfolding over
 take-over front buffer = take-at front (drop (length front) buffer) (length front) refl
+
+long-over : (front buffer : List ℕ) → length front ≤ length (over front buffer)
+unfolding over
+long-over front buffer = rw length-append (omega arith)
 
 spent-not : (finished : Bool) → endingOf finished ≡ Ending.Spent → finished ≡ false
 unfolding endingOf
@@ -40,7 +46,7 @@ spent-not true e = absurd (subst T (ap isFinished e) tt)
 spent-not false e = refl
 
 module _ (b : List ℕ) (n : ℕ) (v w : List ℕ) (h : AreBytes b) (e : refusal b ≡ 0) where
-  sold : T (fits zeros (decode b)) → Sold b n v w (encode (steps n (decode b) .tree)) (steps n (decode b) .taken) (endingOf (steps n (decode b) .finished))
+  sold : T (fits zeros (decode b)) → Sold b n v w (encode (steps n (decode b) .tree)) (steps n (decode b) .taken) (endingOf (steps n (decode b) .finished)) (figureAnswer b v) (figureAnswer (encode (steps n (decode b) .tree)) w)
   sold f =
       let t = decode b in
       let i : IsTable b = is-table b h e in
@@ -76,19 +82,42 @@ module _ (b : List ℕ) (n : ℕ) (v w : List ℕ) (h : AreBytes b) (e : refusal
   refusal-is out = rw e refl
 
   -- by the three answers left
-  by-answer : (out : List ℕ) (x y : Bool) → (T y → T (fits zeros (decode b))) → (y ≡ false → fits zeros (decode b) ≡ false)
-      → Demand3 b n v w (over (cond (eqb (cond x (cond y 0 10) 8) 0) (encode (steps n (decode b) .tree)) []) out)
-      (cond (eqb (cond x (cond y 0 10) 8) 0)
-      (Simplified.Written (length (encode (steps n (decode b) .tree))) (steps n (decode b) .taken) (endingOf (steps n (decode b) .finished)))
-      (Simplified.Refused (cond x (cond y 0 10) 8)))
-  unfolding Demand3
-  by-answer out true true f g =
+  by-answer : (out : List ℕ) (k : ℕ) (x y : Bool) → (T y → T (fits zeros (decode b))) → (y ≡ false → fits zeros (decode b) ≡ false)
+      → let q : ℕ = cond x (cond y 0 10) 8 in
       let m = steps n (decode b) in
-      subst (λ s. Sold b n v w s (m .taken) (endingOf (m .finished))) (sym (take-over (encode (m .tree)) out)) (sold (f tt))
-  by-answer out true false f g = λ q u x p. too-large (g refl) u x p
-  by-answer out false y f g = λ q. absurd (omega arith)
+      let a = cond (eqb q 0) (Simplified.Written (length (encode (m .tree))) (m .taken) (endingOf (m .finished))) (Simplified.Refused q) in
+      let buffer = over (cond (eqb q 0) (encode (m .tree)) []) out in
+      Demand3 b n v w buffer (Checked.Accepted k) a (figureAnswer b v) (figureAnswer (soldBytes a buffer) w)
+  unfolding Demand3 soldBytes
+  by-answer out k true true f g =
+      let m = steps n (decode b) in (
+        long-over (encode (m .tree)) out,
+        subst (λ s. Sold b n v w s (m .taken) (endingOf (m .finished)) (figureAnswer b v) (figureAnswer s w)) (sym (take-over (encode (m .tree)) out)) (sold (f tt)),
+      )
+  by-answer out k true false f g = λ q. too-large (g refl)
+  by-answer out k false y f g = λ q. absurd (omega arith)
 
-  -- for every accepted table, every allowance, every output buffer and whatever values the two desks hold
-  pub demand3 : (out : List ℕ) → Demand3 b n v w (over (simplifyWrites b n out) out) (simplifyAnswer b n out)
+  accepted : (out : List ℕ) (k : ℕ)
+      → Demand3 b n v w (over (simplifyWrites b n out) out) (Checked.Accepted k) (simplifyAnswer b n out)
+      (figureAnswer b v) (figureAnswer (soldBytes (simplifyAnswer b n out) (over (simplifyWrites b n out) out)) w)
   unfolding simplifyAnswer simplifyWrites made
-  demand3 out = rw (refusal-is out) (by-answer out (leb (length b) (length out)) (fits zeros (decode b)) (λ f. f) (λ q. q))
+  accepted out k = rw (refusal-is out) (by-answer out k (leb (length b) (length out)) (fits zeros (decode b)) (λ f. f) (λ q. q))
+
+-- for every table, every allowance, every output buffer and whatever values the two desks hold
+pub demand3 : (b : List ℕ) → AreBytes b → (n : ℕ) (v w out : List ℕ)
+    → let answer = simplifyAnswer b n out in
+    let buffer = over (simplifyWrites b n out) out in
+    Demand3 b n v w buffer (checkAnswer b) answer (figureAnswer b v) (figureAnswer (soldBytes answer buffer) w)
+unfolding checkAnswer
+demand3 b h n v w out = go (eqb (refusal b) 0) refl
+  where
+    buffer : List ℕ
+    buffer = over (simplifyWrites b n out) out
+
+    sales : Quote
+    sales = figureAnswer (soldBytes (simplifyAnswer b n out) buffer) w
+
+    go : (x : Bool) → eqb (refusal b) 0 ≡ x
+        → Demand3 b n v w buffer (cond x (Checked.Accepted (recordCount b)) (Checked.Refused (refusal b))) (simplifyAnswer b n out) (figureAnswer b v) sales
+    go true e = accepted b n v w h (eqb-true (refusal b) 0 e) out (recordCount b)
+    go false e = unfold Demand3 in tt

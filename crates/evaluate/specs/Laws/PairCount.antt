@@ -12,7 +12,7 @@ use Rattle.evaluate.specs.Nodes.{Limit, Unlimited, AtMost, Kind, Block, 
 use Rattle.evaluate.specs.Evaluate.{name, join, rounds, Values, amount, turns, start, limit, list, before}
 use Rattle.evaluate.specs.Laws.Monotone.{list-falls}
 
--- a bound on that, for every P and all values
+-- a bound on how often a tree's list falls, at all values: each limit is one fall, and a group sees each fall at most twice
 unfoldable pub own : Limit → ℕ → ℕ
 own Unlimited w = w
 own (AtMost k m) w = suc w

@@ -38,7 +38,7 @@ group-most : (n c : ℕ) (f : Stream) → ((i : ℕ) → f i ≤ c) → (i : ℕ
 unfolding group shift const
 group-most n c f h i = omega (arith, S-le (shift f (n * i)) (const c) (λ j. h (n * i + j)) n, S-const c n)
 
--- of a subtree with d loops around: what a program that evaluates it can hold
+-- what a program that holds the list of a subtree can rely on
 pub record Ranged (v : Values) (t : Tree) : Type 0 where
   -- at most 256 pairs, whose finite counts sum to at most 255,000,000
   pub few : suc (width (listPairs v t)) ≤ suc mostWeight

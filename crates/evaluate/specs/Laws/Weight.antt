@@ -7,7 +7,7 @@ use native.Mathlib.Omega.{arith}
 use lib.Dec.{leb, T, eqb, eqb→eq, leb→le}
 use lib.Pow.{pow-mono}
 use borrow.Author.Tests.{leb-true, leb-false, le-leb, lt-leb, eqb-true}
-use Rattle.booleans.specs.Laws.{both, by-cond}
+use Rattle.booleans.specs.Laws.{both, by-cond, or-false}
 use Rattle.table.specs.Numbers.{wholeRun, mostLoops}
 use Rattle.table.specs.Questions.{nameOk, named, namedIn, share, loops, loopsIn, weight, weightIn}
 use Rattle.table.specs.Trees.{around, Tree, node, Forest, nil, _▸_, rest}
@@ -163,7 +163,7 @@ mutual
       together : (u w p x y s z : ℕ) → p ≤ x → p ≤ y → u * x ≤ s → w * y ≤ z → (u + w) * p ≤ s + z
       together u w p x y s z a b c e = omega (arith, mul-le-mul-left u a, mul-le-mul-left w b)
 
--- so no list of an accepted table, nor of a part of it, has more than 256 pairs
+-- so it is within question 7's sum alone
 pub bound-weight : (t : Tree) (d : ℕ) → loops t d ≤ mostLoops → T (named t d) → bound t ≤ weight t d
 bound-weight t d l h =
     omega (arith, weight-bound t d l h, mul-le-mul-left (bound t) (pow-mono {i = 0} {j = within d (name t)} (omega arith)))

@@ -166,14 +166,3 @@ group-few n f h (suc P) = step (group-few n f h P) (leb (falls f (n * P + (n + n
     step i false e =
         let u : falls f (n * P) < falls f (n * suc (suc P)) = rw e₂ (leb-false _ _ e) in
         omega (arith, falls-suc (group n f) P, drop-most (group n f P) (group n f (suc P)))
-
--- ---- trees
-
-taken-le : (f g : Stream) (n : ℕ) → (taken f g n .0 ≤ n) × (taken f g n .1 ≤ n)
-unfolding taken next
-taken-le f g zero = (omega arith, omega arith)
-taken-le f g (suc n) = go (leb (g (taken f g n .1)) (f (taken f g n .0))) (taken-le f g n)
-  where
-    go : (b : Bool) → (taken f g n .0 ≤ n) × (taken f g n .1 ≤ n) → (cond b (suc (taken f g n .0)) (taken f g n .0) ≤ suc n) × (cond b (taken f g n .1) (suc (taken f g n .1)) ≤ suc n)
-    go true (a, b) = (omega arith, omega arith)
-    go false (a, b) = (omega arith, omega arith)

@@ -1,4 +1,4 @@
--- Rule 4: a symbol-free node with closed children becomes a block.
+-- Rule 4: a symbol-free node whose children are closed, once limits naming that node are set aside, becomes a block.
 use mathlib.Core.Path.{_≡_, sym, ap, _∙_}
 use mathlib.Core.Bool.{not}
 use Prim.Native.Nat.{ℕ, _≤_}

@@ -208,11 +208,12 @@ rule1-kept t h = record {
     same-figure : (v : Values) → figure v (leaf (figure zeros t) Unlimited) ≡ figure v t
     same-figure v = sym (same-first v ∙ unfold figure in sym (ap (λ s. s 0) (leaf-list v (list zeros t 0)) ∙ unfold const in refl))
 
--- a step, where there is one: it keeps, and it leaves fewer records or a tree where no rule fits
+-- a step, where there is one: it keeps, and it leaves fewer records, or, by rule 1, one record alone (fewer too, unless the table was a lone limited
+-- block), where no rule fits any more
 pub data Steps (t : Tree) : Option Tree → Type 0 where
   ends : Steps t none
   goes : {u : Tree} → Kept u t → (T (listed t) → records u < records t) → Steps t (some u)
-  last : {u : Tree} → Kept u t → step u ≡ none → Steps t (some u)
+  last : {u : Tree} → Kept u t → records u ≡ 1 → step u ≡ none → Steps t (some u)
 
 -- no rule fits an unlimited plain block
 pub leaf-done : (x : ℕ) → step (leaf x Unlimited) ≡ none
@@ -224,6 +225,6 @@ unfolding step rule1
 step-steps t = go (symbolFree t and not (bare t)) (λ h. both _ _ h .0) (inside t) (inside-moves t)
   where
     go : (b : Bool) → (T b → T (symbolFree t)) → (x : Option Tree) → Moves t x → Steps t (orElse (when b (leaf (figure zeros t) Unlimited)) x)
-    go true h x m = unfold when in unfold orElse in last (rule1-kept t (h tt)) (leaf-done _)
+    go true h x m = unfold when in unfold orElse in last (rule1-kept t (h tt)) (leaf-records _ Unlimited) (leaf-done _)
     go false h none stays-so = unfold when in unfold orElse in ends
     go false h (some u) (moves r) = unfold when in unfold orElse in goes (refines-kept u t r) (r .fewer)

@@ -19,7 +19,7 @@ onward-kept : (t : Tree) (k : Tree → Made) → ((u : Tree) → Kept (k u .tree
 unfolding onward
 onward-kept t k h none ends = kept-refl t
 onward-kept t k h (some u) (goes q l) = kept-trans t u _ (h u) q
-onward-kept t k h (some u) (last q e) = kept-trans t u _ (h u) q
+onward-kept t k h (some u) (last q o e) = kept-trans t u _ (h u) q
 
 pub steps-kept : (n : ℕ) (t : Tree) → Kept (steps n t .tree) t
 unfolding steps
@@ -80,7 +80,7 @@ onward-ends : (n : ℕ) (t : Tree) → ((u : Tree) → T (fits zeros u) → Acce
 unfolding onward
 onward-ends n t h f a l none ends = refl
 onward-ends n t h f a l (some u) (goes q r) = h u (q .stillFits zeros f) (q .stillAccepted f a) (omega (arith, r (a .listed)))
-onward-ends n t h f a l (some u) (last q e) = done n u e
+onward-ends n t h f a l (some u) (last q o e) = done n u e
 
 pub steps-end : (n : ℕ) (t : Tree) → T (fits zeros t) → Accepted t → records t ≤ n → steps n t .finished ≡ true
 unfolding steps

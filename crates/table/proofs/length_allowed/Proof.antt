@@ -1,7 +1,7 @@
 -- The code's tests, joined by `&`, are question 1's.
 use borrow.Author.Needs.{needs}
 use Rattle.table.specs.Checking.{question1}
-use Rattle.table.specs.Laws.Reading.{and-is}
+use Rattle.booleans.specs.Laws.{and-is}
 use Rattle.table.proofs.length_allowed.Statement.{statement}
 use Rattle.table.proofs.length_allowed.Tie as tie
 

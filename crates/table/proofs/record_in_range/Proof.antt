@@ -2,7 +2,7 @@
 use mathlib.Core.Path.{refl}
 use borrow.Author.Needs.{needs}
 use Rattle.table.specs.Checking.{recordInRange}
-use Rattle.table.specs.Laws.Reading.{and-is}
+use Rattle.booleans.specs.Laws.{and-is}
 use Rattle.table.proofs.record_in_range.Statement.{statement}
 use Rattle.table.proofs.record_in_range.Tie as tie
 

@@ -1,7 +1,7 @@
 -- Each arm is told which constructor the number is, and `timeInRange` computes there.
 use borrow.Author.Needs.{needs}
 use Rattle.table.specs.Questions.{timeInRange}
-use Rattle.table.specs.Laws.Reading.{and-is}
+use Rattle.booleans.specs.Laws.{and-is}
 use Rattle.table.proofs.time_in_range.Statement.{statement}
 use Rattle.table.proofs.time_in_range.Tie as tie
 

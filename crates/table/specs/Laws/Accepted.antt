@@ -8,7 +8,7 @@ use lib.Dec.{T, leb, eqb, le→leb, ltb, eqb→eq, leb→le}
 use lib.ListN.{getD, drop, length}
 use borrow.Author.Tests.{ne-eqb}
 use Rattle.booleans.specs.Tests.{_and_}
-use Rattle.booleans.specs.Laws.{join-and, two, left, both}
+use Rattle.booleans.specs.Laws.{join-and, &&-both, or-false, both}
 use Rattle.table.specs.Numbers.{recordLength, mostRecords, mostChildren, wholeRun, mostLoops}
 use Rattle.table.specs.Trees.{Forest, nil, _▸_, size, records}
 use Rattle.table.specs.Questions.{arity, limitInRange, kindInRange, listed, listedIn, Accepted}
@@ -20,10 +20,10 @@ use Rattle.table.specs.Laws.Canonical.{bytes-drop, encode-decode}
 
 kind-arity : (k c s v : ℕ) → c < 256 → T (kindListed k c s v) → T (arity (kindFrom k (numFrom s v)) c)
 unfolding arity kindFrom
-kind-arity zero c s v l t = left (eqb c 0) (left (eqb c 0 || false) t)
-kind-arity (suc zero) c s v l t = let q = two (leb 1 c && eqb s 0) _ t in join-and _ _ (two (leb 1 c) _ (q .0) .0) (le→leb c mostChildren (omega arith))
-kind-arity (suc (suc zero)) c s v l t = let q = two (leb 1 c && eqb s 0) _ t in join-and _ _ (two (leb 1 c) _ (q .0) .0) (le→leb c mostChildren (omega arith))
-kind-arity (suc (suc (suc zero))) c s v l t = left (eqb c 2) t
+kind-arity zero c s v l t = or-false (eqb c 0) (or-false (eqb c 0 || false) t)
+kind-arity (suc zero) c s v l t = let q = &&-both (leb 1 c && eqb s 0) _ t in join-and _ _ (&&-both (leb 1 c) _ (q .0) .0) (le→leb c mostChildren (omega arith))
+kind-arity (suc (suc zero)) c s v l t = let q = &&-both (leb 1 c && eqb s 0) _ t in join-and _ _ (&&-both (leb 1 c) _ (q .0) .0) (le→leb c mostChildren (omega arith))
+kind-arity (suc (suc (suc zero))) c s v l t = or-false (eqb c 2) t
 kind-arity (suc (suc (suc (suc k)))) c s v l t =
     absurd (simp (ne-eqb (suc (suc (suc (suc k)))) 0 (omega arith), ne-eqb (suc (suc (suc (suc k)))) 1 (omega arith), ne-eqb (suc (suc (suc (suc k)))) 2 (omega arith), ne-eqb (suc (suc (suc (suc k)))) 3 (omega arith)) at t)
 
@@ -35,8 +35,8 @@ limit-ranged (suc k) s m t c = join-and _ _ (go (leb 1 (suc k)) (leb (suc k) mos
     go : (a b d e : Bool) → e ≡ false → T ((a && b) || d || (e && eqb s 0 && eqb m 0)) → T ((a and b) || d)
     go a b d true q t = absurd (subst T q tt)
     go true true d false q t = unfold _and_ in tt
-    go true false d false q t = unfold _and_ in left d t
-    go false b d false q t = unfold _and_ in left d t
+    go true false d false q t = unfold _and_ in or-false d t
+    go false b d false q t = unfold _and_ in or-false d t
 
 -- a record that passes questions 2 and 3
 record-ok : (b : List ℕ) → AreBytes b → T (recordListed b) → T (recordInRange b)
@@ -46,8 +46,8 @@ unfolding recordInRange firstNode childByte
 record-ok b h t r =
     let S = kindListed (getD b 0 0) (getD b 2 0) (getD b 1 0 % 2) (field b 8 8) in
     let N = limitListed (getD b 3 0) (getD b 1 0 / 2) (field b 4 4) in
-    let q = two (S && N) (ltb (getD b 1 0) 4) t in
-    let p = two S N (q .0) in
+    let q = &&-both (S && N) (ltb (getD b 1 0) 4) t in
+    let p = &&-both S N (q .0) in
     let (x, y) = both _ _ r in
     (x, limit-ranged (getD b 3 0) (getD b 1 0 / 2) (field b 4 4) (p .1) y, kind-arity (getD b 0 0) (getD b 2 0) (getD b 1 0 % 2) (field b 8 8) (h 2) (p .0))
 

@@ -1,17 +1,11 @@
--- Numbers written and read back.
-use mathlib.Core.Path.{_≡_, refl, ap}
-use mathlib.Core.List.{List, [], _∷_}
-use Prim.Native.Nat.{ℕ, zero, suc, _/_, _*_, _^_, _<_, _+_, _%_, _≤_}
-use native.Mathlib.Nat.{div-lt-iff-lt-mul, zero-lt-suc, pow-suc, one-le-pow}
+-- Numbers written as bytes and read back.
+use mathlib.Core.Path.{_≡_, refl}
+use mathlib.Core.List.{List, [], _∷_, _++_}
+use Prim.Native.Nat.{ℕ, zero, suc, _/_, _*_, _^_, _<_, _+_, _%_}
+use native.Mathlib.Nat.{div-lt-iff-lt-mul, zero-lt-suc, pow-suc}
 use native.Mathlib.Omega.{arith}
-use lib.ListN.{length, getD, drop}
-use lib.Seq.{drop-cons}
+use lib.ListN.{length}
 use Rattle.table.specs.Bytes.{le, un, AreBytes}
-
-pub length-le : (n x : ℕ) → length (le n x) ≡ n
-unfolding le
-length-le zero x = refl
-length-le (suc n) x = ap suc (length-le n (x / 256))
 
 pub un-le : (n x : ℕ) → x < 256 ^ n → un (le n x) ≡ x
 unfolding le un
@@ -29,12 +23,13 @@ le-un (x ∷ xs) h =
     let d : (x + 256 * un xs) / 256 ≡ un xs = omega arith in
     rw (m, d, le-un xs (λ i. h (suc i)))
 
-pub un-drop : (b : List ℕ) (i : ℕ) → i < length b → un (drop i b) ≡ getD b i 0 + 256 * un (drop (suc i) b)
-unfolding un
-un-drop b i h = ap un (drop-cons b i 0 h)
+pub bytes-le : (n x : ℕ) → AreBytes (le n x)
+unfolding le
+bytes-le zero x i = omega arith
+bytes-le (suc n) x zero = let l : x % 256 < 256 = omega arith in l
+bytes-le (suc n) x (suc i) = bytes-le n (x / 256) i
 
-pub un-lt : (n : ℕ) (b : List ℕ) → length b ≤ n → AreBytes b → un b < 256 ^ n
-unfolding un
-un-lt n [] l h = one-le-pow n 256 (omega arith)
-un-lt zero (x ∷ xs) l h = absurd (omega arith)
-un-lt (suc n) (x ∷ xs) l h = rw pow-suc (omega (arith, un-lt n xs (omega arith) (λ i. h (suc i)), h 0))
+pub bytes-append : (a b : List ℕ) → AreBytes a → AreBytes b → AreBytes (a ++ b)
+bytes-append [] b h k i = k i
+bytes-append (x ∷ a) b h k zero = h 0
+bytes-append (x ∷ a) b h k (suc i) = bytes-append a b (λ j. h (suc j)) k i

@@ -8,7 +8,7 @@ use lib.Dec.{T, eqb→eq, eqb, leb, ltb, ltb→lt}
 use lib.ListN.{take, drop, length, length-drop, getD}
 use lib.Seq.{take-add, getD-drop, length-take-le, take-length}
 use borrow.Author.Tests.{ne-eqb}
-use Rattle.booleans.specs.Laws.{two, both}
+use Rattle.booleans.specs.Laws.{&&-both, both}
 use Rattle.table.specs.Numbers.{recordLength}
 use Rattle.table.specs.Trees.{size, Forest, nil, _▸_}
 use Rattle.table.specs.Bytes.{AreBytes, le, un}
@@ -55,8 +55,8 @@ kind-back : (k c s v : ℕ) → T (kindListed k c s v) → s < 2
     → (kindByte (kindFrom k (numFrom s v)) ≡ k) × (flag (valueNum (kindFrom k (numFrom s v))) ≡ s) × (raw (valueNum (kindFrom k (numFrom s v))) ≡ v)
 unfolding kindByte kindFrom valueNum flag
 kind-back zero c s v t h = (refl, flag-num s v h, raw-num s v)
-kind-back (suc zero) c s v t h = let q = two (leb 1 c && eqb s 0) _ t in (refl, sym (eqb→eq s 0 (two (leb 1 c) _ (q .0) .1)), sym (eqb→eq v 0 (q .1)))
-kind-back (suc (suc zero)) c s v t h = let q = two (leb 1 c && eqb s 0) _ t in (refl, sym (eqb→eq s 0 (two (leb 1 c) _ (q .0) .1)), sym (eqb→eq v 0 (q .1)))
+kind-back (suc zero) c s v t h = let q = &&-both (leb 1 c && eqb s 0) _ t in (refl, sym (eqb→eq s 0 (&&-both (leb 1 c) _ (q .0) .1)), sym (eqb→eq v 0 (q .1)))
+kind-back (suc (suc zero)) c s v t h = let q = &&-both (leb 1 c && eqb s 0) _ t in (refl, sym (eqb→eq s 0 (&&-both (leb 1 c) _ (q .0) .1)), sym (eqb→eq v 0 (q .1)))
 kind-back (suc (suc (suc zero))) c s v t h = (refl, flag-num s v h, raw-num s v)
 kind-back (suc (suc (suc (suc k)))) c s v t h =
     absurd (simp (ne-eqb (suc (suc (suc (suc k)))) 0 (omega arith), ne-eqb (suc (suc (suc (suc k)))) 1 (omega arith), ne-eqb (suc (suc (suc (suc k)))) 2 (omega arith), ne-eqb (suc (suc (suc (suc k)))) 3 (omega arith)) at t)
@@ -64,7 +64,7 @@ kind-back (suc (suc (suc (suc k)))) c s v t h =
 limit-back : (k s m : ℕ) → T (limitListed k s m) → s < 2
     → (loopByte (limitFrom k (numFrom s m)) ≡ k) × (flag (limitNum (limitFrom k (numFrom s m))) ≡ s) × (raw (limitNum (limitFrom k (numFrom s m))) ≡ m)
 unfolding loopByte limitFrom limitNum flag
-limit-back zero s m t h = let q = two (eqb s 0) (eqb m 0) t in (refl, sym (eqb→eq s 0 (q .0)), sym (eqb→eq m 0 (q .1)))
+limit-back zero s m t h = let q = &&-both (eqb s 0) (eqb m 0) t in (refl, sym (eqb→eq s 0 (q .0)), sym (eqb→eq m 0 (q .1)))
 limit-back (suc k) s m t h = (refl, flag-num s m h, raw-num s m)
 
 pub bytes-drop : (b : List ℕ) (i : ℕ) → AreBytes b → AreBytes (drop i b)
@@ -97,8 +97,8 @@ unfolding recordBytes firstNode childByte
 plain-listed b h l t =
     let S = kindListed (getD b 0 0) (getD b 2 0) (getD b 1 0 % 2) (field b 8 8) in
     let N = limitListed (getD b 3 0) (getD b 1 0 / 2) (field b 4 4) in
-    let q = two (S && N) (ltb (getD b 1 0) 4) t in
-    let p = two S N (q .0) in
+    let q = &&-both (S && N) (ltb (getD b 1 0) 4) t in
+    let p = &&-both S N (q .0) in
     let f = ltb→lt (getD b 1 0) 4 (q .1) in
     let k = kind-back (getD b 0 0) (getD b 2 0) (getD b 1 0 % 2) (field b 8 8) (p .0) (omega arith) in
     let m = limit-back (getD b 3 0) (getD b 1 0 / 2) (field b 4 4) (p .1) (omega arith) in

@@ -1,7 +1,7 @@
 -- The table of an accepted tree is not refused, and reads back as that tree.
 use mathlib.Core.Path.{_≡_, refl, subst, sym, ap₂, _∙_}
 use mathlib.Core.Bool.{true, false, _||_, _&&_, Bool}
-use mathlib.Core.List.{List, _++_, append-assoc, [], append-nil}
+use mathlib.Core.List.{List, [], _++_, append-assoc, append-nil}
 use Prim.Native.Nat.{_<_, _^_, zero, suc, ℕ, _+_, _*_, _/_, _%_, _≤_}
 use native.Mathlib.Nat.{suc-add, zero-add, add-assoc, add-zero, add-suc}
 use native.Mathlib.Omega.{arith}
@@ -9,8 +9,8 @@ use lib.Dec.{T, ltb→lt, leb→le, leb, eqb, ltb, le→leb}
 use lib.ListN.{length}
 use Rattle.table.specs.Nodes.{Number, Plain, Symbol, Kind, Block, Sequence, Choice, Loop, Limit, Unlimited, AtMost, Node}
 use Rattle.booleans.specs.Tests.{_and_}
-use Rattle.booleans.specs.Laws.{both, lft, both-and, join-and}
-use Rattle.table.specs.Numbers.{mostChildren, wholeRun, mostLoops, mostDepth, mostWeight, recordLength, mostRecords, mostTime, mostCount, firstTimeSymbol, howManyValues}
+use Rattle.booleans.specs.Laws.{both, or-left, &&-join, join-and}
+use Rattle.table.specs.Numbers.{mostChildren, wholeRun, mostLoops, mostDepth, mostWeight, recordLength, mostRecords, mostTime, mostCount, firstTimeSymbol, howManySymbols}
 use Rattle.table.specs.Trees.{Tree, node, Forest, nil, _▸_, size, records, recordsIn}
 use Rattle.table.specs.Questions.{timeInRange, countInRange, kindInRange, limitInRange, listed, listedIn, arity, depth, loops, named, weight, Accepted}
 use Rattle.table.specs.Bytes.{le, un}
@@ -25,7 +25,7 @@ use Rattle.table.specs.Laws.Accepted.{Yes, yes-all}
 time-writes : (v : Number) → T (timeInRange v) → raw v < 256 ^ 8
 unfolding timeInRange
 time-writes (Plain n) t = omega (arith, leb→le n mostTime t)
-time-writes (Symbol n) t = omega (arith, ltb→lt n howManyValues (both _ _ t .1))
+time-writes (Symbol n) t = omega (arith, ltb→lt n howManySymbols (both _ _ t .1))
 
 count-writes : (v : Number) → T (countInRange v) → (raw v < 256 ^ 4) × (raw v < 256 ^ 8)
 unfolding countInRange
@@ -68,16 +68,16 @@ mutual
 
 shape-ok : (k : Kind) (c : ℕ) → T (arity k c) → T (kindListed (kindByte k) c (flag (valueNum k)) (raw (valueNum k)))
 unfolding arity kindByte valueNum flag
-shape-ok (Block v) c h = lft (eqb c 0 || false) false (lft (eqb c 0) false h)
-shape-ok Sequence c h = both-and (leb 1 c && true) true (both-and (leb 1 c) true (both (leb 1 c) (leb c mostChildren) h .0) tt) tt
-shape-ok Choice c h = both-and (leb 1 c && true) true (both-and (leb 1 c) true (both (leb 1 c) (leb c mostChildren) h .0) tt) tt
-shape-ok (Loop v) c h = lft (eqb c 2) false h
+shape-ok (Block v) c h = or-left (eqb c 0 || false) false (or-left (eqb c 0) false h)
+shape-ok Sequence c h = &&-join (leb 1 c && true) true (&&-join (leb 1 c) true (both (leb 1 c) (leb c mostChildren) h .0) tt) tt
+shape-ok Choice c h = &&-join (leb 1 c && true) true (&&-join (leb 1 c) true (both (leb 1 c) (leb c mostChildren) h .0) tt) tt
+shape-ok (Loop v) c h = or-left (eqb c 2) false h
 
 names-ok : (l : Limit) → T (limitInRange l) → T (limitListed (loopByte l) (flag (limitNum l)) (raw (limitNum l)))
 unfolding limitInRange loopByte limitNum flag
 names-ok Unlimited h = tt
 names-ok (AtMost k m) h =
-    lft ((leb 1 k && leb k mostLoops) || eqb k wholeRun) (eqb k 0 && eqb (flag m) 0 && eqb (raw m) 0)
+    or-left ((leb 1 k && leb k mostLoops) || eqb k wholeRun) (eqb k 0 && eqb (flag m) 0 && eqb (raw m) 0)
     (go (leb 1 k) (leb k mostLoops) (eqb k wholeRun) (both ((leb 1 k and leb k mostLoops) || eqb k wholeRun) (countInRange m) h .0))
   where
     go : (a b c : Bool) → T ((a and b) || c) → T ((a && b) || c)
@@ -106,7 +106,7 @@ listed-fields k l c x y a b =
     let S = kindListed (kindByte k) c (flag (valueNum k)) (raw (valueNum k)) in
     let N = limitListed (loopByte l) (flag (limitNum l)) (raw (limitNum l)) in
     rw (flag-low (valueNum k) (limitNum l), flag-high (valueNum k) (limitNum l), kind-value k x .0, limit-most l y .0)
-    (both-and (S && N) _ (both-and S N (shape-ok k c a) (names-ok l b)) (flags-few (valueNum k) (limitNum l)))
+    (&&-join (S && N) _ (&&-join S N (shape-ok k c a) (names-ok l b)) (flags-few (valueNum k) (limitNum l)))
 
 record-listed : (n : Node) (c : ℕ) (r : List ℕ) → T (kindInRange (n .kind)) → T (limitInRange (n .limit)) → T (arity (n .kind) c) → T (recordListed (recordBytes n c ++ r))
 unfolding recordBytes le

@@ -1,19 +1,19 @@
 -- What the reader's code computes, one byte or one record at a time, against the definitions.
 use mathlib.Core.Path.{_≡_, refl, sym, ap, _∙_}
-use mathlib.Core.Bool.{Bool, true, false, not, _&&_}
+use mathlib.Core.Bool.{Bool, false, not, true}
 use mathlib.Core.List.{List, [], _∷_}
-use Prim.Native.Nat.{ℕ, zero, suc, _+_, _-_, _*_, _^_, _<_, _≤_}
+use Prim.Native.Nat.{ℕ, zero, suc, _+_, _*_, _^_, _-_, _<_, _≤_}
 use native.Mathlib.Nat.{zero-add, add-zero, suc-add, add-suc, mul-assoc, pow-succ', sub-zero}
 use native.Mathlib.Omega.{arith}
 use lib.Dec.{eqb}
-use lib.ListN.{length, getD, take, drop, length-drop}
+use lib.ListN.{getD, length, take, drop, length-drop}
 use lib.Seq.{take-nil, drop-nil, take-all, drop-drop}
-use borrow.Author.Tests.{not-true, not-false}
+use borrow.Author.Tests.{not-false, not-true}
 use Rattle.booleans.specs.Tests.{_and_}
-use Rattle.table.specs.Nodes.{Number, Symbol, Loop, AtMost}
-use Rattle.table.specs.Numbers.{recordLength, mostChildren}
+use Rattle.table.specs.Nodes.{Symbol, Number, Loop, AtMost}
 use Rattle.table.specs.Bytes.{un}
-use Rattle.table.specs.Table.{field, numFrom, kindFrom, limitFrom, childByte, recordCount, formTrees, each}
+use Rattle.table.specs.Numbers.{recordLength, mostChildren}
+use Rattle.table.specs.Table.{field, numFrom, kindFrom, limitFrom, recordCount, each, formTrees, childByte}
 
 -- ---- fields
 
@@ -58,13 +58,6 @@ pub is-limit : (k : ℕ) (m : Number) → (k ≡ 0 → ⊥) → AtMost k m ≡ l
 unfolding limitFrom
 is-limit zero m h = absurd (h refl)
 is-limit (suc k) m h = refl
-
--- ---- the code's `&` is the definitions' `and`
-
-pub and-is : (x y : Bool) → (x && y) ≡ (x and y)
-unfolding _and_
-and-is true y = refl
-and-is false y = refl
 
 -- ---- parts
 

@@ -1,6 +1,6 @@
 -- What the walk finds of the table of a listed tree, and so what it answers to questions 5 to 7; and the walk's cases, as the program meets them.
 use mathlib.Core.Path.{_≡_, refl, _∙_, sym, subst, ap}
-use mathlib.Core.Bool.{Bool, true, false, _&&_, cond, _||_}
+use mathlib.Core.Bool.{Bool, true, false, _&&_, cond, _||_, and-true, and-assoc}
 use mathlib.Core.List.{List, _++_, append-assoc, [], append-nil}
 use Prim.Native.Nat.{ℕ, max, _-_, _^_, suc, _+_, zero, _*_, _%_, _<_, _≤_}
 use native.Mathlib.Nat.{zero-add, add-zero, add-assoc}
@@ -9,7 +9,7 @@ use native.Mathlib.Omega.{arith}
 use lib.Dec.{leb, T, eqb, leb·suc-zero, leb·suc-suc, leb·zero, eqb→eq}
 use lib.ListN.{length, length-append, drop, length-drop}
 use borrow.Author.Tests.{le-leb, lt-leb, leb-true, leb-false}
-use Rattle.booleans.specs.Laws.{both}
+use Rattle.booleans.specs.Laws.{both, and-is}
 use Rattle.booleans.specs.Tests.{_and_}
 use Rattle.table.specs.Nodes.{Kind, Block, Sequence, Choice, Loop, Limit, Unlimited, AtMost, Node}
 use Rattle.table.specs.Bytes.{AreBytes}
@@ -23,18 +23,9 @@ use Rattle.table.specs.declared.Survey.{Survey}
 use Rattle.table.specs.Laws.Accepted.{forest-listed, decode-listed}
 use Rattle.table.specs.Laws.Canonical.{encode-decode}
 use Rattle.table.specs.Laws.NotRefused.{tree-writes}
-use Rattle.table.specs.Laws.Reading.{and-is}
 use Rattle.table.specs.Laws.RoundTrip.{WritesNode, head-bytes, children-bytes, drop-bytes, length-bytes, Writes, drop-tree}
 
 -- ---- tests
-
-&&-true : (a : Bool) → (a && true) ≡ a
-&&-true true = refl
-&&-true false = refl
-
-&&-assoc : (a b c : Bool) → ((a && b) && c) ≡ (a && (b && c))
-&&-assoc true b c = refl
-&&-assoc false b c = refl
 
 and-four : (a b c d : Bool) → ((a and b) and (c and d)) ≡ ((a and c) and (b and d))
 unfolding _and_
@@ -127,11 +118,11 @@ node-surveyed n f z (suc h) d w l e =
 
 next-none : (k : Kind) (s : Survey) (h d : ℕ) → s .fits ≡ true → s ≡ cond (fittingIn k nil h d) (withNext s (surveyIn k nil d)) unfit
 unfolding records depth loops named weight _and_
-next-none k s h d e = rw (leb·zero h, add-zero (s .records), add-zero (s .weight), &&-true, ← e) refl
+next-none k s h d e = rw (leb·zero h, add-zero (s .records), add-zero (s .weight), and-true, ← e) refl
 
 next-is : (s : Survey) (k : Kind) (t : Tree) (f : Forest) (d : ℕ) → withNext (withNext s (surveyOf t (around k d))) (surveyIn (rest k) f d) ≡ withNext s (surveyIn k (t ▸ f) d)
 unfolding records named weight
-next-is s k t f d = rw (← and-is, &&-assoc, add-assoc (s .records), add-assoc (s .weight))
+next-is s k t f d = rw (← and-is, and-assoc, add-assoc (s .records), add-assoc (s .weight))
 
 -- a tree that fits is joined, any other ends the walk
 more-next : (f : ℕ → List ℕ → Survey) (first others n : ℕ) (b : List ℕ) (s u : Survey) (p : Bool) → u .fits ≡ true
