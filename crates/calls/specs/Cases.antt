@@ -9,7 +9,7 @@ use Rattle.booleans.specs.Tests.{_and_}
 use Rattle.table.specs.Numbers.{howManyValues, mostRecords}
 use Rattle.table.specs.Trees.{Tree, node, Forest, nil, _▸_, _⧺_, size, rest, around, records}
 use Rattle.table.specs.Questions.{arity, timeInRange, countInRange, kindInRange, limitInRange, listed, depth, loops, nameOk, named, share, weight}
-use Rattle.table.specs.Bytes.{le, un}
+use Rattle.table.specs.Bytes.{toBytes, fromBytes}
 use Rattle.table.specs.Table.{flag, numFrom, kindByte, valueNum, kindFrom, loopByte, limitNum, limitFrom, recordBytes, encode, firstNode, childByte, firstOnes, afterOnes, forest, top, decode, formTrees, each}
 use Rattle.table.specs.Checking.{question1, question2, limitCount, recordInRange, question3, question4, question5, question6, question7, firstNo, refusal}
 use Rattle.lists.specs.Streams.{S, const, add, cap, group, shift, merge, next, taken}
@@ -151,7 +151,7 @@ starred =
 
 -- to unfold this is to unfold all that the cases compute with
 unfoldable pub computed : ℕ
-unfolding block symbol _/_at_ sequence both either loop noughts isFigure samePairs sameNumbers isFinished hasWritten holds allHold _and_ _⧺_ size rest around records S const add cap group shift merge next taken amount inner outward seen name limit rounds turns join start list figure fits arity timeInRange countInRange kindInRange limitInRange listed depth loops nameOk named share weight stays closed isPlain plainKind plainLimit symbolFree sameNumber sameLimit sameKind same isUnlimited isBlock isSum limitOf children relimit leaf bare timeOfKind timeOf when rule1 gives anyGives giveWay rule2 alone rule3 rule4 isZero anyZero without rule5 bares others total largest rule6 atFirst rule7 isPair headOf tailOf firstOf secondOf allPairs firsts shares sharedOut rule8 exit rule9 orElse also rule inside step isNone onward steps le un flag numFrom kindByte valueNum kindFrom loopByte limitNum limitFrom recordBytes encode firstNode childByte firstOnes afterOnes forest top decode formTrees each limitCount recordInRange firstNo question1 question2 question3 question4 question5 question6 question7 refusal placeOf turned place inFront tail pairs listPairs ceiling ranged question9 quoteOf figureAnswer simplifyRefusal endingOf made simplifyAnswer simplifyWrites
+unfolding block symbol _/_at_ sequence both either loop noughts isFigure samePairs sameNumbers isFinished hasWritten holds allHold _and_ _⧺_ size rest around records S const add cap group shift merge next taken amount inner outward seen name limit rounds turns join start list figure fits arity timeInRange countInRange kindInRange limitInRange listed depth loops nameOk named share weight stays closed isPlain plainKind plainLimit symbolFree sameNumber sameLimit sameKind same isUnlimited isBlock isSum limitOf children relimit leaf bare timeOfKind timeOf when rule1 gives anyGives giveWay rule2 alone rule3 rule4 isZero anyZero without rule5 bares others total largest rule6 atFirst rule7 isPair headOf tailOf firstOf secondOf allPairs firsts shares sharedOut rule8 exit rule9 orElse also rule inside step isNone onward steps toBytes fromBytes flag numFrom kindByte valueNum kindFrom loopByte limitNum limitFrom recordBytes encode firstNode childByte firstOnes afterOnes forest top decode formTrees each limitCount recordInRange firstNo question1 question2 question3 question4 question5 question6 question7 refusal placeOf turned place inFront tail pairs listPairs ceiling ranged question9 quoteOf figureAnswer simplifyRefusal endingOf made simplifyAnswer simplifyWrites
 computed = 0
 
 pub starred-hold : allHold starred ≡ true

@@ -4,14 +4,14 @@ use Prim.Native.Nat.{ℕ, zero, suc, _/_, _%_, _+_, _*_, _<_}
 use lib.ListN.{getD}
 
 -- the n low bytes of x, lowest first
-unfoldable pub le : ℕ → ℕ → List ℕ
-le zero x = []
-le (suc n) x = x % 256 ∷ le n (x / 256)
+unfoldable pub toBytes : ℕ → ℕ → List ℕ
+toBytes zero x = []
+toBytes (suc n) x = x % 256 ∷ toBytes n (x / 256)
 
 -- the number that bytes write, lowest first
-unfoldable pub un : List ℕ → ℕ
-un [] = 0
-un (x ∷ xs) = x + 256 * un xs
+unfoldable pub fromBytes : List ℕ → ℕ
+fromBytes [] = 0
+fromBytes (x ∷ xs) = x + 256 * fromBytes xs
 
 -- each element is a byte: as a slice's contents are known to be
 abbrev pub AreBytes : List ℕ → Type 0

@@ -8,7 +8,7 @@ use Rattle.table.specs.Nodes.{Number, Plain, Symbol, Kind, Block, Sequen
 use Rattle.booleans.specs.Tests.{_and_}
 use Rattle.table.specs.Numbers.{recordLength}
 use Rattle.table.specs.Trees.{Tree, node, Forest, nil, _▸_, size}
-use Rattle.table.specs.Bytes.{le, un}
+use Rattle.table.specs.Bytes.{toBytes, fromBytes}
 
 -- a number's flag and its field
 unfoldable pub flag : Number → ℕ
@@ -57,7 +57,7 @@ limitFrom (suc k) m = AtMost (suc k) m
 unfoldable pub recordBytes : Node → ℕ → List ℕ
 recordBytes n c =
     (kindByte (n .kind) ∷ (flag (valueNum (n .kind)) + 2 * flag (limitNum (n .limit))) ∷ c ∷ loopByte (n .limit) ∷ [])
-    ++ le 4 (raw (limitNum (n .limit))) ++ le 8 (raw (valueNum (n .kind)))
+    ++ toBytes 4 (raw (limitNum (n .limit))) ++ toBytes 8 (raw (valueNum (n .kind)))
 
 -- the table of a tree, and of a forest: a node's record first, then its children in order, each with everything below it
 unfoldable mutual
@@ -70,7 +70,7 @@ unfoldable mutual
 
 -- the number in the n bytes from byte i on
 abbrev pub field : List ℕ → ℕ → ℕ → ℕ
-field b i n = un (take n (drop i b))
+field b i n = fromBytes (take n (drop i b))
 
 -- the node of the first record, and how many children it has
 unfoldable pub firstNode : List ℕ → Node

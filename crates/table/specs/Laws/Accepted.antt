@@ -42,7 +42,6 @@ limit-ranged (suc k) s m t c = join-and _ _ (go (leb 1 (suc k)) (leb (suc k) mos
 record-ok : (b : List ℕ) → AreBytes b → T (recordListed b) → T (recordInRange b)
     → T (kindInRange (firstNode b .kind)) × T (limitInRange (firstNode b .limit)) × T (arity (firstNode b .kind) (childByte b))
 unfolding recordInRange firstNode childByte
-
 record-ok b h t r =
     let S = kindListed (getD b 0 0) (getD b 2 0) (getD b 1 0 % 2) (field b 8 8) in
     let N = limitListed (getD b 3 0) (getD b 1 0 / 2) (field b 4 4) in

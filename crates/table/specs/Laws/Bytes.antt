@@ -5,29 +5,29 @@ use Prim.Native.Nat.{ℕ, zero, suc, _/_, _*_, _^_, _<_, _+_, _%_}
 use native.Mathlib.Nat.{div-lt-iff-lt-mul, zero-lt-suc, pow-suc}
 use native.Mathlib.Omega.{arith}
 use lib.ListN.{length}
-use Rattle.table.specs.Bytes.{le, un, AreBytes}
+use Rattle.table.specs.Bytes.{toBytes, fromBytes, AreBytes}
 
-pub un-le : (n x : ℕ) → x < 256 ^ n → un (le n x) ≡ x
-unfolding le un
-un-le zero x h = omega arith
-un-le (suc n) x h =
+pub from-to : (n x : ℕ) → x < 256 ^ n → fromBytes (toBytes n x) ≡ x
+unfolding toBytes fromBytes
+from-to zero x h = omega arith
+from-to (suc n) x h =
     let g : x < 256 ^ n * 256 = rw (← pow-suc) h in
-    rw (un-le n (x / 256) (div-lt-iff-lt-mul (zero-lt-suc 255) .1 g)) (omega arith)
+    rw (from-to n (x / 256) (div-lt-iff-lt-mul (zero-lt-suc 255) .1 g)) (omega arith)
 
-pub le-un : (b : List ℕ) → AreBytes b → le (length b) (un b) ≡ b
-unfolding le un
-le-un [] h = refl
-le-un (x ∷ xs) h =
+pub to-from : (b : List ℕ) → AreBytes b → toBytes (length b) (fromBytes b) ≡ b
+unfolding toBytes fromBytes
+to-from [] h = refl
+to-from (x ∷ xs) h =
     let l : x < 256 = h 0 in
-    let m : (x + 256 * un xs) % 256 ≡ x = omega arith in
-    let d : (x + 256 * un xs) / 256 ≡ un xs = omega arith in
-    rw (m, d, le-un xs (λ i. h (suc i)))
+    let m : (x + 256 * fromBytes xs) % 256 ≡ x = omega arith in
+    let d : (x + 256 * fromBytes xs) / 256 ≡ fromBytes xs = omega arith in
+    rw (m, d, to-from xs (λ i. h (suc i)))
 
-pub bytes-le : (n x : ℕ) → AreBytes (le n x)
-unfolding le
-bytes-le zero x i = omega arith
-bytes-le (suc n) x zero = let l : x % 256 < 256 = omega arith in l
-bytes-le (suc n) x (suc i) = bytes-le n (x / 256) i
+pub bytes-to : (n x : ℕ) → AreBytes (toBytes n x)
+unfolding toBytes
+bytes-to zero x i = omega arith
+bytes-to (suc n) x zero = let l : x % 256 < 256 = omega arith in l
+bytes-to (suc n) x (suc i) = bytes-to n (x / 256) i
 
 pub bytes-append : (a b : List ℕ) → AreBytes a → AreBytes b → AreBytes (a ++ b)
 bytes-append [] b h k i = k i

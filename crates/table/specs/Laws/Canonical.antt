@@ -11,10 +11,10 @@ use borrow.Author.Tests.{ne-eqb}
 use Rattle.booleans.specs.Laws.{&&-both, both}
 use Rattle.table.specs.Numbers.{recordLength}
 use Rattle.table.specs.Trees.{size, Forest, nil, _▸_}
-use Rattle.table.specs.Bytes.{AreBytes, le, un}
+use Rattle.table.specs.Bytes.{AreBytes, toBytes, fromBytes}
 use Rattle.table.specs.Table.{recordBytes, firstNode, childByte, encodes, firstOnes, forest, formTrees, flag, numFrom, raw, kindByte, valueNum, kindFrom, loopByte, limitNum, limitFrom, field, each, encode, top, decode, recordCount}
 use Rattle.table.specs.Checking.{kindListed, limitListed, recordListed}
-use Rattle.table.specs.Laws.Bytes.{le-un}
+use Rattle.table.specs.Laws.Bytes.{to-from}
 use Rattle.table.specs.Laws.RoundTrip.{size-first, size-after, encodes-split}
 
 -- ---- and written back
@@ -77,10 +77,10 @@ bytes-take (suc n) (x ∷ xs) h zero = h 0
 bytes-take (suc n) (x ∷ xs) h (suc i) = bytes-take n xs (λ j. h (suc j)) i
 
 -- a field written back
-le-field : (b : List ℕ) (i n : ℕ) → AreBytes b → i + n ≤ length b → le n (field b i n) ≡ take n (drop i b)
-le-field b i n h l =
+field-back : (b : List ℕ) (i n : ℕ) → AreBytes b → i + n ≤ length b → toBytes n (field b i n) ≡ take n (drop i b)
+field-back b i n h l =
     let w : length (take n (drop i b)) ≡ n = length-take-le n (drop i b) (rw length-drop (omega arith)) in
-    ap (λ k. le k (un (take n (drop i b)))) (sym w) ∙ le-un (take n (drop i b)) (bytes-take n _ (bytes-drop b i h))
+    ap (λ k. toBytes k (fromBytes (take n (drop i b)))) (sym w) ∙ to-from (take n (drop i b)) (bytes-take n _ (bytes-drop b i h))
 
 take-four : (b : List ℕ) → 4 ≤ length b → take 4 b ≡ getD b 0 0 ∷ getD b 1 0 ∷ getD b 2 0 ∷ getD b 3 0 ∷ []
 take-four [] h = absurd (omega arith)
@@ -103,7 +103,7 @@ plain-listed b h l t =
     let k = kind-back (getD b 0 0) (getD b 2 0) (getD b 1 0 % 2) (field b 8 8) (p .0) (omega arith) in
     let m = limit-back (getD b 3 0) (getD b 1 0 / 2) (field b 4 4) (p .1) (omega arith) in
     let g : getD b 1 0 % 2 + 2 * (getD b 1 0 / 2) ≡ getD b 1 0 = omega arith in
-    rw (k .0, k .1, k .2, m .0, m .1, m .2, g, le-field b 4 4 h (omega arith), le-field b 8 8 h (omega arith), take-record b, take-four b (omega arith))
+    rw (k .0, k .1, k .2, m .0, m .1, m .2, g, field-back b 4 4 h (omega arith), field-back b 8 8 h (omega arith), take-record b, take-four b (omega arith))
 
 pub plain-all : (n : ℕ) (b : List ℕ) → AreBytes b → recordLength * n ≤ length b → T (each recordListed n b) → OneWayAll n b
 unfolding OneWayAll each

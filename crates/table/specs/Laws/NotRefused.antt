@@ -13,7 +13,7 @@ use Rattle.booleans.specs.Laws.{both, or-left, &&-join, join-and}
 use Rattle.table.specs.Numbers.{mostChildren, wholeRun, mostLoops, mostDepth, mostWeight, recordLength, mostRecords, mostTime, mostCount, firstTimeSymbol, howManySymbols}
 use Rattle.table.specs.Trees.{Tree, node, Forest, nil, _▸_, size, records, recordsIn}
 use Rattle.table.specs.Questions.{timeInRange, countInRange, kindInRange, limitInRange, listed, listedIn, arity, depth, loops, named, weight, Accepted}
-use Rattle.table.specs.Bytes.{le, un}
+use Rattle.table.specs.Bytes.{toBytes, fromBytes}
 use Rattle.table.specs.Table.{raw, flag, kindByte, valueNum, loopByte, limitNum, recordBytes, each, encode, encodes, formTrees, decode, recordCount}
 use Rattle.table.specs.Checking.{kindListed, limitListed, recordListed, limitCount, recordInRange, question1, question2, question3, question4, question5, question6, question7, questions, refusal}
 use Rattle.table.specs.Laws.Trees.{some-records}
@@ -99,8 +99,8 @@ flags-few (Symbol a) (Plain b) = tt
 flags-few (Symbol a) (Symbol b) = tt
 
 listed-fields : (k : Kind) (l : Limit) (c : ℕ) → WritesKind k → WritesLimit l → T (arity k c) → T (limitInRange l)
-    → T (kindListed (kindByte k) c ((flag (valueNum k) + 2 * flag (limitNum l)) % 2) (un (le 8 (raw (valueNum k))))
-    && limitListed (loopByte l) ((flag (valueNum k) + 2 * flag (limitNum l)) / 2) (un (le 4 (raw (limitNum l))))
+    → T (kindListed (kindByte k) c ((flag (valueNum k) + 2 * flag (limitNum l)) % 2) (fromBytes (toBytes 8 (raw (valueNum k))))
+    && limitListed (loopByte l) ((flag (valueNum k) + 2 * flag (limitNum l)) / 2) (fromBytes (toBytes 4 (raw (limitNum l))))
     && ltb (flag (valueNum k) + 2 * flag (limitNum l)) 4)
 listed-fields k l c x y a b =
     let S = kindListed (kindByte k) c (flag (valueNum k)) (raw (valueNum k)) in
@@ -109,8 +109,7 @@ listed-fields k l c x y a b =
     (&&-join (S && N) _ (&&-join S N (shape-ok k c a) (names-ok l b)) (flags-few (valueNum k) (limitNum l)))
 
 record-listed : (n : Node) (c : ℕ) (r : List ℕ) → T (kindInRange (n .kind)) → T (limitInRange (n .limit)) → T (arity (n .kind) c) → T (recordListed (recordBytes n c ++ r))
-unfolding recordBytes le
-
+unfolding recordBytes toBytes
 record-listed n c r a b e = listed-fields (n .kind) (n .limit) c (kind-writes _ a) (limit-writes _ b) e b
 
 limit-counts : (l : Limit) → T (limitInRange l) → T (limitCount l)
@@ -120,7 +119,6 @@ limit-counts (AtMost k m) h = both ((leb 1 k and leb k mostLoops) || eqb k whole
 
 record-ranged : (n : Node) (c : ℕ) (r : List ℕ) → T (kindInRange (n .kind)) → T (limitInRange (n .limit)) → T (arity (n .kind) c) → T (recordInRange (recordBytes n c ++ r))
 unfolding recordInRange
-
 record-ranged n c r a b e =
     subst (λ m. T (kindInRange (m .kind) and limitCount (m .limit))) (sym (head-bytes n c r (node-writes n a b)))
     (join-and _ _ a (limit-counts (n .limit) b))

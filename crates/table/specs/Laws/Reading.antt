@@ -11,7 +11,7 @@ use lib.Seq.{take-nil, drop-nil, take-all, drop-drop}
 use borrow.Author.Tests.{not-false, not-true}
 use Rattle.booleans.specs.Tests.{_and_}
 use Rattle.table.specs.Nodes.{Symbol, Number, Loop, AtMost}
-use Rattle.table.specs.Bytes.{un}
+use Rattle.table.specs.Bytes.{fromBytes}
 use Rattle.table.specs.Numbers.{recordLength, mostChildren}
 use Rattle.table.specs.Table.{field, numFrom, kindFrom, limitFrom, recordCount, each, formTrees, childByte}
 
@@ -19,21 +19,21 @@ use Rattle.table.specs.Table.{field, numFrom, kindFrom, limitFrom, recor
 
 -- a field is its lowest byte and the field of the others; past the end each byte counts 0
 field-more : (b : List ℕ) (i n : ℕ) → field b i (suc n) ≡ getD b i 0 + 256 * field b (suc i) n
-unfolding un
+unfolding fromBytes
 field-more [] i n = rw (drop-nil i, take-nil) refl
 field-more (x ∷ b) zero n = refl
 field-more (x ∷ b) (suc i) n = field-more b i n
 
 -- a field is its m lowest bytes and the n others
 pub field-split : (m : ℕ) (b : List ℕ) (i n : ℕ) → field b i (m + n) ≡ field b i m + 256 ^ m * field b (i + m) n
-unfolding un
+unfolding fromBytes
 field-split zero b i n = rw (zero-add n, add-zero) (omega arith)
 field-split (suc m) b i n =
     let deeper = field-split m b (suc i) n in
     rw (suc-add m n, add-suc i m, field-more b i (m + n), field-more b i m, pow-succ', mul-assoc, ← suc-add i m) (omega arith)
 
 pub field-4 : (b : List ℕ) (i : ℕ) → field b i 4 ≡ getD b i 0 + 256 * (getD b (i + 1) 0 + 256 * (getD b (i + 2) 0 + 256 * getD b (i + 3) 0))
-unfolding un
+unfolding fromBytes
 field-4 b i =
     let one : i + 1 ≡ suc i = omega arith in
     let two : i + 2 ≡ suc (suc i) = omega arith in

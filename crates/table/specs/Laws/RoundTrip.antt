@@ -7,11 +7,11 @@ use native.Mathlib.Omega.{arith}
 use lib.ListN.{length, drop, length-append}
 use lib.Seq.{drop-at, drop-drop}
 use Rattle.table.specs.Nodes.{Number, Limit, Unlimited, AtMost, Kind, Block, Sequence, Choice, Loop, Node, Plain, Symbol}
-use Rattle.table.specs.Bytes.{le, un}
+use Rattle.table.specs.Bytes.{toBytes, fromBytes}
 use Rattle.table.specs.Numbers.{recordLength}
 use Rattle.table.specs.Table.{firstOnes, afterOnes, encodes, raw, flag, numFrom, kindByte, valueNum, kindFrom, loopByte, limitNum, limitFrom, recordBytes, firstNode, childByte, forest, encode, top, decode, recordCount}
 use Rattle.table.specs.Trees.{Forest, nil, _▸_, _⧺_, size, Tree, node, records, recordsIn}
-use Rattle.table.specs.Laws.Bytes.{un-le}
+use Rattle.table.specs.Laws.Bytes.{from-to}
 
 -- ---- forests
 
@@ -82,34 +82,34 @@ flag-high (Plain n) (Symbol m) = refl
 flag-high (Symbol n) (Plain m) = refl
 flag-high (Symbol n) (Symbol m) = refl
 
-pub kind-value : (k : Kind) → WritesKind k → (un (le 8 (raw (valueNum k))) ≡ raw (valueNum k)) × (kindFrom (kindByte k) (valueNum k) ≡ k)
+pub kind-value : (k : Kind) → WritesKind k → (fromBytes (toBytes 8 (raw (valueNum k))) ≡ raw (valueNum k)) × (kindFrom (kindByte k) (valueNum k) ≡ k)
 unfolding WritesKind kindFrom kindByte valueNum
-kind-value (Block v) h = (un-le 8 (raw v) h, refl)
-kind-value Sequence h = (un-le 8 0 (omega arith), refl)
-kind-value Choice h = (un-le 8 0 (omega arith), refl)
-kind-value (Loop v) h = (un-le 8 (raw v) h, refl)
+kind-value (Block v) h = (from-to 8 (raw v) h, refl)
+kind-value Sequence h = (from-to 8 0 (omega arith), refl)
+kind-value Choice h = (from-to 8 0 (omega arith), refl)
+kind-value (Loop v) h = (from-to 8 (raw v) h, refl)
 
-pub limit-most : (l : Limit) → WritesLimit l → (un (le 4 (raw (limitNum l))) ≡ raw (limitNum l)) × (limitFrom (loopByte l) (limitNum l) ≡ l)
+pub limit-most : (l : Limit) → WritesLimit l → (fromBytes (toBytes 4 (raw (limitNum l))) ≡ raw (limitNum l)) × (limitFrom (loopByte l) (limitNum l) ≡ l)
 unfolding WritesLimit limitFrom loopByte limitNum
-limit-most Unlimited h = (un-le 4 0 (omega arith), refl)
+limit-most Unlimited h = (from-to 4 0 (omega arith), refl)
 limit-most (AtMost zero m) h = absurd (omega arith)
-limit-most (AtMost (suc k) m) h = (un-le 4 (raw m) (h .1), refl)
+limit-most (AtMost (suc k) m) h = (from-to 4 (raw m) (h .1), refl)
 
-head-kind : (k : Kind) (m : Number) → WritesKind k → kindFrom (kindByte k) (numFrom ((flag (valueNum k) + 2 * flag m) % 2) (un (le 8 (raw (valueNum k))))) ≡ k
+head-kind : (k : Kind) (m : Number) → WritesKind k → kindFrom (kindByte k) (numFrom ((flag (valueNum k) + 2 * flag m) % 2) (fromBytes (toBytes 8 (raw (valueNum k))))) ≡ k
 head-kind k m h = rw (flag-low, num-flag _ _ (kind-value k h .0)) (kind-value k h .1)
 
-head-limit : (v : Number) (l : Limit) → WritesLimit l → limitFrom (loopByte l) (numFrom ((flag v + 2 * flag (limitNum l)) / 2) (un (le 4 (raw (limitNum l))))) ≡ l
+head-limit : (v : Number) (l : Limit) → WritesLimit l → limitFrom (loopByte l) (numFrom ((flag v + 2 * flag (limitNum l)) / 2) (fromBytes (toBytes 4 (raw (limitNum l))))) ≡ l
 head-limit v l h = rw (flag-high, num-flag _ _ (limit-most l h .0)) (limit-most l h .1)
 
 pub head-bytes : (n : Node) (c : ℕ) (r : List ℕ) → WritesNode n → firstNode (recordBytes n c ++ r) ≡ n
-unfolding firstNode recordBytes le
+unfolding firstNode recordBytes toBytes
 head-bytes n c r h = λ i. record {
   kind = head-kind (n .kind) (limitNum (n .limit)) (h .kind) i;
   limit = head-limit (valueNum (n .kind)) (n .limit) (h .limit) i;
 }
 
 pub length-bytes : (n : Node) (c : ℕ) → length (recordBytes n c) ≡ recordLength
-unfolding recordBytes le
+unfolding recordBytes toBytes
 length-bytes n c = refl
 
 pub children-bytes : (n : Node) (c : ℕ) (r : List ℕ) → childByte (recordBytes n c ++ r) ≡ c

@@ -11,9 +11,9 @@ use Rattle.table.specs.Nodes.{Number, Plain, Symbol, Limit, Unlimited, A
 use Rattle.table.specs.Numbers.{mostChildren, mostLoops, wholeRun}
 use Rattle.table.specs.Trees.{Tree, node, Forest, nil, _▸_, size}
 use Rattle.table.specs.Questions.{arity, limitInRange, listed, listedIn}
-use Rattle.table.specs.Bytes.{le, AreBytes}
+use Rattle.table.specs.Bytes.{toBytes, AreBytes}
 use Rattle.table.specs.Table.{flag, raw, kindByte, valueNum, loopByte, limitNum, recordBytes, encode, encodes}
-use Rattle.table.specs.Laws.Bytes.{bytes-le, bytes-append}
+use Rattle.table.specs.Laws.Bytes.{bytes-to, bytes-append}
 
 flags-byte : (v m : Number) → flag v + 2 * flag m < 256
 unfolding flag
@@ -58,9 +58,9 @@ record-bytes n c l a =
     let v = valueNum (n .kind) in
     let m = limitNum (n .limit) in
     let front : List ℕ = kindByte (n .kind) ∷ (flag v + 2 * flag m) ∷ c ∷ loopByte (n .limit) ∷ [] in
-    bytes-append (front ++ le 4 (raw m)) (le 8 (raw v))
-    (bytes-append front (le 4 (raw m)) (four-bytes _ _ _ _ (kind-byte (n .kind)) (flags-byte v m) (few-children (n .kind) c a) (loop-byte (n .limit) l)) (bytes-le 4 (raw m)))
-    (bytes-le 8 (raw v))
+    bytes-append (front ++ toBytes 4 (raw m)) (toBytes 8 (raw v))
+    (bytes-append front (toBytes 4 (raw m)) (four-bytes _ _ _ _ (kind-byte (n .kind)) (flags-byte v m) (few-children (n .kind) c a) (loop-byte (n .limit) l)) (bytes-to 4 (raw m)))
+    (bytes-to 8 (raw v))
 
 mutual
   unfolding listed encode
