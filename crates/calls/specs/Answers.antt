@@ -3,13 +3,13 @@ use mathlib.Core.Bool.{Bool, true, false, cond}
 use mathlib.Core.List.{List, [], _∷_, _++_}
 use Prim.Native.Nat.{ℕ, suc}
 use lib.Dec.{eqb, leb, ltb}
-use lib.ListN.{length, getD, drop}
+use lib.ListN.{length, drop}
 use Rattle.booleans.specs.Tests.{_and_}
 use Rattle.table.specs.Numbers.{howManyValues, firstTimeSymbol, mostCount, mostTime}
 use Rattle.table.specs.Trees.{Tree}
 use Rattle.table.specs.Table.{encode, decode, recordCount}
 use Rattle.table.specs.Checking.{refusal}
-use Rattle.evaluate.specs.Evaluate.{Values, figure, fits, zeros}
+use Rattle.evaluate.specs.Evaluate.{valuesOf, figure, fits, zeros}
 use Rattle.simplify.specs.Steps.{Made, steps}
 use Rattle.calls.specs.declared.Checked.{Checked}
 use Rattle.calls.specs.declared.Quote.{Quote}
@@ -31,10 +31,6 @@ checkedRecords (Checked.Accepted n) = n
 checkedRecords (Checked.Refused q) = 0
 
 -- ---- the figure call: questions 1 to 7, 9 and 10
-
--- the value of each symbol, from the list that a desk lends
-abbrev pub valuesOf : List ℕ → Values
-valuesOf vs k = getD vs k 0
 
 -- the ceiling of value i
 unfoldable pub ceiling : ℕ → ℕ

@@ -1,7 +1,9 @@
 -- Document 01, "Evaluation": a node's value is an endless list that never rises, with the loop it names.
 use mathlib.Core.Bool.{cond, Bool, true}
+use mathlib.Core.List.{List}
 use Prim.Native.Nat.{ℕ, min, _-_}
 use lib.Dec.{leb}
+use lib.ListN.{getD}
 use Rattle.evaluate.specs.Nodes.{Number, Plain, Symbol, Limit, Unlimited, AtMost, Kind, Block, Sequence, Choice, Loop}
 use Rattle.booleans.specs.Tests.{_and_}
 use Rattle.table.specs.Numbers.{wholeRun, mostTime}
@@ -11,6 +13,10 @@ use Rattle.lists.specs.Streams.{Stream, cap, const, group, add, merge}
 -- what the symbols stand for
 abbrev pub Values : Type 0
 Values = ℕ → ℕ
+
+-- by a desk's list of them, the value of symbol 0 first
+abbrev pub valuesOf : List ℕ → Values
+valuesOf vs k = getD vs k 0
 
 -- what a time, bound or limit comes to
 unfoldable pub amount : Values → Number → ℕ

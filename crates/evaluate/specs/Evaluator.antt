@@ -1,18 +1,17 @@
 -- The evaluation of a table's tree as the program does it: one walk, on bytes, with lists as pairs.
 -- It is total, and meant where questions 1 to 7 and 9 say yes: Laws/Evaluator says what it then finds. Elsewhere its tests keep every number in range.
-use mathlib.Core.Bool.{Bool, true, false, cond}
+use mathlib.Core.Bool.{Bool, false, true, cond}
 use mathlib.Core.List.{List}
-use Prim.Native.Nat.{ℕ, zero, suc, _+_, _*_, min}
+use Prim.Native.Nat.{ℕ, _+_, min, _*_, zero, suc}
 use lib.Dec.{leb}
 use lib.ListN.{drop, length}
-use Rattle.table.specs.Numbers.{recordLength, wholeRun, mostTime, mostCount, mostWeight}
-use Rattle.table.specs.Trees.{rest}
+use Rattle.table.specs.Numbers.{wholeRun, mostTime, mostWeight, mostCount, recordLength}
 use Rattle.table.specs.Table.{firstNode, childByte}
+use Rattle.table.specs.Trees.{rest}
+use Rattle.lists.specs.Operations.{addPairs, mergePairs, groupPairs, first, capPairs}
 use Rattle.lists.specs.Pairs.{Pairs, ever, top, width}
-use Rattle.lists.specs.Operations.{addPairs, mergePairs, groupPairs, capPairs}
-use Rattle.lists.specs.Laws.Expand.{first}
-use Rattle.evaluate.specs.Nodes.{Limit, Unlimited, AtMost, Kind, Block, Sequence, Choice, Loop}
-use Rattle.evaluate.specs.Evaluate.{Values, amount, outward}
+use Rattle.evaluate.specs.Nodes.{Kind, Block, Sequence, Choice, Loop, Limit, Unlimited, AtMost}
+use Rattle.evaluate.specs.Evaluate.{outward, Values, amount}
 
 -- what a walk finds of a tree, or of a node's children so far: the pairs of the list, the loop it names, how many records, and whether question 10 says yes
 pub record Found : Type 0 where

@@ -1,9 +1,9 @@
 -- Document 01, "Evaluation", on pairs: sequence, choice, loop and limit as they are computed, run by run.
 use mathlib.Core.Bool.{cond}
-use Prim.Native.Nat.{_%_, _*_, _+_, _-_, _/_, max, min, suc, zero, ℕ}
-use lib.Dec.{eqb, leb, ltb}
-use Rattle.lists.specs.declared.Turn.{Turn}
+use Prim.Native.Nat.{ℕ, suc, zero, _-_, min, _+_, max, _%_, _*_, _/_}
+use lib.Dec.{leb, ltb, eqb}
 use Rattle.lists.specs.Pairs.{Pairs, ever, run, top, width}
+use Rattle.lists.specs.declared.Turn.{Turn}
 
 unfoldable pub count : Pairs → ℕ
 count (ever v) = 0
@@ -90,3 +90,8 @@ groupFrom n m a (run v c r) =
 unfoldable pub groupPairs : ℕ → Pairs → Pairs
 groupPairs zero r = ever 0
 groupPairs (suc n) r = groupFrom (suc n) 0 0 r
+
+-- the sum of the first P members
+unfoldable pub first : Pairs → ℕ → ℕ
+first (ever v) P = P * v
+first (run v c r) P = min c P * v + first r (P - c)

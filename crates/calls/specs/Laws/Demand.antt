@@ -15,7 +15,7 @@ use Rattle.table.specs.Checking.{refusal}
 use Rattle.table.specs.Laws.RoundTrip.{length-encode}
 use Rattle.table.specs.Laws.Accepted.{IsTable, is-table}
 use Rattle.table.specs.Laws.NotRefused.{reads-back, not-refused}
-use Rattle.evaluate.specs.Evaluate.{fits, zeros}
+use Rattle.evaluate.specs.Evaluate.{valuesOf, fits, zeros}
 use Rattle.evaluate.specs.Laws.Monotone.{figure-mono, fits-zeros}
 use Rattle.simplify.specs.Steps.{Made, isNone, step, steps}
 use Rattle.simplify.specs.Laws.Stepping.{Kept}
@@ -24,7 +24,7 @@ use Rattle.calls.specs.declared.Checked.{Checked}
 use Rattle.calls.specs.declared.Quote.{Quote}
 use Rattle.calls.specs.declared.Ending.{Ending}
 use Rattle.calls.specs.declared.Simplified.{Simplified}
-use Rattle.calls.specs.Answers.{checkAnswer, valuesOf, quoteOf, figureAnswer, simplifyRefusal, endingOf, made, simplifyAnswer, simplifyWrites, over}
+use Rattle.calls.specs.Answers.{checkAnswer, quoteOf, figureAnswer, simplifyRefusal, endingOf, made, simplifyAnswer, simplifyWrites, over}
 use Rattle.calls.specs.Demand.{Sold, soldBytes, Demand3}
 use Rattle.calls.specs.Laws.Figures.{is-figure, figure-is, figure-of}
 

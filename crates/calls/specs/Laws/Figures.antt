@@ -8,9 +8,9 @@ use Rattle.booleans.specs.Laws.{T-is}
 use Rattle.table.specs.Trees.{Tree}
 use Rattle.table.specs.Table.{decode}
 use Rattle.table.specs.Checking.{refusal}
-use Rattle.evaluate.specs.Evaluate.{figure, fits}
+use Rattle.evaluate.specs.Evaluate.{valuesOf, figure, fits}
 use Rattle.calls.specs.declared.Quote.{Quote}
-use Rattle.calls.specs.Answers.{valuesOf, question9, quoteOf, figureAnswer}
+use Rattle.calls.specs.Answers.{question9, quoteOf, figureAnswer}
 
 not-figure : (q x : ℕ) → Quote.Refused q ≡ Quote.Figure x → ⊥
 not-figure q x e = subst T (ap isRefused e) tt

@@ -8,12 +8,11 @@ use borrow.Author.Tests.{leb-false, le-leb}
 use Rattle.booleans.specs.Laws.{by-cond, both}
 use Rattle.table.specs.Numbers.{mostTime, mostWeight, mostCount, firstTimeSymbol}
 use Rattle.table.specs.Questions.{kindInRange, limitInRange}
-use Rattle.lists.specs.Operations.{groupPairs}
+use Rattle.lists.specs.Operations.{first, groupPairs}
 use Rattle.lists.specs.Pairs.{width, ArePairs, Pairs, expand, places, Canonical, ever, top}
 use Rattle.lists.specs.Streams.{Stream, const, group, cap}
 use Rattle.lists.specs.Laws.Add.{add-is, add-facts}
 use Rattle.lists.specs.Laws.Cap.{cap-is, cap-facts}
-use Rattle.lists.specs.Laws.Expand.{first}
 use Rattle.lists.specs.Laws.Group.{group-is, group-canonical, group-top, group-thin}
 use Rattle.lists.specs.Laws.Pairs.{members, first-top, are-pairs, top-is}
 use Rattle.lists.specs.Laws.Union.{merge-facts, expand-ever}

@@ -1,19 +1,19 @@
 -- What the evaluator's walk finds of any bytes, at any values, is in range.
 use mathlib.Core.Bool.{Bool, cond}
 use mathlib.Core.List.{List}
-use Prim.Native.Nat.{ℕ, zero, suc, _+_, _*_, _≤_}
+use Prim.Native.Nat.{ℕ, _*_, _≤_, _+_, suc, zero}
 use native.Mathlib.Omega.{arith}
 use lib.Dec.{T, leb, leb→le}
 use lib.ListN.{length, drop, length-drop}
 use Rattle.booleans.specs.Laws.{by-cond}
-use Rattle.table.specs.Numbers.{recordLength, wholeRun, mostTime, mostCount, mostWeight}
-use Rattle.table.specs.Trees.{rest}
+use Rattle.table.specs.Numbers.{recordLength, mostTime, mostCount, mostWeight, wholeRun}
 use Rattle.table.specs.Table.{firstNode, childByte}
-use Rattle.lists.specs.Pairs.{Pairs, ever, top, width, places, Canonical}
-use Rattle.lists.specs.Laws.Expand.{first}
+use Rattle.table.specs.Trees.{rest}
+use Rattle.lists.specs.Operations.{first}
+use Rattle.lists.specs.Pairs.{top, width, places, Canonical, ever, Pairs}
 use Rattle.lists.specs.Laws.Cap.{cap-facts}
 use Rattle.lists.specs.Laws.Group.{group-canonical, group-thin}
-use Rattle.evaluate.specs.Nodes.{Limit, Unlimited, AtMost, Kind, Block, Sequence, Choice, Loop}
+use Rattle.evaluate.specs.Nodes.{Kind, Block, Sequence, Choice, Loop, Limit, Unlimited, AtMost}
 use Rattle.evaluate.specs.Evaluate.{Values, amount}
 use Rattle.evaluate.specs.Evaluator.{Found, unfit, found, checked, joined, looped, goneRound, limited, evaluateMore, evaluateBelow, evaluateNode}
 use Rattle.evaluate.specs.Laws.Found.{join-facts}

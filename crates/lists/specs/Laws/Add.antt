@@ -1,16 +1,16 @@
 -- The sum of pairs: what it expands to, canonical, its size, and how a program comes by it.
-use mathlib.Core.Path.{_∙_, _≡_, ap, ap₂, refl, sym}
+use mathlib.Core.Path.{_≡_, refl, ap, sym, _∙_, ap₂}
 use mathlib.Core.Bool.{Bool, cond, false, true}
-use Prim.Native.Nat.{_*_, _+_, _-_, _<_, _≤_, max, min, suc, zero, ℕ}
+use Prim.Native.Nat.{_<_, suc, zero, ℕ, _*_, _+_, _-_, _≤_, min, max}
 use native.Mathlib.Omega.{arith}
 use lib.Dec.{leb}
 use borrow.Author.Tests.{leb-false, leb-true}
+use Rattle.lists.specs.Operations.{count, first, skip, shorter, addWithin, make, addPairs}
+use Rattle.lists.specs.Pairs.{Canonical, Pairs, places, top, width, ever, run, expand}
 use Rattle.lists.specs.Streams.{add}
-use Rattle.lists.specs.Pairs.{Canonical, Pairs, ever, expand, places, run, top, width}
-use Rattle.lists.specs.Operations.{addPairs, addWithin, count, make, shorter, skip}
-use Rattle.lists.specs.Laws.Sums.{S-add, S-inj}
+use Rattle.lists.specs.Laws.Expand.{by-run, ever-first, run-past, run-within, by-first, expand-first}
 use Rattle.lists.specs.Laws.Pairs.{unique-pairs}
-use Rattle.lists.specs.Laws.Expand.{by-first, by-run, ever-first, expand-first, first, run-past, run-within}
+use Rattle.lists.specs.Laws.Sums.{S-add, S-inj}
 
 pub positive : (x : ℕ) → (x ≡ 0 → ⊥) → 0 < x
 positive zero f = absurd (f refl)

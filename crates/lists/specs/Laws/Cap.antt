@@ -1,15 +1,15 @@
 -- The limit of pairs: what it expands to, canonical, its size.
-use mathlib.Core.Path.{_∙_, _≡_, ap, refl, sym}
+use mathlib.Core.Path.{_≡_, ap, refl, _∙_, sym}
 use mathlib.Core.Bool.{Bool, cond, false, true}
-use Prim.Native.Nat.{_*_, _+_, _-_, _<_, _≤_, min, suc, zero, ℕ}
+use Prim.Native.Nat.{_-_, _<_, min, ℕ, _*_, _≤_, suc, zero, _+_}
 use native.Mathlib.Omega.{arith}
 use lib.Dec.{leb}
 use borrow.Author.Tests.{leb-false, leb-true}
+use Rattle.lists.specs.Operations.{first, capped, lead, capPairs}
+use Rattle.lists.specs.Pairs.{Canonical, Pairs, places, top, width, ever, run, expand}
 use Rattle.lists.specs.Streams.{cap}
-use Rattle.lists.specs.Pairs.{Canonical, Pairs, ever, expand, places, run, top, width}
-use Rattle.lists.specs.Operations.{capPairs, capped, lead}
+use Rattle.lists.specs.Laws.Expand.{first-zero, by-first, expand-first}
 use Rattle.lists.specs.Laws.Sums.{S-cap}
-use Rattle.lists.specs.Laws.Expand.{by-first, expand-first, first, first-zero}
 
 cap-split : (c m P : ℕ) → c < m → min m P - c ≡ min (m - c) (P - c)
 cap-split c m P l = omega arith

@@ -1,20 +1,15 @@
 -- Prefix sums of pairs.
-use mathlib.Core.Path.{_∙_, _≡_, fun-ext, refl, subst, sym}
+use mathlib.Core.Path.{_≡_, refl, sym, _∙_, fun-ext, subst}
 use mathlib.Core.Bool.{Bool, cond, false, true}
-use Prim.Native.Nat.{_*_, _+_, _-_, _<_, _≤_, min, suc, zero, ℕ}
-use native.Mathlib.Nat.{add-sub-of-le, le-of-lt, zero-sub}
+use Prim.Native.Nat.{min, _*_, _+_, _-_, _<_, _≤_, suc, ℕ, zero}
+use native.Mathlib.Nat.{zero-sub, add-sub-of-le, le-of-lt}
 use native.Mathlib.Omega.{arith}
-use lib.Dec.{leb, ltb}
-use borrow.Author.Tests.{leb-false, leb-true, ltb-false, ltb-true}
+use lib.Dec.{ltb, leb}
+use borrow.Author.Tests.{ltb-false, ltb-true, leb-false, leb-true}
+use Rattle.lists.specs.Operations.{first, make, lead}
+use Rattle.lists.specs.Pairs.{Pairs, ever, run, expand, Canonical, top}
 use Rattle.lists.specs.Streams.{S, Stream}
-use Rattle.lists.specs.Pairs.{Canonical, Pairs, ever, expand, run, top}
-use Rattle.lists.specs.Operations.{lead, make}
-use Rattle.lists.specs.Laws.Sums.{Falls, S-inj}
-
--- the sum of the first P members
-unfoldable pub first : Pairs → ℕ → ℕ
-first (ever v) P = P * v
-first (run v c r) P = min c P * v + first r (P - c)
+use Rattle.lists.specs.Laws.Sums.{S-inj, Falls}
 
 pub first-zero : (r : Pairs) → first r 0 ≡ 0
 unfolding first

@@ -1,18 +1,18 @@
 -- The groups of pairs: what they expand to, canonical, their size.
-use mathlib.Core.Path.{_∙_, _≡_, ap, refl, sym}
-use mathlib.Core.Bool.{Bool, cond, false, true}
-use Prim.Native.Nat.{_%_, _*_, _+_, _-_, _/_, _<_, _≤_, suc, zero, ℕ}
-use native.Mathlib.Nat.{div-add-mod, le-of-lt, mod-lt, mul-le-mul-left, mul-le-mul-right, mul-zero, sub-zero, zero-add}
+use mathlib.Core.Path.{_≡_, ap, refl, _∙_, sym}
+use mathlib.Core.Bool.{Bool, false, true, cond}
+use Prim.Native.Nat.{_*_, _+_, _<_, _≤_, ℕ, suc, zero, _-_, _%_, _/_}
+use native.Mathlib.Nat.{le-of-lt, mul-le-mul-left, mul-le-mul-right, div-add-mod, mod-lt, sub-zero, mul-zero, zero-add}
 use native.Mathlib.Omega.{arith}
-use lib.Dec.{eqb, leb, ltb}
-use borrow.Author.Tests.{eqb-false, eqb-true, leb-false, leb-true, ltb-false, ltb-true}
-use Rattle.lists.specs.declared.Turn.{Turn}
+use lib.Dec.{leb, eqb, ltb}
+use borrow.Author.Tests.{leb-false, leb-true, eqb-false, eqb-true, ltb-false, ltb-true}
+use Rattle.lists.specs.Operations.{some, first, lead, groupFrom, turnOf, groupPairs}
+use Rattle.lists.specs.Pairs.{Canonical, Pairs, places, top, width, run, ever, expand}
 use Rattle.lists.specs.Streams.{S, group}
-use Rattle.lists.specs.Pairs.{Canonical, Pairs, ever, expand, places, run, top, width}
-use Rattle.lists.specs.Operations.{groupFrom, groupPairs, lead, some, turnOf}
-use Rattle.lists.specs.Laws.Sums.{S-group}
-use Rattle.lists.specs.Laws.Expand.{by-first, by-run, ever-first, expand-first, first, first-zero, run-past, run-within}
+use Rattle.lists.specs.declared.Turn.{Turn}
 use Rattle.lists.specs.Laws.Add.{positive}
+use Rattle.lists.specs.Laws.Expand.{first-zero, run-past, run-within, by-run, ever-first, by-first, expand-first}
+use Rattle.lists.specs.Laws.Sums.{S-group}
 
 -- a pair in front, or none
 pub record Led (v c : ℕ) (r s : Pairs) : Type 0 where

@@ -1,19 +1,19 @@
 -- The merge of pairs: what it expands to, canonical, its size, and how a program comes by it.
-use mathlib.Core.Path.{_∙_, _≡_, ap, ap₂, refl, subst, sym}
-use mathlib.Core.Bool.{Bool, cond, false, true}
-use Prim.Native.Nat.{_*_, _+_, _-_, _<_, _≤_, max, min, suc, zero, ℕ}
-use native.Mathlib.Nat.{add-sub-of-le, add-suc, add-zero, le-antisymm, le-of-lt, le-trans, mul-le-mul-right}
+use mathlib.Core.Path.{_∙_, _≡_, ap, sym, refl, ap₂, subst}
+use mathlib.Core.Bool.{Bool, false, true, cond}
+use Prim.Native.Nat.{_*_, _+_, _≤_, suc, zero, ℕ, min, _-_, _<_, max}
+use native.Mathlib.Nat.{add-suc, add-zero, add-sub-of-le, le-of-lt, mul-le-mul-right, le-trans, le-antisymm}
 use native.Mathlib.Omega.{arith}
 use lib.Dec.{leb, ltb}
 use borrow.Author.Tests.{leb-false, leb-true, ltb-false, ltb-true}
-use Rattle.lists.specs.Streams.{S, Stream, cap, const, merge}
-use Rattle.lists.specs.Pairs.{Canonical, Pairs, ever, expand, places, run, top, width}
-use Rattle.lists.specs.Operations.{count, joined, make, mergePairs, mergeWithin, rest}
-use Rattle.lists.specs.Laws.Sums.{Falls, S-cap, S-const, S-grows, cap-falls, const-falls}
-use Rattle.lists.specs.Laws.Merge.{merge-falls}
-use Rattle.lists.specs.Laws.MergeLaws.{IsMerge, Met, is-merge, merge-assoc, merge-comm, unique}
-use Rattle.lists.specs.Laws.Expand.{by-first, by-run, expand-falls, expand-first, expand-le, first, first-zero, make-run, run-past, run-within}
+use Rattle.lists.specs.Operations.{first, count, make, rest, joined, mergeWithin, mergePairs}
+use Rattle.lists.specs.Pairs.{Pairs, expand, run, Canonical, top, ever, places, width}
+use Rattle.lists.specs.Streams.{Stream, merge, S, cap, const}
 use Rattle.lists.specs.Laws.Add.{width-zero}
+use Rattle.lists.specs.Laws.Expand.{by-run, expand-first, first-zero, run-past, run-within, expand-falls, expand-le, by-first, make-run}
+use Rattle.lists.specs.Laws.Merge.{merge-falls}
+use Rattle.lists.specs.Laws.MergeLaws.{merge-assoc, merge-comm, IsMerge, Met, is-merge, unique}
+use Rattle.lists.specs.Laws.Sums.{Falls, S-cap, S-const, S-grows, cap-falls, const-falls}
 
 pub merge-swap : (f g h : Stream) → Falls f → Falls g → Falls h → merge f (merge g h) ≡ merge g (merge f h)
 merge-swap f g h a b c = sym (merge-assoc f g h a b c) ∙ ap (λ k. merge k h) (merge-comm f g a b) ∙ merge-assoc g f h b a c
