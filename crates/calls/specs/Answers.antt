@@ -5,16 +5,23 @@ use Prim.Native.Nat.{ℕ, suc}
 use lib.Dec.{eqb, leb, ltb}
 use lib.ListN.{length, drop}
 use Rattle.booleans.specs.Tests.{_and_}
-use Rattle.table.specs.Numbers.{howManyValues, firstTimeSymbol, mostCount, mostTime}
+use Rattle.table.specs.Numbers.{howManyValues, firstTimeSymbol, mostCount, mostTime, listRoom}
 use Rattle.table.specs.Trees.{Tree}
 use Rattle.table.specs.Table.{encode, decode, recordCount}
 use Rattle.table.specs.Checking.{refusal}
+use Rattle.lists.specs.Pairs.{width, numbers}
 use Rattle.evaluate.specs.Evaluate.{valuesOf, figure, fits, zeros}
+use Rattle.evaluate.specs.ListPairs.{listPairs}
 use Rattle.simplify.specs.Steps.{Made, steps}
 use Rattle.calls.specs.declared.Checked.{Checked}
 use Rattle.calls.specs.declared.Quote.{Quote}
+use Rattle.calls.specs.declared.Listed.{Listed}
 use Rattle.calls.specs.declared.Ending.{Ending}
 use Rattle.calls.specs.declared.Simplified.{Simplified}
+
+-- a buffer with numbers written over its front, and the rest of it as it was
+unfoldable pub over : (front buffer : List ℕ) → List ℕ
+over front buffer = front ++ drop (length front) buffer
 
 -- ---- checking: questions 1 to 7
 
@@ -52,6 +59,40 @@ quoteOf vs t = cond (question9 vs) (cond (fits (valuesOf vs) t) (Quote.Figure (f
 unfoldable pub figureAnswer : List ℕ → List ℕ → Quote
 figureAnswer b vs = cond (eqb (refusal b) 0) (quoteOf vs (decode b)) (Quote.Refused (refusal b))
 
+-- document 01's number for each case, 0 for none, and the figure, 0 where there is none
+unfoldable pub quotedRefusal : Quote → ℕ
+quotedRefusal (Quote.Figure x) = 0
+quotedRefusal (Quote.Refused q) = q
+
+unfoldable pub quotedFigure : Quote → ℕ
+quotedFigure (Quote.Figure x) = x
+quotedFigure (Quote.Refused q) = 0
+
+-- ---- the list call: questions 1 to 10, of which 8 asks the output buffer for 512 numbers
+
+unfoldable pub listRefusal : (table values out : List ℕ) → ℕ
+listRefusal b vs out =
+    cond (eqb (refusal b) 0)
+    (cond (leb listRoom (length out)) (cond (question9 vs) (cond (fits (valuesOf vs) (decode b)) 0 10) 9) 8)
+    (refusal b)
+
+unfoldable pub listAnswer : (table values out : List ℕ) → Listed
+listAnswer b vs out =
+    cond (eqb (listRefusal b vs out) 0) (Listed.Pairs (suc (width (listPairs (valuesOf vs) (decode b))))) (Listed.Refused (listRefusal b vs out))
+
+-- the numbers it writes: none where it is refused
+unfoldable pub listWrites : (table values out : List ℕ) → List ℕ
+listWrites b vs out = cond (eqb (listRefusal b vs out) 0) (numbers (listPairs (valuesOf vs) (decode b))) []
+
+-- document 01's number for each case, 0 for none, and how many pairs, 0 where it is refused
+unfoldable pub listedRefusal : Listed → ℕ
+listedRefusal (Listed.Pairs n) = 0
+listedRefusal (Listed.Refused q) = q
+
+unfoldable pub listedPairs : Listed → ℕ
+listedPairs (Listed.Pairs n) = n
+listedPairs (Listed.Refused q) = 0
+
 -- ---- simplifying: questions 1 to 8, then 10 with every symbol 0
 
 -- 8. the output buffer is at least as long as the table
@@ -76,7 +117,3 @@ simplifyAnswer b n out =
 -- the bytes it writes: none where it is refused
 unfoldable pub simplifyWrites : (table : List ℕ) (allowance : ℕ) (out : List ℕ) → List ℕ
 simplifyWrites b n out = cond (eqb (simplifyRefusal b out) 0) (encode (made b n .tree)) []
-
--- a buffer with bytes written over its front, and the rest of it as it was
-unfoldable pub over : (front buffer : List ℕ) → List ℕ
-over front buffer = front ++ drop (length front) buffer

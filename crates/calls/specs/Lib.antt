@@ -1,6 +1,7 @@
 -- Definitions, in the order of reading.
 mod Nodes
 pub mod Answers
+pub mod Promises
 pub mod Demand
 pub mod Cases
 -- What is proved of them.

@@ -15,6 +15,12 @@ pub enum Quote {
     Refused(u64),
 }
 
+// The list call: how many pairs were written.
+pub enum Listed {
+    Pairs(usize),
+    Refused(u64),
+}
+
 // No rule fits what was written, or the allowance is used and a rule fits.
 pub enum Ending {
     Finished,

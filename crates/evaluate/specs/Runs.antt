@@ -9,7 +9,7 @@ use lib.ListN.{length}
 use Rattle.evaluate.specs.Nodes.{Kind, Block, Sequence, Choice, Loop, Limit, Unlimited, AtMost}
 use Rattle.booleans.specs.Tests.{_and_}
 use Rattle.table.specs.Trees.{Tree, node, Forest, nil, _▸_, rest}
-use Rattle.evaluate.specs.Evaluate.{outward, Values, amount, figure}
+use Rattle.evaluate.specs.Evaluate.{outward, Values, amount}
 use Rattle.evaluate.specs.Closed.{isUnlimited}
 
 -- a pass of a sequence is one pass of each child in order; of a choice, one pass of one child; of a loop, some of the body, then one of the exit
@@ -131,11 +131,11 @@ module _ (v : Values) where
     pub inside : Admitted t r
     pub whole : (x : Spot t) → keeps (limitAt t x) (count t r x)
 
-  -- some admitted run costs exactly the figure
-  pub record Reached (t : Tree) : Type 0 where
+  -- some admitted run costs exactly x
+  pub record Costs (t : Tree) (x : ℕ) : Type 0 where
     pub pass : Pass t
     pub run : Run t pass
-    pub costs : cost t pass ≡ figure v t
+    pub costs : cost t pass ≡ x
 
 -- no limit in the tree
 unfoldable mutual

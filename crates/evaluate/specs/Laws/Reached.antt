@@ -16,7 +16,7 @@ use Rattle.lists.specs.Streams.{Stream, const, add, merge, taken}
 use Rattle.lists.specs.Laws.MergeLaws.{group-const}
 use Rattle.evaluate.specs.Evaluate.{rounds, Values, amount, name, limit, turns, join, start, list, before, figure}
 use Rattle.evaluate.specs.Closed.{isUnlimited, stays, closed, closedIn}
-use Rattle.evaluate.specs.Runs.{limitFree, limitFreeIn, out, seenLimit, Spot, SpotIn, limitAt, limitIn, total, All, Pass, PassIn, cost, costIn, keeps, here, Admitted, AdmittedIn, Reached}
+use Rattle.evaluate.specs.Runs.{limitFree, limitFreeIn, out, seenLimit, Spot, SpotIn, limitAt, limitIn, total, All, Pass, PassIn, cost, costIn, keeps, here, Admitted, AdmittedIn, Costs}
 use Rattle.evaluate.specs.Laws.Constant.{closed-const, unlimited-is}
 
 stays-free : (l : Limit) (d : ℕ) → T (isUnlimited l) → T (stays l d)
@@ -181,7 +181,7 @@ module _ (v : Values) where
         let (p, q) = both _ _ l in
         loop-best n t f a (best t a p) (bestIn f Sequence b q tt)
 
-  pub reached : (t : Tree) → T (limitFree t) → T (listed t) → Reached v t
+  pub reached : (t : Tree) → T (limitFree t) → T (listed t) → Costs v t (figure v t)
   reached t h l =
       let b = best t h l in
       record {
