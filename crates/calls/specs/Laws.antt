@@ -1,4 +1,5 @@
 -- Laws, in the order in which they lean on each other.
+pub mod Values
 pub mod Figures
 pub mod Promises
 pub mod Demand

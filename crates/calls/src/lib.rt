@@ -1,7 +1,13 @@
 // The outside calls. Each answers with an enum: one case with what was asked for, one with the number of the question that says no.
+use table::FIRST_TIME_SYMBOL;
+use table::MOST_COUNT;
+use table::MOST_TIME;
 use table::RECORD_LENGTH;
 ghost use mathlib.Core.Path.{_≡_};
-ghost use Rattle.calls.specs.Answers.{checkAnswer};
+ghost use Rattle.calls.specs.Answers.{checkAnswer, ceiling, question9};
+
+// How many values a desk holds.
+pub const HOW_MANY_VALUES: usize = 32;
 
 // Checking: how many records the accepted table has.
 pub enum Checked {
@@ -43,4 +49,32 @@ pub fn check(table: &[u8]) -> Checked
     } else {
         Checked::Refused(number)
     }
+}
+
+// The ceiling of value i.
+fn ceiling_of(i: usize) -> u64
+    ensures { λ r. ⌜ r ≡ ceiling i ⌝ }
+{
+    if (i as u64) < FIRST_TIME_SYMBOL {
+        MOST_COUNT
+    } else {
+        MOST_TIME
+    }
+}
+
+// Question 9: exactly 32 values, each within its ceiling, used or not?
+fn values_allowed(values: &[u64]) -> bool
+    ensures { λ r. ⌜ r ≡ question9 (now (values .entry)) ⌝ }
+{
+    if values.len() != HOW_MANY_VALUES {
+        return false;
+    }
+    let mut i = 0;
+    while i < HOW_MANY_VALUES {
+        if ceiling_of(i) < values[i] {
+            return false;
+        }
+        i += 1;
+    }
+    true
 }
