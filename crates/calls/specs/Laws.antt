@@ -1,5 +1,6 @@
 -- Laws, in the order in which they lean on each other.
 pub mod Values
+pub mod Files
 pub mod Figures
 pub mod Promises
 pub mod Demand

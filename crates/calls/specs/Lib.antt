@@ -2,6 +2,7 @@
 mod Nodes
 pub mod Answers
 pub mod Promises
+pub mod Files
 pub mod Demand
 pub mod Cases
 -- What is proved of them.

@@ -4,10 +4,17 @@ use table::MOST_COUNT;
 use table::MOST_TIME;
 use table::RECORD_LENGTH;
 ghost use mathlib.Core.Path.{_≡_};
+ghost use Prim.Native.Nat.{_<_, _≤_, _%_, _*_};
+ghost use lib.ListN.{drop, length};
+ghost use Rattle.table.specs.Numbers.{howManyValues};
 ghost use Rattle.calls.specs.Answers.{checkAnswer, ceiling, question9};
+ghost use Rattle.calls.specs.Files.{absent, valueIn, valueLength, valuesFrom, valuesWhole};
 
 // How many values a desk holds.
 pub const HOW_MANY_VALUES: usize = 32;
+
+// Bytes that a value takes in a file.
+pub const VALUE_LENGTH: usize = 8;
 
 // Checking: how many records the accepted table has.
 pub enum Checked {
@@ -77,4 +84,48 @@ fn values_allowed(values: &[u64]) -> bool
         i += 1;
     }
     true
+}
+
+// ---- The desk's files
+
+// What value i counts where a file ends before it.
+fn absent_value(i: usize) -> u64
+    ensures { λ r. ⌜ r ≡ absent i ⌝ }
+{
+    0
+}
+
+// Value i of a file of whole values.
+fn value_of(bytes: &[u8], i: usize) -> u64
+    requires { ⌜ (length (now bytes) % valueLength ≡ 0) × (i < howManyValues) ⌝ }
+    ensures { λ r. ⌜ r ≡ valueIn i (drop (valueLength * i) (now (bytes .entry))) ⌝ }
+{
+    let at = VALUE_LENGTH * i;
+    if at < bytes.len() {
+        table::read_u64(bytes, at)
+    } else {
+        absent_value(i)
+    }
+}
+
+// All the values, those of a file of whole values first.
+fn values_of(bytes: &[u8]) -> [u64; HOW_MANY_VALUES]
+    requires { ⌜ length (now bytes) % valueLength ≡ 0 ⌝ }
+    ensures { λ r. ⌜ r ≡ valuesFrom howManyValues 0 (now (bytes .entry)) ⌝ }
+{
+    let mut values = [0; HOW_MANY_VALUES];
+    let mut i = 0;
+    while i < HOW_MANY_VALUES {
+        values[i] = value_of(bytes, i);
+        i += 1;
+    }
+    values
+}
+
+// Does a file hold whole values, and no more than there are?
+fn values_whole(bytes: &[u8]) -> bool
+    ensures { λ r. ⌜ r ≡ valuesWhole (now (bytes .entry)) ⌝ }
+{
+    let n = bytes.len();
+    (n % VALUE_LENGTH == 0) & (n <= VALUE_LENGTH * HOW_MANY_VALUES)
 }

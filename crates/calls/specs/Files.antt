@@ -1,0 +1,38 @@
+-- Document 01, "The desk program": what it decides from the bytes of tree.tab and values.tab.
+use mathlib.Core.Bool.{Bool, cond}
+use mathlib.Core.List.{List, [], _∷_}
+use Prim.Native.Nat.{ℕ, zero, suc, _%_, _*_}
+use lib.Dec.{eqb, leb}
+use lib.ListN.{length, take, drop}
+use Rattle.booleans.specs.Tests.{_and_}
+use Rattle.table.specs.Numbers.{howManyValues}
+use Rattle.table.specs.Bytes.{fromBytes}
+use Rattle.table.specs.Checking.{refusal}
+use Rattle.calls.specs.declared.Quote.{Quote}
+use Rattle.calls.specs.Answers.{figureAnswer}
+
+-- bytes that a value takes in values.tab
+abbrev pub valueLength : ℕ
+valueLength = 8
+
+-- what an absent last value counts, by its number
+abbrev pub absent : ℕ → ℕ
+absent i = 0
+
+-- value i, with the file's bytes from its place on
+unfoldable pub valueIn : ℕ → List ℕ → ℕ
+valueIn i [] = absent i
+valueIn i (x ∷ b) = fromBytes (take valueLength (x ∷ b))
+
+-- n values from value i on
+unfoldable pub valuesFrom : (n i : ℕ) → List ℕ → List ℕ
+valuesFrom zero i b = []
+valuesFrom (suc n) i b = valueIn i b ∷ valuesFrom n (suc i) (drop valueLength b)
+
+-- whole values, and no more than there are
+unfoldable pub valuesWhole : List ℕ → Bool
+valuesWhole b = eqb (length b % valueLength) 0 and leb (length b) (valueLength * howManyValues)
+
+unfoldable pub filesAnswer : (tree values : List ℕ) → Quote
+filesAnswer t v =
+    cond (eqb (refusal t) 0) (cond (valuesWhole v) (figureAnswer t (valuesFrom howManyValues 0 v)) (Quote.Refused 9)) (Quote.Refused (refusal t))
