@@ -2,5 +2,6 @@
 pub mod Values
 pub mod Files
 pub mod Figures
+pub mod Evaluated
 pub mod Promises
 pub mod Demand

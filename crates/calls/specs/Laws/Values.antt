@@ -1,16 +1,18 @@
--- Question 9 as a program puts it, value by value.
-use mathlib.Core.Path.{_≡_, refl, sym, ap, _∙_}
+-- Question 9 as a program puts it, value by value, and what it says of each.
+use mathlib.Core.Path.{_≡_, refl, sym, _∙_}
 use mathlib.Core.Bool.{true, false}
-use mathlib.Core.List.{List, []}
-use Prim.Native.Nat.{ℕ, suc, _<_, _≤_}
-use native.Mathlib.Numerals.{add-one}
+use mathlib.Core.List.{List, [], _∷_}
+use Prim.Native.Nat.{ℕ, zero, suc, _+_, _<_, _≤_}
+use native.Mathlib.Nat.{add-zero}
 use native.Mathlib.Omega.{arith}
-use lib.Dec.{leb, eqb}
+use lib.Dec.{T, leb→le, eqb→eq}
 use lib.ListN.{length, getD, drop}
 use lib.Seq.{drop-cons, drop-length}
-use borrow.Author.Tests.{eq-eqb, ne-eqb, le-leb, lt-leb}
+use borrow.Author.Tests.{eq-eqb, ne-eqb, le-leb, lt-leb, lt-ltb}
 use Rattle.booleans.specs.Tests.{_and_}
-use Rattle.table.specs.Numbers.{howManyValues}
+use Rattle.booleans.specs.Laws.{both}
+use Rattle.table.specs.Numbers.{howManyValues, firstTimeSymbol, mostCount}
+use Rattle.evaluate.specs.Evaluate.{valuesOf}
 use Rattle.calls.specs.Answers.{ceiling, ranged, question9}
 
 -- the values before i are in range, and the others are asked yet
@@ -35,3 +37,22 @@ all-asked vs i q e h = sym (rw (eq-eqb (length vs) howManyValues e) (h ∙ rw (q
 pub other-length : (vs : List ℕ) → (length vs ≡ howManyValues → ⊥) → false ≡ question9 vs
 unfolding question9 _and_
 other-length vs e = rw (ne-eqb (length vs) howManyValues e) refl
+
+-- ---- what it says of a value
+
+ranged-at : (i j : ℕ) (vs : List ℕ) → T (ranged i vs) → j < length vs → getD vs j 0 ≤ ceiling (i + j)
+unfolding ranged
+ranged-at i j [] h l = absurd (omega arith)
+ranged-at i zero (x ∷ xs) h l = rw add-zero (leb→le x (ceiling i) (both _ _ h .0))
+ranged-at i (suc j) (x ∷ xs) h l = let e : i + suc j ≡ suc i + j = omega arith in rw e (ranged-at (suc i) j xs (both _ _ h .1) (omega arith))
+
+pub counts-ranged : (vs : List ℕ) → T (question9 vs) → (k : ℕ) → k < firstTimeSymbol → valuesOf vs k ≤ mostCount
+unfolding question9
+counts-ranged vs h k l =
+    let (a, b) = both _ _ h in
+    let n = eqb→eq (length vs) howManyValues a in
+    let e : 0 + k ≡ k = omega arith in
+    omega (arith, rw e at (ranged-at 0 k vs b (omega arith)), low-ceiling k l)
+  where
+    low-ceiling : (k : ℕ) → k < firstTimeSymbol → ceiling k ≡ mostCount
+    low-ceiling k l = unfold ceiling in rw (lt-ltb k firstTimeSymbol l) refl
