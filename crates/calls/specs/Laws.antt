@@ -1,4 +1,5 @@
 -- Laws, in the order in which they lean on each other.
+pub mod Copies
 pub mod Values
 pub mod Files
 pub mod Figures

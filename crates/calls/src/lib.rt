@@ -5,13 +5,16 @@ use table::MOST_TIME;
 use table::RECORD_LENGTH;
 ghost use mathlib.Core.Path.{_≡_};
 ghost use Prim.Native.Nat.{_<_, _≤_, _%_, _*_};
-ghost use lib.ListN.{drop, length};
-ghost use Rattle.table.specs.Numbers.{howManyValues};
-ghost use Rattle.calls.specs.Answers.{checkAnswer, ceiling, question9};
+ghost use lib.ListN.{drop, length, take};
+ghost use Rattle.table.specs.Numbers.{howManyValues, listRoom};
+ghost use Rattle.calls.specs.Answers.{checkAnswer, ceiling, over, question9};
 ghost use Rattle.calls.specs.Files.{absent, valueIn, valueLength, valuesFrom, valuesWhole};
 
 // How many values a desk holds.
 pub const HOW_MANY_VALUES: usize = 32;
+
+// Numbers that the list call's buffer holds at least.
+pub const LIST_ROOM: usize = 512;
 
 // Bytes that a value takes in a file.
 pub const VALUE_LENGTH: usize = 8;
@@ -84,6 +87,18 @@ fn values_allowed(values: &[u64]) -> bool
         i += 1;
     }
     true
+}
+
+// Writes the first n numbers of a list over the front of a buffer.
+fn write_front(list: &[u64; LIST_ROOM], n: usize, out: &mut [u64])
+    requires { ⌜ (length (now list) ≡ listRoom) × (n ≤ listRoom) × (listRoom ≤ length (now out)) ⌝ }
+    ensures { λ _. ⌜ now (out .exit) ≡ over (take n (now (list .entry))) (now (out .entry)) ⌝ }
+{
+    let mut i = 0;
+    while i < n {
+        out[i] = list[i];
+        i += 1;
+    }
 }
 
 // ---- The desk's files
