@@ -5,6 +5,7 @@ pub mod MergeLaws
 pub mod Falls
 pub mod Settled
 pub mod Pairs
+pub mod Numbers
 pub mod Expand
 pub mod Cap
 pub mod Add

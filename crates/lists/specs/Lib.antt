@@ -2,5 +2,6 @@
 pub mod Streams
 pub mod Pairs
 pub mod Operations
+pub mod Reading
 -- What is proved of them.
 pub mod Laws
