@@ -7,8 +7,9 @@ ghost use mathlib.Core.Path.{_≡_};
 ghost use Prim.Native.Nat.{_<_, _≤_, _%_, _*_};
 ghost use lib.ListN.{drop, length, take};
 ghost use Rattle.table.specs.Numbers.{howManyValues, listRoom};
-ghost use Rattle.calls.specs.Answers.{checkAnswer, ceiling, over, question9};
-ghost use Rattle.calls.specs.Files.{absent, valueIn, valueLength, valuesFrom, valuesWhole};
+ghost use Rattle.calls.specs.Promises.{Promises};
+ghost use Rattle.calls.specs.Answers.{checkAnswer, ceiling, figureAnswer, listAnswer, listWrites, over, question9};
+ghost use Rattle.calls.specs.Files.{absent, filesAnswer, valueIn, valueLength, valuesFrom, valuesWhole};
 
 // How many values a desk holds.
 pub const HOW_MANY_VALUES: usize = 32;
@@ -101,6 +102,53 @@ fn write_front(list: &[u64; LIST_ROOM], n: usize, out: &mut [u64])
     }
 }
 
+// The figure of a table's tree under a desk's values: questions 1 to 7, 9 and 10.
+pub fn figure(table: &[u8], values: &[u64]) -> Quote
+    ensures answer { λ r. ⌜ r ≡ figureAnswer (now (table .entry)) (now (values .entry)) ⌝ }
+    ensures promise { λ r. ⌜ Promises (now (table .entry)) (now (values .entry)) r ⌝ }
+{
+    let number = table::refusal_of(table);
+    if number != 0 {
+        return Quote::Refused(number);
+    }
+    if !values_allowed(values) {
+        return Quote::Refused(9);
+    }
+    let mut list = [0; LIST_ROOM];
+    let found = evaluate::evaluate(table, values, &mut list);
+    if found.fits {
+        Quote::Figure(list[0])
+    } else {
+        Quote::Refused(10)
+    }
+}
+
+// The list of a table's tree as pairs of value and count, written over the front of `out`: questions 1 to 10.
+pub fn list(table: &[u8], values: &[u64], out: &mut [u64]) -> Listed
+    ensures answer { λ r. ⌜ r ≡ listAnswer (now (table .entry)) (now (values .entry)) (now (out .entry)) ⌝ }
+    ensures written { λ r. ⌜ now (out .exit) ≡ over (listWrites (now (table .entry)) (now (values .entry)) (now (out .entry))) (now (out .entry)) ⌝ }
+{
+    let number = table::refusal_of(table);
+    if number != 0 {
+        return Listed::Refused(number);
+    }
+    if out.len() < LIST_ROOM {
+        return Listed::Refused(8);
+    }
+    if !values_allowed(values) {
+        return Listed::Refused(9);
+    }
+    let mut list = [0; LIST_ROOM];
+    let found = evaluate::evaluate(table, values, &mut list);
+    if found.fits {
+        let n = found.len;
+        write_front(&list, 2 * n, out);
+        Listed::Pairs(n)
+    } else {
+        Listed::Refused(10)
+    }
+}
+
 // ---- The desk's files
 
 // What value i counts where a file ends before it.
@@ -143,4 +191,20 @@ fn values_whole(bytes: &[u8]) -> bool
 {
     let n = bytes.len();
     (n % VALUE_LENGTH == 0) & (n <= VALUE_LENGTH * HOW_MANY_VALUES)
+}
+
+// What the desk program decides from the bytes of tree.tab and values.tab.
+pub fn quote_files(tree: &[u8], values: &[u8]) -> Quote
+    ensures { λ r. ⌜ r ≡ filesAnswer (now (tree .entry)) (now (values .entry)) ⌝ }
+{
+    if values_whole(values) {
+        let numbers = values_of(values);
+        return figure(tree, &numbers);
+    }
+    let number = table::refusal_of(tree);
+    if number == 0 {
+        Quote::Refused(9)
+    } else {
+        Quote::Refused(number)
+    }
 }

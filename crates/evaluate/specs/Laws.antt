@@ -13,3 +13,5 @@ pub mod Found
 pub mod Children
 pub mod Evaluator
 pub mod Sane
+pub mod Steps
+pub mod Shown

@@ -5,5 +5,6 @@ pub mod Closed
 pub mod Runs
 pub mod ListPairs
 pub mod Evaluator
+pub mod Shown
 -- What is proved of them.
 pub mod Laws

@@ -1,1 +1,333 @@
-// evaluate
+// The evaluator (document 01, "Evaluation"): one walk of a table's tree, with lists as pairs in lent arrays.
+ghost use mathlib.Core.Path.{_≡_};
+ghost use mathlib.Core.Bool.{true};
+ghost use Prim.Native.Nat.{_*_, _≤_, min};
+ghost use lib.ListN.{getD, length};
+ghost use Rattle.table.specs.Numbers.{mostDepth, mostRecords, recordLength};
+ghost use Rattle.table.specs.Trees.{rest};
+ghost use Rattle.lists.specs.Pairs.{ever};
+ghost use Rattle.lists.specs.Reading.{Addable, Is, Mergeable, Proper, listIn, pairsOf};
+ghost use Rattle.evaluate.specs.Evaluate.{amount, outward, valuesOf};
+ghost use Rattle.evaluate.specs.Evaluator.{andThen, checked, evaluateNode, goneRound, joinPairs, joined, limited, looped};
+ghost use Rattle.evaluate.specs.Shown.{Ready, Roomy, Shows, evaluateChildren, foundIn, withNext};
+use lists::List;
+use lists::MOST_PAIRS;
+use table::Kind;
+use table::Limit;
+use table::MOST_COUNT;
+use table::MOST_DEPTH;
+use table::MOST_TIME;
+use table::Number;
+use table::RECORD_LENGTH;
+use table::WHOLE_RUN;
+
+// An array with room for any list.
+type Pairs = [u64; 2 * MOST_PAIRS];
+
+// What evaluating finds of a tree, or of a node's children so far: how many pairs its list has, which stands in a lent array, the loop that it names,
+// and how many records. Where question 10 says no, `fits` is false and nothing else is found.
+pub struct Valued {
+    pub len: usize,
+    pub named: u8,
+    pub records: usize,
+    pub fits: bool,
+}
+
+impl Valued {
+    const UNFIT: Valued = Valued {
+        len: 0,
+        named: WHOLE_RUN,
+        records: 0,
+        fits: false,
+    };
+}
+
+// ---- Numbers
+
+// The value of a symbol; one past the values counts 0.
+fn value_of(symbol: u64, values: &[u64]) -> u64
+    ensures { λ r. ⌜ r ≡ getD (now (values .entry)) symbol 0 ⌝ }
+{
+    let at = symbol as usize;
+    if at < values.len() { values[at] } else { 0 }
+}
+
+// What a time, bound or limit comes to.
+fn amount_of(number: Number, values: &[u64]) -> u64
+    ensures { λ r. ⌜ r ≡ amount (valuesOf (now (values .entry))) number ⌝ }
+{
+    match number {
+        Number::Plain(n) => n,
+        Number::Symbol(s) => value_of(s, values),
+    }
+}
+
+// The inner of two named loops.
+fn inner_of(a: u8, b: u8) -> u8
+    ensures { λ r. ⌜ r ≡ min a b ⌝ }
+{
+    if a <= b { a } else { b }
+}
+
+// A loop named inside a loop's body, counted from outside.
+fn outward_of(named: u8) -> u8
+    ensures { λ r. ⌜ r ≡ outward named ⌝ }
+{
+    if named <= 1 {
+        return WHOLE_RUN;
+    }
+    if WHOLE_RUN <= named {
+        return WHOLE_RUN;
+    }
+    named - 1
+}
+
+// The kind as which the children after the first are taken: a loop's exit is added as in a sequence.
+fn rest_of(kind: Kind) -> Kind
+    ensures { λ r. ⌜ r ≡ rest kind ⌝ }
+{
+    match kind {
+        Kind::Choice => Kind::Choice,
+        _ => Kind::Sequence,
+    }
+}
+
+// ---- Steps, each on the list in an array
+
+// Question 10 of a list.
+fn check_top(list: &Pairs, len: usize, named: u8, records: usize) -> Valued
+    requires { ⌜ Proper (listIn (now list) len) ⌝ ∗ ⌜ Roomy (now list) ⌝ }
+    ensures { λ r. ⌜ Shows r (now (list .entry)) (checked (pairsOf (listIn (now (list .entry)) len)) named records) ⌝ }
+{
+    if list[0] <= MOST_TIME {
+        Valued {
+            len: len,
+            named: named,
+            records: records,
+            fits: true,
+        }
+    } else {
+        Valued::UNFIT
+    }
+}
+
+// The list that repeats one value.
+fn repeat_in(value: u64, named: u8, records: usize, out: &mut Pairs) -> Valued
+    requires { ⌜ Roomy (now out) ⌝ }
+    ensures { λ r. ⌜ Shows r (now (out .exit)) (checked (ever value) named records) ⌝ }
+{
+    lists::constant_in(out, value);
+    check_top(out, 1, named, records)
+}
+
+// A loop over its body: the first sum for ever where the body names this very loop, else groups, which may double the pairs.
+fn loop_in(bound: u64, body: Valued, list: &mut Pairs, spare: &mut Pairs) -> Valued
+    requires { ⌜ Ready body (now list) ⌝ ∗ ⌜ Roomy (now spare) ⌝ }
+    ensures { λ r. ⌜ Shows r (now (list .exit)) (looped bound (foundIn body (now (list .entry)))) ⌝ ∗ ⌜ Roomy (now (spare .exit)) ⌝ }
+{
+    let len = body.len;
+    if MOST_COUNT < bound {
+        return Valued::UNFIT;
+    }
+    let named = outward_of(body.named);
+    if body.named <= 1 {
+        return repeat_in(lists::total_of(list, len, bound), named, body.records, list);
+    }
+    if MOST_PAIRS < 2 * len - 1 {
+        return Valued::UNFIT;
+    }
+    let n = lists::group_onto(list, len, bound, spare);
+    lists::copy_onto(spare, n, list);
+    check_top(list, n, named, body.records)
+}
+
+// The first child, as its parent takes it.
+fn go_round(
+    kind: Kind,
+    values: &[u64],
+    child: Valued,
+    list: &mut Pairs,
+    spare: &mut Pairs,
+) -> Valued
+    requires { ⌜ Ready child (now list) ⌝ ∗ ⌜ Roomy (now spare) ⌝ }
+    ensures { λ r. ⌜ Shows r (now (list .exit)) (goneRound (valuesOf (now (values .entry))) kind (foundIn child (now (list .entry)))) ⌝ ∗ ⌜ Roomy (now (spare .exit)) ⌝ }
+{
+    let Kind::Loop(bound) = kind else {
+        return child;
+    };
+    loop_in(amount_of(bound, values), child, list, spare)
+}
+
+// A choice takes the lists' members together; the others are added.
+fn join_onto(kind: Kind, a: &Pairs, al: usize, b: &Pairs, bl: usize, out: &mut Pairs) -> usize
+    requires { ⌜ Addable (listIn (now a) al) (listIn (now b) bl) ⌝ ∗ ⌜ Mergeable (listIn (now a) al) (listIn (now b) bl) ⌝ ∗ ⌜ Roomy (now out) ⌝ }
+    ensures { λ r. ⌜ Is (listIn (now (out .exit)) r) (joinPairs kind (pairsOf (listIn (now (a .entry)) al)) (pairsOf (listIn (now (b .entry)) bl))) ⌝ }
+{
+    match kind {
+        Kind::Choice => lists::merge_onto(a, al, b, bl, out),
+        _ => lists::add_onto(a, al, b, bl, out),
+    }
+}
+
+// The children so far, whose list is replaced, and the next one, where there is room for the pairs of both.
+fn join_in(
+    kind: Kind,
+    done: Valued,
+    out: &mut Pairs,
+    child: Valued,
+    list: &Pairs,
+    spare: &mut Pairs,
+) -> Valued
+    requires { ⌜ Ready done (now out) ⌝ ∗ ⌜ Ready child (now list) ⌝ ∗ ⌜ Roomy (now spare) ⌝ }
+    ensures { λ r. ⌜ Shows r (now (out .exit)) (joined kind (foundIn done (now (out .entry))) (foundIn child (now (list .entry)))) ⌝ ∗ ⌜ Roomy (now (spare .exit)) ⌝ }
+{
+    let al = done.len;
+    let bl = child.len;
+    if MOST_PAIRS < al + bl - 1 {
+        return Valued::UNFIT;
+    }
+    let n = join_onto(kind, out, al, list, bl, spare);
+    lists::copy_onto(spare, n, out);
+    check_top(
+        out,
+        n,
+        inner_of(done.named, child.named),
+        done.records + child.records,
+    )
+}
+
+// The children so far and the next one, where it fits.
+fn take_child(
+    kind: Kind,
+    values: &[u64],
+    done: Valued,
+    out: &mut Pairs,
+    child: Valued,
+    list: &mut Pairs,
+    spare: &mut Pairs,
+) -> Valued
+    requires { ⌜ Ready done (now out) ⌝ ∗ ⌜ (child .fits ≡ true → Ready child (now list)) ⌝ ∗ ⌜ Roomy (now list) ⌝ ∗ ⌜ Roomy (now spare) ⌝ }
+    ensures { λ r. ⌜ Shows r (now (out .exit)) (withNext (valuesOf (now (values .entry))) kind (foundIn done (now (out .entry))) (foundIn child (now (list .entry)))) ⌝ }
+    ensures { λ r. ⌜ Roomy (now (list .exit)) ⌝ ∗ ⌜ Roomy (now (spare .exit)) ⌝ }
+{
+    if !child.fits {
+        return Valued::UNFIT;
+    }
+    let turned = go_round(kind, values, child, list, spare);
+    if !turned.fits {
+        return Valued::UNFIT;
+    }
+    join_in(kind, done, out, turned, list, spare)
+}
+
+// A node's record, and its own limit, which may add a pair to the list below.
+fn limit_in(limit: Limit, values: &[u64], below: Valued, list: &mut Pairs) -> Valued
+    requires { ⌜ (below .fits ≡ true → Ready below (now list)) ⌝ ∗ ⌜ Roomy (now list) ⌝ }
+    ensures { λ r. ⌜ Shows r (now (list .exit)) (andThen (foundIn below (now (list .entry))) (limited (valuesOf (now (values .entry))) limit)) ⌝ }
+{
+    if !below.fits {
+        return Valued::UNFIT;
+    }
+    let len = below.len;
+    let records = below.records + 1;
+    let Limit::AtMost(name, number) = limit else {
+        return Valued {
+            len: len,
+            named: below.named,
+            records: records,
+            fits: true,
+        };
+    };
+    let most = amount_of(number, values);
+    if MOST_COUNT < most {
+        return Valued::UNFIT;
+    }
+    if MOST_PAIRS < len + 1 {
+        return Valued::UNFIT;
+    }
+    Valued {
+        len: lists::cap_in(list, len, most),
+        named: inner_of(name, below.named),
+        records: records,
+        fits: true,
+    }
+}
+
+// ---- The walk
+
+// The node at the front of `table` with everything below it, at most `depth` nodes deep.
+pub fn evaluate_node(
+    table: &[u8],
+    values: &[u64],
+    depth: usize,
+    out: &mut Pairs,
+    spare: &mut Pairs,
+) -> Valued
+    requires { ⌜ length (now table) ≤ recordLength * mostRecords ⌝ ∗ ⌜ Roomy (now out) ⌝ ∗ ⌜ Roomy (now spare) ⌝ }
+    ensures { λ r. ⌜ Shows r (now (out .exit)) (evaluateNode (valuesOf (now (values .entry))) depth (now (table .entry))) ⌝ ∗ ⌜ Roomy (now (spare .exit)) ⌝ }
+{
+    if depth == 0 {
+        return Valued::UNFIT;
+    }
+    if table.len() < RECORD_LENGTH {
+        return Valued::UNFIT;
+    }
+    let node = table::read_node(table);
+    let kind = node.kind;
+    let limit = node.limit;
+    if let Kind::Block(time) = kind {
+        let below = repeat_in(amount_of(time, values), WHOLE_RUN, 0, out);
+        return limit_in(limit, values, below, out);
+    }
+    let count = table::child_count(table);
+    let below = evaluate_children(
+        &table[RECORD_LENGTH..],
+        values,
+        depth - 1,
+        kind,
+        count,
+        out,
+        spare,
+    );
+    limit_in(limit, values, below, out)
+}
+
+// The `count` children at the front of `table` of a node of this kind, each at most `depth` nodes deep.
+// A child that does not fit ends the walk: it tells no place for the next, and so no record is read twice.
+fn evaluate_children(
+    table: &[u8],
+    values: &[u64],
+    depth: usize,
+    kind: Kind,
+    count: usize,
+    out: &mut Pairs,
+    spare: &mut Pairs,
+) -> Valued
+    requires { ⌜ length (now table) ≤ recordLength * mostRecords ⌝ ∗ ⌜ Roomy (now out) ⌝ ∗ ⌜ Roomy (now spare) ⌝ }
+    ensures { λ r. ⌜ Shows r (now (out .exit)) (evaluateChildren (valuesOf (now (values .entry))) depth kind count (now (table .entry))) ⌝ ∗ ⌜ Roomy (now (spare .exit)) ⌝ }
+{
+    let mut list = List::zero();
+    let mut done = repeat_in(0, WHOLE_RUN, 0, out);
+    let mut seen_as = kind;
+    let mut left = count;
+    while 0 < left {
+        let at = RECORD_LENGTH * done.records;
+        let child = evaluate_node(&table[at..], values, depth, &mut list.pairs, spare);
+        done = take_child(seen_as, values, done, out, child, &mut list.pairs, spare);
+        if !done.fits {
+            return Valued::UNFIT;
+        }
+        seen_as = rest_of(seen_as);
+        left = left - 1;
+    }
+    done
+}
+
+// The tree of a table.
+pub fn evaluate(table: &[u8], values: &[u64], out: &mut Pairs) -> Valued
+    requires { ⌜ length (now table) ≤ recordLength * mostRecords ⌝ ∗ ⌜ Roomy (now out) ⌝ }
+    ensures { λ r. ⌜ Shows r (now (out .exit)) (evaluateNode (valuesOf (now (values .entry))) mostDepth (now (table .entry))) ⌝ }
+{
+    let mut spare = List::zero();
+    evaluate_node(table, values, MOST_DEPTH, out, &mut spare.pairs)
+}

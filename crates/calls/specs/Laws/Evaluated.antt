@@ -18,7 +18,7 @@ use Rattle.evaluate.specs.Evaluator.{evaluateNode}
 use Rattle.evaluate.specs.Laws.Evaluator.{Evaluated, evaluated-table}
 use Rattle.calls.specs.declared.Quote.{Quote}
 use Rattle.calls.specs.declared.Listed.{Listed}
-use Rattle.calls.specs.Answers.{question9, quoteOf, figureAnswer, listRefusal, listAnswer, listWrites}
+use Rattle.calls.specs.Answers.{question9, quoteOf, figureAnswer, listRefusal, listAnswer, listWrites, over}
 use Rattle.calls.specs.Laws.Values.{counts-ranged}
 
 module _ (b vs : List ℕ) where
@@ -53,6 +53,13 @@ module _ (b vs : List ℕ) where
 pub record Lists (b vs out : List ℕ) (r : Listed) (written : List ℕ) : Type 0 where
   pub answer : r ≡ listAnswer b vs out
   pub writes : written ≡ listWrites b vs out
+
+-- so a call's answer and its buffer, written over and not
+pub written : (b vs out : List ℕ) (r : Listed) (ns x : List ℕ) → Lists b vs out r ns → x ≡ over ns out → (r ≡ listAnswer b vs out) × (x ≡ over (listWrites b vs out) out)
+written b vs out r ns x h e = (h .answer, e ∙ ap (λ w. over w out) (h .writes))
+
+pub untouched : (b vs out : List ℕ) (r : Listed) → Lists b vs out r [] → (r ≡ listAnswer b vs out) × (out ≡ over (listWrites b vs out) out)
+untouched b vs out r h = written b vs out r [] out h (unfold over in refl)
 
 by-refusal : (b vs out : List ℕ) (n : ℕ) → listRefusal b vs out ≡ n → eqb n 0 ≡ false → Lists b vs out (Listed.Refused n) []
 unfolding listAnswer listWrites

@@ -1,14 +1,21 @@
 -- The values of a file, as a program reads them into an array.
 use mathlib.Core.Path.{_≡_, refl, sym, ap, ap₂, _∙_}
+use mathlib.Core.Bool.{Bool, true, false, cond}
 use mathlib.Core.List.{List, [], _∷_, _++_}
-use Prim.Native.Nat.{ℕ, zero, suc, _+_, _*_, _<_}
+use Prim.Native.Nat.{ℕ, zero, suc, _+_, _*_, _%_, _<_}
 use native.Mathlib.Nat.{add-zero, zero-add}
 use native.Mathlib.Omega.{arith}
 use lib.ListN.{length, getD, take, drop, set}
+use lib.Dec.{eqb, eqb→eq}
 use lib.Seq.{drop-drop, take-suc-set, take-suc, take-all}
+use borrow.Author.Tests.{eq-eqb, ne-eqb}
+use Rattle.booleans.specs.Laws.{both, is-T}
 use Rattle.table.specs.Numbers.{howManyValues}
 use Rattle.table.specs.Bytes.{fromBytes}
-use Rattle.calls.specs.Files.{valueLength, absent, valueIn, valuesFrom}
+use Rattle.table.specs.Checking.{refusal}
+use Rattle.calls.specs.declared.Quote.{Quote}
+use Rattle.calls.specs.Answers.{figureAnswer}
+use Rattle.calls.specs.Files.{valueLength, absent, valueIn, valuesFrom, valuesWhole, filesAnswer}
 
 values-length : (n i : ℕ) (b : List ℕ) → length (valuesFrom n i b) ≡ n
 unfolding valuesFrom
@@ -48,3 +55,27 @@ pub value-absent : (i : ℕ) (b : List ℕ) → length b ≡ 0 → absent i ≡ 
 unfolding valueIn
 value-absent i [] l = refl
 value-absent i (x ∷ b) l = absurd (omega arith)
+
+-- ---- what is decided from both files
+
+module _ (t v : List ℕ) where
+  pub files-whole : valuesWhole v ≡ true → figureAnswer t (valuesFrom howManyValues 0 v) ≡ filesAnswer t v
+  unfolding filesAnswer
+  files-whole w = rw w (go (eqb (refusal t) 0) refl)
+    where
+      go : (x : Bool) → eqb (refusal t) 0 ≡ x → figureAnswer t (valuesFrom howManyValues 0 v) ≡ cond x (figureAnswer t (valuesFrom howManyValues 0 v)) (Quote.Refused (refusal t))
+      go true e = refl
+      go false e = unfold figureAnswer in rw e refl
+
+  pub files-refused : valuesWhole v ≡ false → (refusal t ≡ 0 → ⊥) → Quote.Refused (refusal t) ≡ filesAnswer t v
+  unfolding filesAnswer
+  files-refused w n = rw (ne-eqb (refusal t) 0 n) refl
+
+  pub files-other : valuesWhole v ≡ false → refusal t ≡ 0 → Quote.Refused 9 ≡ filesAnswer t v
+  unfolding filesAnswer
+  files-other w e = rw (eq-eqb (refusal t) 0 e, w) refl
+
+-- whole values make a length that is a multiple of a value's
+pub whole-length : (v : List ℕ) → valuesWhole v ≡ true → length v % valueLength ≡ 0
+unfolding valuesWhole
+whole-length v w = eqb→eq (length v % valueLength) 0 (both _ _ (is-T _ w) .0)

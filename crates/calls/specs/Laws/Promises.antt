@@ -1,5 +1,5 @@
 -- The figure call keeps demand 2's promises.
-use mathlib.Core.Path.{_≡_, refl}
+use mathlib.Core.Path.{_≡_, refl, sym, subst}
 use mathlib.Core.Bool.{Bool, true, false, cond}
 use mathlib.Core.List.{List}
 use Prim.Native.Nat.{ℕ}
@@ -31,3 +31,7 @@ figure-promises b vs h = go (eqb (refusal b) 0) refl (question9 vs) (fits (value
     go true e true false = tt
     go true e false z = tt
     go false e y z = tt
+
+-- an answer that is the figure call's keeps them too
+pub kept : (b vs : List ℕ) → AreBytes b → (r : Quote) → r ≡ figureAnswer b vs → (r ≡ figureAnswer b vs) × Promises b vs r
+kept b vs h r e = (e, subst (Promises b vs) (sym e) (figure-promises b vs h))

@@ -6,7 +6,7 @@ use native.Mathlib.Omega.{arith}
 use lib.ListN.{length, getD, take, drop}
 use lib.Seq.{drop-cons, drop-drop}
 use Rattle.lists.specs.declared.List.{List as Listed}
-use Rattle.lists.specs.Pairs.{Pairs, ever, run, width, numbers}
+use Rattle.lists.specs.Pairs.{Pairs, ever, run, top, width, numbers}
 use Rattle.lists.specs.Reading.{mostPairs, valueAt, countAt, runsThen, pairsOf, Proper, Is}
 
 width-runs : (ps : List ℕ) (i n : ℕ) (r : Pairs) → width (runsThen ps i n r) ≡ n + width r
@@ -49,3 +49,13 @@ list-numbers l p e h =
     let z : 0 + n ≡ n = omega arith in
     sym (ap numbers (sym (h .pairs)) ∙ ap (λ k. numbers (runsThen (l .pairs) 0 n (ever (valueAt (l .pairs) k)))) (sym z)
     ∙ numbers-runs (l .pairs) 0 n (omega (arith, h .proper .room, h .proper .some)) (ap (countAt (l .pairs)) z ∙ h .proper .ends) ∙ ap (λ k. take (2 * k) (l .pairs)) m)
+
+top-runs : (ps : List ℕ) (n : ℕ) → top (runsThen ps 0 n (ever (valueAt ps n))) ≡ valueAt ps 0
+unfolding runsThen top
+top-runs ps zero = refl
+top-runs ps (suc n) = refl
+
+-- the first number is the first value
+pub list-top : (l : Listed) (p : Pairs) → Is l p → getD (l .pairs) 0 0 ≡ top p
+unfolding pairsOf valueAt
+list-top l p h = sym (top-runs (l .pairs) (l .len - 1)) ∙ ap top (h .pairs)

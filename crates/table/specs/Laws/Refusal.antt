@@ -1,15 +1,20 @@
 -- The refusal's number, by the answers to the questions in their order.
-use mathlib.Core.Path.{_≡_, refl}
+use mathlib.Core.Path.{_≡_, refl, ap}
 use mathlib.Core.Bool.{Bool, true, false, cond}
 use mathlib.Core.List.{List, [], _∷_}
 use Prim.Native.Nat.{ℕ, _*_, _≤_}
+use native.Mathlib.Omega.{arith}
 use lib.Dec.{leb, leb→le}
 use lib.ListN.{length}
 use Rattle.booleans.specs.Laws.{both, is-T}
 use Rattle.table.specs.declared.Survey.{Survey}
 use Rattle.table.specs.Numbers.{recordLength, mostRecords, mostWeight}
+use Rattle.table.specs.Bytes.{AreBytes}
+use Rattle.table.specs.Table.{decode}
 use Rattle.table.specs.Checking.{question1, question2, question3, question4, question5, question6, question7, firstNo, refusal}
 use Rattle.table.specs.Survey.{surveyRefusal}
+use Rattle.table.specs.Laws.RoundTrip.{length-encode}
+use Rattle.table.specs.Laws.Accepted.{is-table}
 use Rattle.table.specs.Laws.Survey.{Answers}
 
 module _ (b : List ℕ) where
@@ -47,3 +52,7 @@ module _ (b : List ℕ) where
             go true true false e f g = rw (one, two, three, four, e, f refl, g refl) refl
             go true false z e f g = rw (one, two, three, four, e, f refl) refl
             go false y z e f g = rw (one, two, three, four, e) refl
+
+-- a table that is not refused is short
+pub accepted-short : (b : List ℕ) → AreBytes b → refusal b ≡ 0 → length b ≤ recordLength * mostRecords
+accepted-short b h e = let t = is-table b h e in omega (arith, ap length (t .back), length-encode (decode b), t .accepted .short)
