@@ -18,6 +18,27 @@ typedef struct {
 /* Puts questions 1 to 7 to a tree table of any length. Reads table[0] to table[table_len - 1] and writes nothing. */
 vf_checked vf_check(const uint8_t *table, size_t table_len);
 
+/* What the figure call answers. */
+typedef struct {
+    uint64_t refused; /* 0 if there is a figure, else the number of the first question that says no */
+    uint64_t figure;  /* the most cycles that one opening can take, 0 if it is refused */
+} vf_figure_answer;
+
+/* Puts questions 1 to 7, 9 and 10 and quotes a table's tree under 32 values. Writes nothing. */
+vf_figure_answer vf_figure(const uint8_t *table, size_t table_len, const uint64_t *values, size_t values_len);
+
+/* What the list call answers. */
+typedef struct {
+    uint64_t refused; /* 0 if the list was written, else the number of the first question that says no */
+    uint64_t pairs;   /* how many pairs were written, 0 if it is refused */
+} vf_list_answer;
+
+/* Puts questions 1 to 10 and writes the list of a table's tree over the front of out, which holds at least 512 numbers: pairs of
+   value and count, values strictly falling, the last count 0 meaning for ever. Nothing of out past them changes, and nothing at
+   all on a refusal. */
+vf_list_answer vf_list(const uint8_t *table, size_t table_len, const uint64_t *values, size_t values_len, uint64_t *out,
+                       size_t out_len);
+
 #ifdef __cplusplus
 }
 #endif

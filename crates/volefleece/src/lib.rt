@@ -1,7 +1,11 @@
 // The C interface: thin wrappers of the outside calls, whose answers become structs of numbers. include/volefleece.h declares them.
 use calls::Checked;
+use calls::Listed;
+use calls::Quote;
 ghost use mathlib.Core.Path.{_≡_};
 ghost use Rattle.calls.specs.Answers.{checkAnswer, checkedRefusal, checkedRecords};
+ghost use Rattle.calls.specs.Answers.{figureAnswer, quotedRefusal, quotedFigure};
+ghost use Rattle.calls.specs.Answers.{listAnswer, listedRefusal, listedPairs, listWrites, over};
 
 #[repr(C)]
 pub struct VfChecked {
@@ -22,6 +26,53 @@ pub extern "C" fn vf_check(table: &[u8]) -> VfChecked
         Checked::Refused(number) => VfChecked {
             refused: number,
             records: 0,
+        },
+    }
+}
+
+#[repr(C)]
+pub struct VfFigureAnswer {
+    pub refused: u64,
+    pub figure: u64,
+}
+
+#[no_mangle]
+pub extern "C" fn vf_figure(table: &[u8], values: &[u64]) -> VfFigureAnswer
+    ensures { λ r. ⌜ (r .refused ≡ quotedRefusal (figureAnswer (now (table .entry)) (now (values .entry)))) × (r .figure ≡ quotedFigure (figureAnswer (now (table .entry)) (now (values .entry)))) ⌝ }
+{
+    let answer = calls::figure(table, values);
+    match answer {
+        Quote::Figure(figure) => VfFigureAnswer {
+            refused: 0,
+            figure: figure,
+        },
+        Quote::Refused(number) => VfFigureAnswer {
+            refused: number,
+            figure: 0,
+        },
+    }
+}
+
+#[repr(C)]
+pub struct VfListAnswer {
+    pub refused: u64,
+    pub pairs: u64,
+}
+
+#[no_mangle]
+pub extern "C" fn vf_list(table: &[u8], values: &[u64], out: &mut [u64]) -> VfListAnswer
+    ensures answer { λ r. ⌜ (r .refused ≡ listedRefusal (listAnswer (now (table .entry)) (now (values .entry)) (now (out .entry)))) × (r .pairs ≡ listedPairs (listAnswer (now (table .entry)) (now (values .entry)) (now (out .entry)))) ⌝ }
+    ensures written { λ r. ⌜ now (out .exit) ≡ over (listWrites (now (table .entry)) (now (values .entry)) (now (out .entry))) (now (out .entry)) ⌝ }
+{
+    let answer = calls::list(table, values, out);
+    match answer {
+        Listed::Pairs(pairs) => VfListAnswer {
+            refused: 0,
+            pairs: pairs as u64,
+        },
+        Listed::Refused(number) => VfListAnswer {
+            refused: number,
+            pairs: 0,
         },
     }
 }
