@@ -1,0 +1,51 @@
+// Runs document 01's cases that are not starred, L, M and N, and prints what the library answers. data/ holds their tables; an absent one is empty.
+use calls::Checked;
+use calls::HOW_MANY_VALUES;
+use calls::Quote;
+use libc::STDOUT_FILENO;
+use table::MOST_RECORDS;
+use table::RECORD_LENGTH;
+
+// One record more than a table may have.
+const ROOM: usize = RECORD_LENGTH * (MOST_RECORDS + 1);
+
+fn say(name: &[u8], word: &[u8], number: u64) {
+    io::write_all(STDOUT_FILENO, name);
+    io::write_all(STDOUT_FILENO, word);
+    io::print_decimal(STDOUT_FILENO, number);
+    io::write_all(STDOUT_FILENO, b"\n");
+}
+
+// The figure of a case's table, with every symbol 0.
+fn quote(path: &[u8]) {
+    let mut table = [0u8; ROOM];
+    let file = files::load(path, &mut table);
+    let len = file.len;
+    let answer = calls::figure(&table[..len], &[0; HOW_MANY_VALUES]);
+    match answer {
+        Quote::Figure(figure) => say(path, b" figure ", figure),
+        Quote::Refused(number) => say(path, b" refused ", number),
+    }
+}
+
+fn check(path: &[u8]) {
+    let mut table = [0u8; ROOM];
+    let file = files::load(path, &mut table);
+    let len = file.len;
+    let answer = calls::check(&table[..len]);
+    match answer {
+        Checked::Accepted(records) => say(path, b" accepted ", records as u64),
+        Checked::Refused(number) => say(path, b" refused ", number),
+    }
+}
+
+fn main() {
+    quote(b"L-ceiling");
+    quote(b"L-exit");
+    quote(b"L-block");
+    check(b"M-seven-loops");
+    check(b"M-eight-loops");
+    check(b"M-nine-loops");
+    check(b"N-empty");
+    check(b"N-long");
+}

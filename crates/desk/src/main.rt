@@ -1,0 +1,34 @@
+// The desk program: quotes tree.tab with values.tab, both in the folder that it runs in, on one line.
+use calls::HOW_MANY_VALUES;
+use calls::Quote;
+use calls::VALUE_LENGTH;
+use libc::STDOUT_FILENO;
+use table::MOST_RECORDS;
+use table::RECORD_LENGTH;
+
+fn say(word: &[u8], number: u64) {
+    io::write_all(STDOUT_FILENO, word);
+    io::print_decimal(STDOUT_FILENO, number);
+    io::write_all(STDOUT_FILENO, b"\n");
+}
+
+fn main() {
+    // Each buffer is longer than the longest file that is accepted, so that a longer file shows.
+    let mut tree = [0u8; RECORD_LENGTH * (MOST_RECORDS + 1)];
+    let mut values = [0u8; VALUE_LENGTH * (HOW_MANY_VALUES + 1)];
+    let t = files::load(b"tree.tab", &mut tree);
+    if !t.readable {
+        return;
+    }
+    let v = files::load(b"values.tab", &mut values);
+    if !v.readable {
+        return;
+    }
+    let tree_len = t.len;
+    let values_len = v.len;
+    let quote = calls::quote_files(&tree[..tree_len], &values[..values_len]);
+    match quote {
+        Quote::Figure(figure) => say(b"figure ", figure),
+        Quote::Refused(number) => say(b"refused ", number),
+    }
+}
