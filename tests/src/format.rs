@@ -29,3 +29,8 @@ pub const TIME_SYMBOLS: RangeInclusive<u64> = 16..=31;
 pub const MOST_DEPTH: usize = 32;
 pub const MOST_LOOPS: usize = 8;
 pub const MOST_WEIGHT: u64 = 255;
+
+/// How many values a quoting call wants.
+pub const VALUES: usize = 32;
+/// The numbers of 64 bits that a list's buffer must have room for.
+pub const LIST_ROOM: usize = 512;

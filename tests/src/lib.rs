@@ -4,16 +4,28 @@
 //! - `format`: the numbers of the table's format, each behind one name.
 //! - `trees`: a plain tree, its encoder and its random generators.
 //! - `reader`: the second reader, questions 1 to 7.
+//! - `evaluator`: the second evaluator, questions 8 to 10.
+//! - `members`, `runs`: lists member by member, and the dearest run, both for small trees.
 //! - `ffi`: the library's functions, declared and wrapped.
-//! - `damage`, `noise`: tables that are wrong in some way.
+//! - `tables`, `cases`: hand-written tables, and document 01's cases.
+//! - `damage`, `faults`, `noise`: tables that are wrong in some way.
 //! - `compare`: one table, both readers.
+//! - `quotes`: one table with values, both evaluators.
 //! - `rng`: a small deterministic generator of random numbers.
 
+pub mod cases;
 pub mod compare;
 pub mod damage;
+pub mod evaluator;
+pub mod faults;
 pub mod ffi;
 pub mod format;
+pub mod members;
 pub mod noise;
+#[cfg(feature = "figure")]
+pub mod quotes;
 pub mod reader;
 pub mod rng;
+pub mod runs;
+pub mod tables;
 pub mod trees;

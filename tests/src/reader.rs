@@ -1,5 +1,5 @@
 //! The second reader: document 01's questions 1 to 7 in its words and order, each put to the whole
-//! input before the next. It aims at being plainly right, not fast.
+//! input before the next.
 
 use crate::format::*;
 use crate::trees::{Amount, Kind, Limit, Tree};
@@ -153,7 +153,7 @@ fn exactly_one_tree(records: &[Record]) -> Option<Tree> {
 /// The tree whose top is the first record, and the records after it.
 fn tree_at_front(records: &[Record]) -> Option<(Tree, &[Record])> {
     let (top, mut rest) = records.split_first()?;
-    let mut children = Vec::new();
+    let mut children = Vec::with_capacity(top.children);
     for _ in 0..top.children {
         let (child, after) = tree_at_front(rest)?;
         children.push(child);
@@ -181,26 +181,26 @@ struct Node<'t> {
     tree: &'t Tree,
     /// The root's is 1.
     depth: usize,
-    /// The loops around the node, counted outward.
-    around: Vec<&'t Tree>,
+    /// How many loops are around the node.
+    around: usize,
 }
 
 fn nodes(root: &Tree) -> Vec<Node<'_>> {
     let mut nodes = Vec::new();
-    collect(root, 1, &[], &mut nodes);
+    collect(root, 1, 0, &mut nodes);
     nodes
 }
 
-fn collect<'t>(tree: &'t Tree, depth: usize, around: &[&'t Tree], nodes: &mut Vec<Node<'t>>) {
+fn collect<'t>(tree: &'t Tree, depth: usize, around: usize, nodes: &mut Vec<Node<'t>>) {
     nodes.push(Node {
         tree,
         depth,
-        around: around.to_vec(),
+        around,
     });
     match (&tree.kind, &tree.children[..]) {
         // A loop is around a node if its body holds the node; its exit is outside it.
         (Kind::Loop(_), [body, exit]) => {
-            collect(body, depth + 1, &[&[tree], around].concat(), nodes);
+            collect(body, depth + 1, around + 1, nodes);
             collect(exit, depth + 1, around, nodes);
         }
         (_, children) => {
@@ -213,7 +213,7 @@ fn collect<'t>(tree: &'t Tree, depth: usize, around: &[&'t Tree], nodes: &mut Ve
 
 /// Question 5: is it at most 32 nodes deep, the root being 1, with at most 8 loops around any node?
 fn is_within_depth_and_loops(node: &Node) -> bool {
-    node.depth <= MOST_DEPTH && node.around.len() <= MOST_LOOPS
+    node.depth <= MOST_DEPTH && node.around <= MOST_LOOPS
 }
 
 /// Question 6: does each byte 3 of 1 to 8 name a loop around its node?
@@ -221,7 +221,7 @@ fn names_a_loop_around(node: &Node) -> bool {
     match node.tree.limit {
         None => true,
         Some(limit) if limit.names == WHOLE_RUN => true,
-        Some(limit) => node.around.get(usize::from(limit.names) - 1).is_some(),
+        Some(limit) => usize::from(limit.names) <= node.around,
     }
 }
 
@@ -230,8 +230,8 @@ fn names_a_loop_around(node: &Node) -> bool {
 fn weight(node: &Node) -> u64 {
     let inside = match node.tree.limit {
         None => return 0,
-        Some(limit) if limit.names == WHOLE_RUN => &node.around[..],
-        Some(limit) => &node.around[..usize::from(limit.names) - 1],
+        Some(limit) if limit.names == WHOLE_RUN => node.around,
+        Some(limit) => usize::from(limit.names) - 1,
     };
-    (0..inside.len()).fold(1, |power, _| power * 2)
+    1 << inside
 }

@@ -1,9 +1,11 @@
 //! A plain tree and its encoder. The type shuts out little: numbers may be out of range, and limits
 //! may name anything.
 
+mod amounts;
 mod random;
 
 use crate::format::*;
+pub use amounts::Amounts;
 pub use random::{grow, loops_around, pad, put_limits, spine, within_limits, without_limits};
 
 #[derive(Clone, Copy, Debug, PartialEq, Eq)]
@@ -51,6 +53,28 @@ impl Tree {
 
     pub fn records(&self) -> usize {
         1 + self.children.iter().map(Tree::records).sum::<usize>()
+    }
+
+    /// The same tree without its limits.
+    pub fn unlimited(&self) -> Tree {
+        let children = self.children.iter().map(Tree::unlimited);
+        Tree::new(self.kind, children.collect())
+    }
+
+    /// The node at a record, counted from 0.
+    pub fn node_mut(&mut self, record: usize) -> &mut Tree {
+        if record == 0 {
+            return self;
+        }
+        let mut before = 1;
+        for child in &mut self.children {
+            let records = child.records();
+            if record < before + records {
+                return child.node_mut(record - before);
+            }
+            before += records;
+        }
+        panic!("the tree has no record {record} more");
     }
 
     pub fn encode(&self) -> Vec<u8> {

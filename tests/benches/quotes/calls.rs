@@ -1,0 +1,96 @@
+//! The calls against plain Rust.
+
+use crate::quote::{quotes, Quote, LIMITS, SIZES};
+use crate::timing::{median, medians, Call};
+use std::hint::black_box;
+use volefleece_tests::evaluator;
+use volefleece_tests::ffi;
+use volefleece_tests::format::LIST_ROOM;
+use volefleece_tests::reader;
+
+const TABLES: usize = 16;
+const REPETITIONS: usize = 301;
+
+const HEADING: &str = "
+                      |        check        |        figure       |         list        |      evaluation
+records limits  pairs |    lib   Rust ratio |    lib   Rust ratio |    lib   Rust ratio |    lib   Rust ratio";
+
+pub fn measure() {
+    println!(
+        "Microseconds a call, medians of {REPETITIONS} repetitions over {TABLES} tables, and the"
+    );
+    println!(
+        "library's time by plain Rust's. Both start from bytes. The list's buffer is used again"
+    );
+    println!(
+        "and not cleared; plain Rust makes a new list. Evaluation leaves checking out: it is the"
+    );
+    println!("figure call less the check, by the second evaluator on a tree that is read already.");
+    println!("{HEADING}");
+    for records in SIZES {
+        for limits in LIMITS {
+            let quotes = quotes(TABLES, records, limits);
+            assert_agreed(&quotes);
+            print!(
+                "{records:7} {:6} {:6} ",
+                limits.name(),
+                median_pairs(&quotes)
+            );
+            print_times(&times(&quotes));
+        }
+    }
+}
+
+fn assert_agreed(quotes: &[Quote]) {
+    for quote in quotes {
+        let answer = ffi::figure(&quote.table, &quote.values);
+        assert_eq!((answer.refused, answer.figure), (0, quote.figure));
+        let answer = ffi::list(&quote.table, &quote.values, &mut [0; LIST_ROOM]);
+        assert_eq!((answer.refused, answer.pairs), (0, quote.pairs as u64));
+    }
+}
+
+fn median_pairs(quotes: &[Quote]) -> usize {
+    median(quotes.iter().map(|quote| quote.pairs).collect())
+}
+
+/// The library's and plain Rust's check, figure and list, and the second evaluator alone.
+fn times(quotes: &[Quote]) -> Vec<f64> {
+    let mut out = [0; LIST_ROOM];
+    let calls = vec![
+        each(quotes, |q| ffi::check(&q.table)),
+        each(quotes, |q| reader::check(&q.table)),
+        each(quotes, |q| ffi::figure(&q.table, &q.values)),
+        each(quotes, |q| evaluator::figure(&q.table, &q.values)),
+        each(quotes, |q| ffi::list(&q.table, &q.values, &mut out)),
+        each(quotes, |q| evaluator::list(&q.table, &q.values, LIST_ROOM)),
+        each(quotes, |q| evaluator::evaluate(&q.tree, &q.values)),
+    ];
+    let medians = medians(REPETITIONS, calls);
+    let microseconds = medians.iter().map(|time| time.as_secs_f64() * 1e6);
+    microseconds.map(|all| all / quotes.len() as f64).collect()
+}
+
+fn each<'q, A>(quotes: &'q [Quote], mut call: impl FnMut(&Quote) -> A + 'q) -> Call<'q> {
+    Box::new(move || {
+        for quote in quotes {
+            black_box(call(black_box(quote)));
+        }
+    })
+}
+
+fn print_times(times: &[f64]) {
+    let &[check, read, figure, quoted, list, listed, evaluated] = times else {
+        panic!("one time for each call");
+    };
+    let columns = [
+        (check, read),
+        (figure, quoted),
+        (list, listed),
+        (figure - check, evaluated),
+    ];
+    for (library, rust) in columns {
+        print!("| {library:6.2} {rust:6.2} {:5.2} ", library / rust);
+    }
+    println!();
+}

@@ -1,0 +1,22 @@
+//! Measures the library against plain Rust, on the same tables in one run: checking against the
+//! second reader, the figure and list calls against reader and evaluator. Both sides start from bytes
+//! and are built for release, Rust without overflow checks. Then come the stack that the calls want
+//! and, where they are there, the desk program and `lp_solve` as processes.
+
+mod calls;
+mod processes;
+mod program;
+mod quote;
+mod stack;
+mod timing;
+
+fn main() {
+    if stack::is_probe() {
+        return stack::probe();
+    }
+    calls::measure();
+    println!();
+    stack::measure();
+    println!();
+    processes::measure();
+}

@@ -1,0 +1,126 @@
+//! What is measured: random tables that every call accepts.
+
+use volefleece_tests::evaluator;
+use volefleece_tests::format::{MOST_CHILDREN, MOST_DEPTH, MOST_WEIGHT, WHOLE_RUN};
+use volefleece_tests::rng::Rng;
+use volefleece_tests::trees::{self, Amount, Amounts, Kind, Limit, Tree};
+
+pub const SIZES: [usize; 4] = [64, 128, 256, 512];
+
+/// What limits a tree has.
+#[derive(Clone, Copy, PartialEq, Eq)]
+pub enum Limits {
+    None,
+    /// On a few nodes.
+    Few,
+    /// On as many nodes as question 7 lets through.
+    Many,
+    /// In the run, on as many blocks as question 7 lets through, without loops: long lists.
+    Long,
+    /// The same with the blocks side by side, so that every child is joined to a long list.
+    Flat,
+}
+
+pub const LIMITS: [Limits; 5] = [
+    Limits::None,
+    Limits::Few,
+    Limits::Many,
+    Limits::Long,
+    Limits::Flat,
+];
+
+impl Limits {
+    pub fn name(self) -> &'static str {
+        match self {
+            Limits::None => "none",
+            Limits::Few => "few",
+            Limits::Many => "many",
+            Limits::Long => "long",
+            Limits::Flat => "flat",
+        }
+    }
+
+    fn random_tree(self, rng: &mut Rng, records: usize) -> Tree {
+        match self {
+            Limits::None => trees::without_limits(rng, records),
+            Limits::Few => limited_tree(rng, records, 8),
+            Limits::Many => limited_tree(rng, records, MOST_WEIGHT),
+            Limits::Long => with_limited_blocks(trees::grow(rng, records, MOST_DEPTH, 0)),
+            Limits::Flat => with_limited_blocks(flat_tree(rng, records)),
+        }
+    }
+}
+
+fn limited_tree(rng: &mut Rng, records: usize, weight: u64) -> Tree {
+    let mut tree = trees::without_limits(rng, records);
+    trees::put_limits(rng, &mut tree, weight);
+    tree
+}
+
+/// A sequence or choice of blocks, and where they are too many, of another one.
+fn flat_tree(rng: &mut Rng, records: usize) -> Tree {
+    let mut children = vec![Tree::block(0); (records - 1).min(MOST_CHILDREN)];
+    if records - 1 > MOST_CHILDREN {
+        children[0] = flat_tree(rng, records - MOST_CHILDREN);
+    }
+    Tree::new(rng.pick(&[Kind::Sequence, Kind::Choice]), children)
+}
+
+fn with_limited_blocks(mut tree: Tree) -> Tree {
+    let mut left = MOST_WEIGHT;
+    limit_blocks(&mut tree, &mut left);
+    tree
+}
+
+/// Limits the first blocks, so many of them, in the run.
+fn limit_blocks(tree: &mut Tree, left: &mut u64) {
+    if tree.children.is_empty() && *left > 0 {
+        tree.limit = Some(Limit {
+            names: WHOLE_RUN,
+            amount: Amount::Plain(0),
+        });
+        *left -= 1;
+    }
+    for child in &mut tree.children {
+        limit_blocks(child, left);
+    }
+}
+
+pub struct Quote {
+    pub tree: Tree,
+    pub table: Vec<u8>,
+    pub values: Vec<u64>,
+    pub figure: u64,
+    pub pairs: usize,
+}
+
+/// Small enough for `lp_solve`, which reckons in floating point.
+const AMOUNTS: Amounts = Amounts {
+    time: 1_000,
+    bound: 10,
+    limit: 1_000,
+    symbols: 8,
+};
+
+/// So many quotes on tables of so many records, the same in every run.
+pub fn quotes(count: usize, records: usize, limits: Limits) -> Vec<Quote> {
+    let mut rng = Rng::new(records as u64);
+    let accepted = std::iter::from_fn(|| Some(random(&mut rng, records, limits))).flatten();
+    accepted.take(count).collect()
+}
+
+/// A random quote, unless its figure is 0 or too large.
+fn random(rng: &mut Rng, records: usize, limits: Limits) -> Option<Quote> {
+    let mut tree = limits.random_tree(rng, records);
+    AMOUNTS.set(rng, &mut tree);
+    let values = AMOUNTS.values(rng);
+    let pairs = evaluator::evaluate(&tree, &values).ok()?.list.into_pairs();
+    let figure = pairs[0].0;
+    (1..1_000_000_000).contains(&figure).then(|| Quote {
+        table: tree.encode(),
+        tree,
+        values,
+        figure,
+        pairs: pairs.len(),
+    })
+}

@@ -1,0 +1,64 @@
+//! Times, bounds and limits for random trees, and values for their symbols, up to given sizes.
+
+use super::{Amount, Kind, Tree};
+use crate::format::*;
+use crate::rng::Rng;
+use std::ops::RangeInclusive;
+
+/// The largest plain numbers of a tree, and how common its symbols are.
+#[derive(Clone, Copy, Debug)]
+pub struct Amounts {
+    pub time: u64,
+    pub bound: u64,
+    pub limit: u64,
+    /// One amount in so many is a symbol; none is if this is 0.
+    pub symbols: u64,
+}
+
+impl Amounts {
+    /// Gives every node of a tree another time, bound and limit. Which loops the limits name stays.
+    pub fn set(&self, rng: &mut Rng, tree: &mut Tree) {
+        match &mut tree.kind {
+            Kind::Block(time) => *time = self.amount(rng, self.time, TIME_SYMBOLS),
+            Kind::Loop(bound) => *bound = self.amount(rng, self.bound, COUNT_SYMBOLS),
+            Kind::Sequence | Kind::Choice => {}
+        }
+        if let Some(limit) = &mut tree.limit {
+            limit.amount = self.amount(rng, self.limit, COUNT_SYMBOLS);
+        }
+        for child in &mut tree.children {
+            self.set(rng, child);
+        }
+    }
+
+    fn amount(&self, rng: &mut Rng, most: u64, symbols: RangeInclusive<u64>) -> Amount {
+        if self.symbols > 0 && rng.once_in(self.symbols) {
+            Amount::Symbol(rng.within(symbols))
+        } else {
+            Amount::Plain(plain(rng, most))
+        }
+    }
+
+    /// Values of the same sizes.
+    pub fn values(&self, rng: &mut Rng) -> Vec<u64> {
+        (0..VALUES as u64)
+            .map(|symbol| {
+                if TIME_SYMBOLS.contains(&symbol) {
+                    plain(rng, self.time)
+                } else {
+                    let most = rng.pick(&[self.bound, self.limit]);
+                    plain(rng, most)
+                }
+            })
+            .collect()
+    }
+}
+
+/// Any number up to that one, and often an end.
+fn plain(rng: &mut Rng, most: u64) -> u64 {
+    match rng.index(10) {
+        0 => 0,
+        1 => most,
+        _ => rng.within(0..=most),
+    }
+}

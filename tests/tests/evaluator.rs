@@ -1,0 +1,205 @@
+//! The second evaluator itself: document 01's cases, lists written out member by member, and the runs
+//! that a figure covers. The library is not called.
+
+use volefleece_tests::cases::{self, cases};
+use volefleece_tests::evaluator::{self, evaluate_at, List};
+use volefleece_tests::members;
+use volefleece_tests::rng::Rng;
+use volefleece_tests::runs;
+use volefleece_tests::trees::{self, Amount, Amounts, Kind, Limit, Tree};
+
+#[test]
+fn cases_have_the_lists_of_document_01() {
+    for case in cases() {
+        let list = evaluator::list(&case.table, &cases::VALUES, 512);
+        assert_eq!(list, case.answer, "case {}", case.name);
+        let figure = evaluator::figure(&case.table, &cases::VALUES);
+        let first = case.answer.map(|pairs| pairs[0].0);
+        assert_eq!(figure, first, "case {}", case.name);
+    }
+}
+
+// Lists member by member.
+
+const TINY: Amounts = Amounts {
+    time: 12,
+    bound: 3,
+    limit: 5,
+    symbols: 5,
+};
+
+#[test]
+fn every_node_has_its_members_and_its_named_loop() {
+    let mut rng = Rng::new(101);
+    // How often a loop of each level, or the whole run, was named.
+    let mut named = [0; 4];
+    for _ in 0..20_000 {
+        let mut tree = tiny_tree(&mut rng, 40);
+        TINY.set(&mut rng, &mut tree);
+        let values = TINY.values(&mut rng);
+        let around = trees::loops_around(&tree);
+        for (record, &around) in around.iter().enumerate() {
+            let node = tree.node_mut(record);
+            let level = compare_members(node, around, &values).expect("small numbers");
+            named[level] += 1;
+        }
+    }
+    assert!(named.iter().all(|&times| times > 1_000), "{named:?}");
+}
+
+/// A tree of few records with at most 3 loops around a node, and limits up to that weight.
+fn tiny_tree(rng: &mut Rng, weight: u64) -> Tree {
+    let mut tree = if rng.once_in(4) {
+        let records = rng.size(1..=12);
+        trees::grow(rng, records, 8, 3)
+    } else {
+        let loops = rng.size(1..=3);
+        let lists = rng.size(1..=3);
+        let mut tree = trees::spine(rng, 1 + loops + lists, loops);
+        let records = tree.records() + rng.size(0..=4);
+        trees::pad(rng, &mut tree, records);
+        tree
+    };
+    let wanted = rng.within(0..=weight);
+    trees::put_limits(rng, &mut tree, wanted);
+    tree
+}
+
+/// The level of the loop that the node names, or its refusal, both the same for either evaluator.
+fn compare_members(node: &Tree, around: usize, values: &[u64]) -> Result<usize, u64> {
+    const MEMBERS: usize = 20;
+    let second = evaluate_at(node, around, values);
+    let third = members::front(node, MEMBERS, values);
+    assert_eq!(second.is_ok(), third.is_ok(), "{node:?}");
+    let (second, third) = (second?, third?);
+    let level = match third.names {
+        255 => 0,
+        names => around + 1 - usize::from(names),
+    };
+    assert_eq!(second.level, level, "{node:?}");
+    assert_eq!(
+        first_members(second.list, MEMBERS),
+        third.members,
+        "{node:?}"
+    );
+    Ok(level)
+}
+
+fn first_members(list: List, members: usize) -> Vec<u64> {
+    let runs = list.into_pairs().into_iter().map(|(value, count)| {
+        let count = if count == 0 { members } else { count as usize };
+        vec![value; count.min(members)]
+    });
+    runs.flatten().take(members).collect()
+}
+
+#[test]
+fn question_10_is_put_to_every_node() {
+    const LARGE: Amounts = Amounts {
+        time: 300_000_000_000,
+        ..TINY
+    };
+    let mut rng = Rng::new(102);
+    let (mut answered, mut refused) = (0, 0);
+    for _ in 0..40_000 {
+        let mut tree = tiny_tree(&mut rng, 20);
+        LARGE.set(&mut rng, &mut tree);
+        let values = LARGE.values(&mut rng);
+        match compare_members(&tree, 0, &values) {
+            Ok(_) => answered += 1,
+            Err(question) => {
+                assert_eq!(question, 10);
+                refused += 1;
+            }
+        }
+    }
+    assert!(answered > 5_000 && refused > 5_000, "{answered}, {refused}");
+}
+
+// Runs.
+
+const FEW: Amounts = Amounts {
+    time: 9,
+    bound: 3,
+    limit: 3,
+    symbols: 6,
+};
+
+fn figure(tree: &Tree, values: &[u64]) -> u64 {
+    let root = evaluator::evaluate(tree, values).expect("small numbers");
+    root.list.first()
+}
+
+#[test]
+fn no_admitted_run_costs_more_than_the_figure() {
+    let mut rng = Rng::new(103);
+    let (mut none, mut below, mut equal) = (0, 0, 0);
+    for _ in 0..30_000 {
+        let mut tree = tiny_tree(&mut rng, 6);
+        FEW.set(&mut rng, &mut tree);
+        let values = FEW.values(&mut rng);
+        let figure = figure(&tree, &values);
+        match runs::dearest(&tree, &values) {
+            None => none += 1,
+            Some(cost) if cost < figure => below += 1,
+            Some(cost) => {
+                assert_eq!(cost, figure, "{tree:?}, {values:?}");
+                equal += 1;
+            }
+        }
+    }
+    let reached = [none, below, equal];
+    assert!(reached.iter().all(|&times| times > 1_000), "{reached:?}");
+}
+
+#[test]
+fn without_limits_some_run_costs_the_figure() {
+    let mut rng = Rng::new(104);
+    for _ in 0..30_000 {
+        let mut tree = tiny_tree(&mut rng, 0);
+        FEW.set(&mut rng, &mut tree);
+        let values = FEW.values(&mut rng);
+        let dearest = runs::dearest(&tree, &values);
+        assert_eq!(
+            dearest,
+            Some(figure(&tree, &values)),
+            "{tree:?}, {values:?}"
+        );
+    }
+}
+
+#[test]
+fn limits_on_innermost_loops_beside_unlimited_children_are_exact() {
+    let mut rng = Rng::new(105);
+    let mut lowered = 0;
+    for _ in 0..60_000 {
+        let mut tree = tiny_tree(&mut rng, 0);
+        FEW.set(&mut rng, &mut tree);
+        let values = FEW.values(&mut rng);
+        let unlimited = figure(&tree, &values);
+        put_innermost_limits(&mut rng, &mut tree, 0);
+        let limited = figure(&tree, &values);
+        let dearest = runs::dearest(&tree, &values);
+        assert_eq!(dearest, Some(limited), "{tree:?}, {values:?}");
+        lowered += u64::from(limited < unlimited);
+    }
+    assert!(lowered > 1_000, "{lowered}");
+}
+
+/// Limits some children of choices inside loops, each in its innermost loop, and leaves one child of
+/// each choice without.
+fn put_innermost_limits(rng: &mut Rng, tree: &mut Tree, around: usize) {
+    let is_choice = tree.kind == Kind::Choice;
+    let is_loop = matches!(tree.kind, Kind::Loop(_));
+    let unlimited = rng.index(tree.children.len().max(1));
+    for (place, child) in tree.children.iter_mut().enumerate() {
+        if is_choice && around > 0 && place != unlimited && rng.once_in(2) {
+            child.limit = Some(Limit {
+                names: 1,
+                amount: Amount::Plain(rng.within(0..=2)),
+            });
+        }
+        let is_body = is_loop && place == 0;
+        put_innermost_limits(rng, child, around + usize::from(is_body));
+    }
+}

@@ -1,0 +1,464 @@
+//! `vf_figure` and `vf_list` on random trees, values and buffers, against the second evaluator and,
+//! where an answer is known by construction, against that. Each test asserts that it has reached what
+//! it is for, so that none passes idly. The seeds are fixed: every run makes the same tables.
+
+#![cfg(feature = "figure")]
+
+use volefleece_tests::evaluator::{evaluate, evaluate_at};
+use volefleece_tests::faults;
+use volefleece_tests::noise;
+use volefleece_tests::quotes::Quotes;
+use volefleece_tests::reader;
+use volefleece_tests::rng::Rng;
+use volefleece_tests::trees::{self, Amount, Amounts, Kind, Limit, Tree};
+
+const CEILING: u64 = 1_000_000_000_000;
+
+/// Figures far below the ceiling, with runs and groups of a few members.
+const SMALL: Amounts = Amounts {
+    time: 20,
+    bound: 4,
+    limit: 7,
+    symbols: 4,
+};
+
+/// Figures on both sides of the ceiling.
+const MIDDLING: Amounts = Amounts {
+    time: 10_000_000,
+    bound: 200,
+    limit: 1_000,
+    symbols: 5,
+};
+
+/// Many different times and long runs.
+const LONG_RUNS: Amounts = Amounts {
+    time: 1_000_000,
+    bound: 9,
+    limit: 100_000,
+    symbols: 0,
+};
+
+/// Everything up to its ceiling.
+const LARGE: Amounts = Amounts {
+    time: 1_000_000_000_000,
+    bound: 1_000_000,
+    limit: 1_000_000,
+    symbols: 3,
+};
+
+fn start(seed: u64) -> (Rng, Quotes) {
+    (Rng::new(seed), Quotes::new(seed))
+}
+
+/// Mostly small, at times of a few hundred records.
+fn records(rng: &mut Rng) -> usize {
+    let most = rng.pick(&[6, 15, 15, 15, 40, 40, 40, 80, 80, 200]);
+    rng.size(1..=most)
+}
+
+/// A tree with limits of any weight, of such amounts.
+fn good_tree(rng: &mut Rng, amounts: Amounts) -> Tree {
+    let records = records(rng);
+    let mut tree = trees::within_limits(rng, records);
+    if rng.once_in(2) {
+        keep_low_limits(&mut tree);
+    }
+    amounts.set(rng, &mut tree);
+    tree
+}
+
+/// Leaves limits on small subtrees alone, as those on large ones cut the lists short.
+fn keep_low_limits(tree: &mut Tree) {
+    if tree.records() > 4 {
+        tree.limit = None;
+    }
+    tree.children.iter_mut().for_each(keep_low_limits);
+}
+
+// Trees that questions 1 to 7 accept.
+
+#[test]
+fn trees_of_small_amounts() {
+    let (mut rng, mut quotes) = start(201);
+    let mut named = Named::default();
+    let (mut same, mut lower) = (0, 0);
+    for round in 0..100_000 {
+        let tree = good_tree(&mut rng, SMALL);
+        let values = SMALL.values(&mut rng);
+        let quote = quotes.compare(&tree.encode(), &values);
+        if round % 4 == 0 {
+            let unlimited = evaluate(&tree.unlimited(), &values).expect("small amounts");
+            if quote.figure == Ok(unlimited.list.first()) {
+                same += 1;
+            } else {
+                lower += 1;
+            }
+            named.count(&tree, 0, &values);
+        }
+    }
+    assert!(lower > 5_000 && same > 1_000, "{lower}, {same}");
+    named.assert_reached();
+    quotes.assert_pairs(1..=1, 20_000);
+    quotes.assert_pairs(2..=2, 5_000);
+    quotes.assert_pairs(3..=9, 5_000);
+    quotes.assert_pairs(10..=99, 1_000);
+}
+
+/// What the bodies of loops name.
+#[derive(Debug, Default)]
+struct Named {
+    run: u64,
+    outer: u64,
+    this: u64,
+    /// The loops of each level, from the outermost on.
+    levels: [u64; 9],
+}
+
+impl Named {
+    fn count(&mut self, tree: &Tree, around: usize, values: &[u64]) {
+        for (place, child) in tree.children.iter().enumerate() {
+            let is_body = matches!(tree.kind, Kind::Loop(_)) && place == 0;
+            if is_body {
+                let body = evaluate_at(child, around + 1, values).expect("small amounts");
+                match body.level {
+                    0 => self.run += 1,
+                    this if this == around + 1 => self.this += 1,
+                    _ => self.outer += 1,
+                }
+                self.levels[body.level] += 1;
+            }
+            self.count(child, around + usize::from(is_body), values);
+        }
+    }
+
+    fn assert_reached(&self) {
+        let kinds = [self.run, self.outer, self.this];
+        assert!(kinds.iter().all(|&times| times > 2_000), "{self:?}");
+        let levels = &self.levels[1..];
+        assert!(levels.iter().all(|&times| times > 50), "{self:?}");
+    }
+}
+
+#[test]
+fn trees_of_middling_amounts() {
+    let (mut rng, mut quotes) = start(202);
+    for _ in 0..50_000 {
+        let tree = good_tree(&mut rng, MIDDLING);
+        let values = MIDDLING.values(&mut rng);
+        quotes.compare(&tree.encode(), &values);
+    }
+    quotes.assert_reached(&[(0, 20_000), (10, 5_000)]);
+    quotes.assert_pairs(10..=99, 1_000);
+    quotes.assert_pairs(100..=256, 20);
+}
+
+#[test]
+fn trees_of_long_runs() {
+    let (mut rng, mut quotes) = start(203);
+    for _ in 0..30_000 {
+        let tree = good_tree(&mut rng, LONG_RUNS);
+        let values = LONG_RUNS.values(&mut rng);
+        quotes.compare(&tree.encode(), &values);
+    }
+    quotes.assert_pairs(2..=2, 2_000);
+    quotes.assert_pairs(3..=9, 2_000);
+    quotes.assert_pairs(10..=99, 1_000);
+    quotes.assert_pairs(100..=256, 20);
+}
+
+#[test]
+fn trees_of_large_amounts() {
+    let (mut rng, mut quotes) = start(204);
+    for _ in 0..50_000 {
+        let records = rng.size(1..=8);
+        let mut tree = trees::within_limits(&mut rng, records);
+        LARGE.set(&mut rng, &mut tree);
+        let values = LARGE.values(&mut rng);
+        quotes.compare(&tree.encode(), &values);
+    }
+    quotes.assert_reached(&[(0, 10_000), (10, 10_000)]);
+}
+
+#[test]
+fn values_at_their_ceilings() {
+    let (mut rng, mut quotes) = start(205);
+    for _ in 0..30_000 {
+        let tree = good_tree(&mut rng, SMALL);
+        let mut values = SMALL.values(&mut rng);
+        for _ in 0..rng.size(1..=3) {
+            let at = rng.index(32);
+            values[at] = if at < 16 { 1_000_000 } else { CEILING };
+        }
+        quotes.compare(&tree.encode(), &values);
+    }
+    quotes.assert_reached(&[(0, 10_000), (10, 3_000)]);
+}
+
+#[test]
+fn lists_of_many_pairs() {
+    let (mut rng, mut quotes) = start(206);
+    for _ in 0..6_000 {
+        let tree = many_pairs(&mut rng);
+        let values = LONG_RUNS.values(&mut rng);
+        quotes.compare(&tree.encode(), &values);
+    }
+    quotes.assert_pairs(10..=99, 500);
+    quotes.assert_pairs(100..=199, 500);
+    quotes.assert_pairs(200..=256, 100);
+    quotes.assert_pairs(250..=256, 10);
+}
+
+/// Loops around a tree with as many whole-run limits on its blocks as there may be.
+fn many_pairs(rng: &mut Rng) -> Tree {
+    let loops = rng.pick(&[0, 0, 1, 1, 2, 3, 4]);
+    let weight = 1 << loops;
+    let mut left = rng.pick(&[255, 255, 200, 100]) / weight;
+    let mut tree = wide_tree(rng, left);
+    limit_blocks(rng, &mut tree, &mut left);
+    for _ in 0..loops {
+        let bound = Amount::Plain(rng.within(2..=20));
+        let exit = Tree::block(rng.within(0..=20));
+        tree = Tree::new(Kind::Loop(bound), vec![tree, exit]);
+    }
+    tree
+}
+
+/// A sequence or choice with so many blocks, some of them in lists of their own.
+fn wide_tree(rng: &mut Rng, blocks: usize) -> Tree {
+    let kinds = [Kind::Sequence, Kind::Choice];
+    let mut children = Vec::new();
+    let most = rng.pick(&[1, 60, 255]);
+    let mut left = blocks;
+    while left > 0 {
+        let few = rng.size(1..=left.min(most));
+        left -= few;
+        children.push(Tree::new(rng.pick(&kinds), vec![Tree::block(1); few]));
+    }
+    Tree::new(rng.pick(&kinds), children)
+}
+
+fn limit_blocks(rng: &mut Rng, tree: &mut Tree, left: &mut usize) {
+    if matches!(tree.kind, Kind::Block(_)) && *left > 0 {
+        tree.kind = Kind::Block(Amount::Plain(rng.within(1..=1_000_000)));
+        let amount = Amount::Plain(rng.within(1..=100_000));
+        tree.limit = Some(Limit { names: 255, amount });
+        *left -= 1;
+    }
+    for child in &mut tree.children {
+        limit_blocks(rng, child, left);
+    }
+}
+
+#[test]
+fn largest_tables() {
+    let (mut rng, mut quotes) = start(207);
+    let mut widest = 0;
+    for round in 0..3_000 {
+        let mut tree = trees::without_limits(&mut rng, 512);
+        let wanted = rng.within(0..=255);
+        trees::put_limits(&mut rng, &mut tree, wanted);
+        if round % 2 == 0 {
+            keep_low_limits(&mut tree);
+        }
+        let amounts = [SMALL, MIDDLING, LONG_RUNS][round % 3];
+        amounts.set(&mut rng, &mut tree);
+        widest += u64::from(has_255_children(&tree));
+        let values = amounts.values(&mut rng);
+        quotes.compare(&tree.encode(), &values);
+    }
+    assert!(widest > 100, "{widest}");
+    quotes.assert_reached(&[(0, 1_000), (10, 100)]);
+    quotes.assert_pairs(1..=1, 100);
+    quotes.assert_pairs(10..=99, 200);
+    quotes.assert_pairs(100..=256, 5);
+}
+
+fn has_255_children(tree: &Tree) -> bool {
+    tree.children.len() == 255 || tree.children.iter().any(has_255_children)
+}
+
+#[test]
+fn deepest_tables() {
+    let (mut rng, mut quotes) = start(208);
+    for round in 0..12_000 {
+        let loops = rng.size(0..=8);
+        let mut tree = trees::spine(&mut rng, 32, loops);
+        let size = tree.records() + rng.size(0..=40);
+        trees::pad(&mut rng, &mut tree, size);
+        let wanted = rng.within(0..=255);
+        trees::put_limits(&mut rng, &mut tree, wanted);
+        let amounts = [SMALL, MIDDLING][round % 2];
+        amounts.set(&mut rng, &mut tree);
+        let values = amounts.values(&mut rng);
+        quotes.compare(&tree.encode(), &values);
+    }
+    quotes.assert_reached(&[(0, 5_000), (10, 500)]);
+    quotes.assert_pairs(2..=256, 1_000);
+}
+
+// Question 10.
+
+#[test]
+fn question_10_at_the_root() {
+    let (mut rng, mut quotes) = start(209);
+    for _ in 0..20_000 {
+        let tree = good_tree(&mut rng, SMALL);
+        let values = SMALL.values(&mut rng);
+        let over = rng.within(0..=1);
+        let root = around_ceiling(&mut rng, &tree, 0, &values, over);
+        let table = root.encode();
+        if reader::check(&table).is_ok() {
+            let quote = quotes.compare(&table, &values);
+            assert_eq!(quote.figure, if over > 0 { Err(10) } else { Ok(CEILING) });
+        }
+    }
+    quotes.assert_reached(&[(0, 8_000), (10, 8_000)]);
+}
+
+#[test]
+fn question_10_at_nodes_that_do_not_reach_the_root() {
+    let (mut rng, mut quotes) = start(210);
+    let mut inner = 0;
+    for _ in 0..60_000 {
+        let mut tree = good_tree(&mut rng, SMALL);
+        let values = SMALL.values(&mut rng);
+        let around = trees::loops_around(&tree);
+        let record = rng.index(around.len());
+        let over = rng.within(0..=1);
+
+        let node = tree.node_mut(record);
+        let ceiling = around_ceiling(&mut rng, node, around[record], &values, over);
+        *node = hidden(&mut rng, ceiling, around[record]);
+        let table = tree.encode();
+        if reader::check(&table).is_ok() {
+            let quote = quotes.compare(&table, &values);
+            assert_eq!(quote.figure.err(), (over > 0).then_some(10));
+            inner += u64::from(record > 0);
+        }
+    }
+    assert!(inner > 30_000, "{inner}");
+    quotes.assert_reached(&[(0, 20_000), (10, 20_000)]);
+}
+
+/// A tree that holds this node and whose first member is the ceiling and `over`.
+fn around_ceiling(rng: &mut Rng, node: &Tree, around: usize, values: &[u64], over: u64) -> Tree {
+    let evaluated = evaluate_at(node, around, values).expect("small amounts");
+    let first = evaluated.list.first();
+    if first >= over && rng.once_in(2) {
+        let rest = Tree::block(CEILING - first + over);
+        return Tree::new(Kind::Sequence, vec![node.clone(), rest]);
+    }
+    let bound = rng.within(1..=1_000_000);
+    let body = Tree::block(CEILING / bound);
+    let exit = Tree::block(CEILING % bound + over);
+    let passes = Tree::new(Kind::Loop(Amount::Plain(bound)), vec![body, exit]);
+    Tree::new(Kind::Choice, vec![node.clone(), passes])
+}
+
+/// The tree with a limit of 0, or as a body that is never passed: either way its list becomes 0.
+fn hidden(rng: &mut Rng, mut tree: Tree, around: usize) -> Tree {
+    if rng.once_in(3) {
+        return Tree::new(Kind::Loop(Amount::Plain(0)), vec![tree, Tree::block(0)]);
+    }
+    tree.limit = Some(Limit {
+        names: if around > 0 { 1 } else { 255 },
+        amount: Amount::Plain(0),
+    });
+    tree
+}
+
+// Questions 8 and 9, and the order of all.
+
+#[test]
+fn wrong_values_are_refused_9() {
+    let (mut rng, mut quotes) = start(211);
+    for _ in 0..40_000 {
+        let tree = good_tree(&mut rng, MIDDLING);
+        let values = wrong_values(&mut rng);
+        let quote = quotes.compare(&tree.encode(), &values);
+        assert_eq!((quote.figure, quote.list), (Err(9), Err(9)));
+    }
+}
+
+/// Too few, too many, or some past their ceilings.
+fn wrong_values(rng: &mut Rng) -> Vec<u64> {
+    let mut values = SMALL.values(rng);
+    match rng.index(4) {
+        0 => values.truncate(rng.pick(&[0, 1, 16, 30, 31])),
+        1 => values.resize(rng.pick(&[33, 34, 64, 100]), 0),
+        _ => {
+            for _ in 0..rng.pick(&[1, 1, 1, 3]) {
+                let at = rng.index(32);
+                let ceiling = if at < 16 { 1_000_000 } else { CEILING };
+                values[at] = rng.pick(&[ceiling + 1, 2 * ceiling, 1 << 63, u64::MAX]);
+            }
+        }
+    }
+    values
+}
+
+#[test]
+fn buffers_of_every_length() {
+    let (mut rng, mut quotes) = start(212);
+    for _ in 0..40_000 {
+        let tree = good_tree(&mut rng, SMALL);
+        let values = SMALL.values(&mut rng);
+        let room = match rng.index(4) {
+            0 => rng.pick(&[510, 511, 512, 513]),
+            1 => rng.size(512..=1_100),
+            _ => rng.size(0..=600),
+        };
+        let quote = quotes.compare_with_room(&tree.encode(), &values, room);
+        assert_eq!(quote.list.err(), (room < 512).then_some(8));
+    }
+    quotes.assert_lists(&[(0, 10_000), (8, 10_000)]);
+}
+
+#[test]
+fn of_many_faults_the_lowest_number_answers() {
+    let (mut rng, mut quotes) = start(213);
+    for _ in 0..60_000 {
+        let often = rng.within(1..=10);
+        let faults: Vec<u64> = (1..=10).filter(|_| rng.once_in(often)).collect();
+        let table = faulty_table(&mut rng, &faults);
+        let values = if faults.contains(&9) {
+            wrong_values(&mut rng)
+        } else {
+            SMALL.values(&mut rng)
+        };
+        let room = if faults.contains(&8) {
+            rng.pick(&[0, 100, 511])
+        } else {
+            rng.pick(&[512, 513, 1_000])
+        };
+        let quote = quotes.compare_with_room(&table, &values, room);
+        assert_eq!(quote.list.err(), faults.first().copied());
+        let mut put = faults.into_iter().filter(|&question| question != 8);
+        assert_eq!(quote.figure.err(), put.next(), "no question 8");
+    }
+    quotes.assert_reached(&[0, 1, 2, 3, 4, 5, 6, 7, 9, 10].map(|answer| (answer, 1_000)));
+    quotes.assert_lists(&[(8, 1_000)]);
+}
+
+/// A table of small amounts that fails these of questions 1 to 7 and 10.
+fn faulty_table(rng: &mut Rng, faults: &[u64]) -> Vec<u8> {
+    let mut tree = faults::tree(rng, faults);
+    SMALL.set(rng, &mut tree);
+    if faults.contains(&10) {
+        let past = around_ceiling(rng, &Tree::block(0), 0, &[0; 32], 1);
+        let place = rng.size(0..=tree.children.len());
+        tree.children.insert(place, past);
+    }
+    faults::table(rng, &tree, faults)
+}
+
+#[test]
+fn noise_of_good_records() {
+    let (mut rng, mut quotes) = start(214);
+    for _ in 0..20_000 {
+        let table = noise::first_tree(&mut rng);
+        let values = LARGE.values(&mut rng);
+        quotes.compare(&table, &values);
+    }
+    quotes.assert_reached(&[(0, 10_000), (4, 500), (5, 100), (6, 1_000), (10, 1_000)]);
+}
