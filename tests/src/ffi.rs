@@ -1,10 +1,8 @@
 //! The library's exported functions. Nothing checks these declarations against its source, so they
 //! stay few and plain; the tests use the safe wrappers alone.
 
-#[cfg(feature = "figure")]
 mod figure;
 
-#[cfg(feature = "figure")]
 pub use figure::{figure, list, Figure, Listed};
 
 /// The answer of `vf_check`.

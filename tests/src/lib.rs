@@ -22,7 +22,6 @@ pub mod ffi;
 pub mod format;
 pub mod members;
 pub mod noise;
-#[cfg(feature = "figure")]
 pub mod quotes;
 pub mod reader;
 pub mod rng;

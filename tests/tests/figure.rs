@@ -1,8 +1,6 @@
 //! `vf_figure` and `vf_list` on hand-written tables: document 01's cases, each rule of evaluation,
 //! questions 8 to 10 at and past their ends, and the order of all ten. All numbers here are literals.
 
-#![cfg(feature = "figure")]
-
 use volefleece_tests::cases::{self, cases};
 use volefleece_tests::compare::{lend, shown};
 use volefleece_tests::evaluator::{self, Pair};

@@ -2,8 +2,6 @@
 //! where an answer is known by construction, against that. Each test asserts that it has reached what
 //! it is for, so that none passes idly. The seeds are fixed: every run makes the same tables.
 
-#![cfg(feature = "figure")]
-
 use volefleece_tests::evaluator::{evaluate, evaluate_at};
 use volefleece_tests::faults;
 use volefleece_tests::noise;
