@@ -5,6 +5,9 @@
 #include <stddef.h>
 #include <stdint.h>
 
+/* Each pointer lends as many elements as the length after it says, and out overlaps nothing else that is lent. A call wants less
+   than 1 MiB of stack. */
+
 #ifdef __cplusplus
 extern "C" {
 #endif
