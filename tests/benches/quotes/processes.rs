@@ -69,6 +69,7 @@ fn lp_solve() -> Option<Solver> {
         .arg("-S0")
         .stdin(Stdio::null())
         .stdout(Stdio::null())
+        .stderr(Stdio::null())
         .status();
     if starts.is_err() {
         println!("{LP_SOLVE} is not installed: it is left out.");
