@@ -1,3 +1,4 @@
 -- Laws that the functions' proofs share.
 pub mod Others
+pub mod Steps
 pub mod Walk

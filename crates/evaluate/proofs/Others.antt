@@ -7,14 +7,14 @@ use types.Run.{OneOf, miss}
 use Rattle.table.proofs.Kind.{the-type}
 use Rattle.table.specs.Numbers.{wholeRun}
 use Rattle.table.specs.Trees.{rest}
-use Rattle.lists.specs.Operations.{addPairs}
-use Rattle.lists.specs.Pairs.{Pairs, ever}
 use Rattle.table.specs.declared.Kind.{Kind}
 use Rattle.table.specs.declared.Kind.the-variants.{Block, Sequence, Choice, Loop}
+use Rattle.lists.specs.Operations.{addPairs}
+use Rattle.lists.specs.Pairs.{Pairs, ever}
 use Rattle.evaluate.specs.Evaluate.{Values}
 use Rattle.evaluate.specs.Evaluator.{Found, evaluateBelow, evaluateMore, found, goneRound, joinPairs}
 
--- the kind's number is one of these
+-- the kind's number is one of these: 0 a block, 1 a sequence, 2 a choice, 3 a loop
 abbrev pub Among : List ℕ → Kind → Type 0
 Among ks k = OneOf ks (tagOf the-type k)
 

@@ -18,33 +18,31 @@ use Rattle.evaluate.specs.Evaluate.{Values, amount}
 use Rattle.evaluate.specs.Evaluator.{Found, andThen, checked, evaluateBelow, evaluateMore, evaluateNode, goneRound, joined, limited, unfit}
 use Rattle.evaluate.specs.Shown.{Ready, Shows, evaluateChildren, foundIn, withNext}
 use Rattle.evaluate.specs.Laws.Sane.{Sane, sane, sane-checked, sane-more, sane-next, sane-none, sane-where}
-use Rattle.evaluate.specs.Laws.Shown.{itself-shown, ready-shown, sane-ready, shown-is, then-shown}
-use Rattle.evaluate.specs.Laws.Steps.{checked-low, more-done, more-next, node-read, then-fits}
+use Rattle.evaluate.specs.Laws.Shown.{itself-shown, ready-shown, sane-ready, shown-is, then-fits, then-shown}
 use Rattle.evaluate.proofs.Others.{Among, below-other}
+use Rattle.evaluate.proofs.Steps.{checked-low, more-done, more-next, node-read}
 
 -- ---- children
 
 -- n children are left after those of the answer r, as children of a node of kind k, and give the whole e
-pub record SoFar (v : Values) (h : ℕ) (b : List ℕ) (e : Found) (k : Kind) (n : ℕ) (r : Valued) (a : List ℕ) : Type 0 where
-  pub fits : r .fits ≡ true
+pub record Walked (v : Values) (h : ℕ) (b : List ℕ) (e : Found) (k : Kind) (n : ℕ) (r : Valued) (a : List ℕ) : Type 0 where
   pub ready : Ready r a
   pub short : recordLength * r .records ≤ length b
   pub left : evaluateMore v (evaluateNode v h) k n b (foundIn r a) ≡ e
 
 module _ {v : Values} {h : ℕ} {b : List ℕ} (long : length b ≤ recordLength * mostRecords) where
-  pub none-yet : (k : Kind) (n : ℕ) {r : Valued} {a : List ℕ} → Shows r a (checked (ever 0) wholeRun 0) → SoFar v h b (evaluateChildren v h k n b) k n r a
+  pub none-yet : (k : Kind) (n : ℕ) {r : Valued} {a : List ℕ} → Shows r a (checked (ever 0) wholeRun 0) → Walked v h b (evaluateChildren v h k n b) k n r a
   unfolding top
   none-yet k n {r} {a} q =
       let s = subst (Shows r a) (checked-low (ever 0) wholeRun 0 (omega arith)) q in
       record {
-        fits = s .fits;
         ready = ready-shown long (sane-none b) s (s .fits);
         short = omega (arith, s .records);
         left = ap (evaluateMore v (evaluateNode v h) k n b) (shown-is s (s .fits));
       }
 
   -- the next child, found as c in the array l, and t in the array a′ when it is taken
-  module _ {e : Found} {k : Kind} {n : ℕ} {r c t : Valued} {a l a′ : List ℕ} (q : SoFar v h b e k n r a) (p : 0 < n)
+  module _ {e : Found} {k : Kind} {n : ℕ} {r c t : Valued} {a l a′ : List ℕ} (q : Walked v h b e k n r a) (p : 0 < n)
       (child : Shows c l (evaluateNode v h (drop (recordLength * r .records) b))) (next : Shows t a′ (withNext v k (foundIn r a) (foundIn c l))) where
     taken : Found
     taken = withNext v k (foundIn r a) (evaluateNode v h (drop (recordLength * r .records) b))
@@ -66,10 +64,9 @@ module _ {v : Values} {h : ℕ} {b : List ℕ} (long : length b ≤ recordLength
         let c = evaluateNode v h (drop (recordLength * r .records) b) in
         sane-where b (c .fits) _ (λ i. sane-where b (goneRound v k c .fits) _ (λ j. sane-next v k b (foundIn r a) c (sane-ready (q .short) (q .ready)) (sane v h _)))
 
-    pub next-fits : t .fits ≡ true → SoFar v h b e (rest k) (n - 1) t a′
+    pub next-fits : t .fits ≡ true → Walked v h b e (rest k) (n - 1) t a′
     unfolding more
     next-fits i = record {
-      fits = i;
       ready = ready-shown long sane-taken shows i;
       short = omega (arith, sane-taken .short, shows .records);
       left = sym (then-fits (foundIn t a′) more i) ∙ whole;
@@ -79,7 +76,7 @@ module _ {v : Values} {h : ℕ} {b : List ℕ} (long : length b ≤ recordLength
     unfolding more
     next-ends i = sym whole ∙ rw i refl
 
-  pub all-done : {e : Found} {k : Kind} {n : ℕ} {r : Valued} {a : List ℕ} → SoFar v h b e k n r a → n ≡ 0 → Shows r a e
+  pub all-done : {e : Found} {k : Kind} {n : ℕ} {r : Valued} {a : List ℕ} → Walked v h b e k n r a → n ≡ 0 → Shows r a e
   all-done {k = k} {n = n} {r = r} {a = a} q z = subst (Shows r a) (sym (more-done v (evaluateNode v h) k n b (foundIn r a) z) ∙ q .left) (itself-shown (q .ready))
 
 -- what the steps may rely on of a child

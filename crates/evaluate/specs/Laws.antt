@@ -13,5 +13,4 @@ pub mod Found
 pub mod Children
 pub mod Evaluator
 pub mod Sane
-pub mod Steps
 pub mod Shown

@@ -94,7 +94,7 @@ fn rest_of(kind: Kind) -> Kind
 
 // ---- Steps, each on the list in an array
 
-// Question 10 of a list.
+// Question 10: is the list's first value within the ceiling?
 fn check_top(list: &Pairs, len: usize, named: u8, records: usize) -> Valued
     requires { ⌜ Proper (listIn (now list) len) ⌝ ∗ ⌜ Roomy (now list) ⌝ }
     ensures { λ r. ⌜ Shows r (now (list .entry)) (checked (pairsOf (listIn (now (list .entry)) len)) named records) ⌝ }
@@ -141,7 +141,7 @@ fn loop_in(bound: u64, body: Valued, list: &mut Pairs, spare: &mut Pairs) -> Val
     check_top(list, n, named, body.records)
 }
 
-// The first child, as its parent takes it.
+// The first child, as its parent takes it: a loop goes round its body.
 fn go_round(
     kind: Kind,
     values: &[u64],
@@ -293,6 +293,7 @@ pub fn evaluate_node(
 }
 
 // The `count` children at the front of `table` of a node of this kind, each at most `depth` nodes deep.
+// Their list grows in `out`, and each child's own stands in an array of this call.
 // A child that does not fit ends the walk: it tells no place for the next, and so no record is read twice.
 fn evaluate_children(
     table: &[u8],
@@ -323,7 +324,7 @@ fn evaluate_children(
     done
 }
 
-// The tree of a table.
+// The tree of a table, as deep as question 5 allows.
 pub fn evaluate(table: &[u8], values: &[u64], out: &mut Pairs) -> Valued
     requires { ⌜ length (now table) ≤ recordLength * mostRecords ⌝ ∗ ⌜ Roomy (now out) ⌝ }
     ensures { λ r. ⌜ Shows r (now (out .exit)) (evaluateNode (valuesOf (now (values .entry))) mostDepth (now (table .entry))) ⌝ }

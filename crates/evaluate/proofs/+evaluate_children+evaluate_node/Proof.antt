@@ -11,8 +11,8 @@ use Rattle.table.specs.Laws.Reading.{part-from}
 use Rattle.evaluate.specs.Evaluate.{valuesOf}
 use Rattle.evaluate.specs.Shown.{Roomy, evaluateChildren}
 use Rattle.evaluate.specs.Laws.Shown.{ready-shown, unfit-shown}
-use Rattle.evaluate.specs.Laws.Steps.{node-deep, node-short}
-use Rattle.evaluate.proofs.Walk.{SoFar, all-done, block-sane, block-shown, child-ready, children-ready, children-shown, next-ends, next-fits, none-yet}
+use Rattle.evaluate.proofs.Steps.{node-deep, node-short}
+use Rattle.evaluate.proofs.Walk.{Walked, all-done, block-sane, block-shown, child-ready, children-ready, children-shown, next-ends, next-fits, none-yet}
 use Rattle.evaluate.proofs.evaluate_children.Reads as children
 use Rattle.evaluate.proofs.evaluate_children.Kinds as children-kinds
 use Rattle.evaluate.proofs.+evaluate_children+evaluate_node.Lts-evaluate_children as children-lts
@@ -83,7 +83,7 @@ node-calls t = (
 -- the children left, after those done, give the whole answer
 abbrev Inv-loop : children-lts.InvT-loop
 Inv-loop table values depth count out₀ spare₀ list₀ done₀ seen-as₀ left₀ out spare list done seen-as left =
-    SoFar (valuesOf values) depth table (evaluateChildren (valuesOf values) depth seen-as₀ left₀ table) seen-as left done out × Roomy (list .pairs) × Roomy spare
+    Walked (valuesOf values) depth table (evaluateChildren (valuesOf values) depth seen-as₀ left₀ table) seen-as left done out × Roomy (list .pairs) × Roomy spare
 
 abbrev μ-loop : children-lts.MeasureT-loop
 μ-loop table values depth count out₀ spare₀ list₀ done₀ seen-as₀ left₀ out spare list done seen-as left = left

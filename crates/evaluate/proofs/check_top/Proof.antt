@@ -2,7 +2,7 @@
 use mathlib.Core.Path.{refl}
 use borrow.Author.Needs.{needs}
 use Rattle.evaluate.specs.Laws.Shown.{first-top, found-shown, unfit-shown}
-use Rattle.evaluate.specs.Laws.Steps.{checked-high, checked-low}
+use Rattle.evaluate.proofs.Steps.{checked-high, checked-low}
 use Rattle.evaluate.proofs.check_top.Statement.{statement}
 use Rattle.evaluate.proofs.check_top.Tie as tie
 

@@ -3,7 +3,7 @@ use native.Mathlib.Omega.{arith}
 use borrow.Author.Needs.{needs}
 use Rattle.evaluate.specs.Shown.{foundIn}
 use Rattle.evaluate.specs.Laws.Shown.{len-width, unfit-shown}
-use Rattle.evaluate.specs.Laws.Steps.{joined-room, joined-wide}
+use Rattle.evaluate.proofs.Steps.{joined-room, joined-wide}
 use Rattle.evaluate.proofs.join_in.Statement.{statement}
 use Rattle.evaluate.proofs.join_in.Tie as tie
 

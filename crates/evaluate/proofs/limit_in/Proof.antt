@@ -7,8 +7,8 @@ use borrow.Author.Tests.{not-false, not-true}
 use Rattle.evaluate.specs.Evaluate.{valuesOf}
 use Rattle.evaluate.specs.Evaluator.{limited}
 use Rattle.evaluate.specs.Shown.{Ready, foundIn}
-use Rattle.evaluate.specs.Laws.Shown.{found-shown, len-width, unfit-shown}
-use Rattle.evaluate.specs.Laws.Steps.{limited-many, limited-room, limited-wide, then-fits}
+use Rattle.evaluate.specs.Laws.Shown.{found-shown, len-width, then-fits, unfit-shown}
+use Rattle.evaluate.proofs.Steps.{limited-many, limited-room, limited-wide}
 use Rattle.evaluate.proofs.limit_in.Statement.{statement}
 use Rattle.evaluate.proofs.limit_in.Tie as tie
 

@@ -3,7 +3,7 @@ use native.Mathlib.Omega.{arith}
 use borrow.Author.Needs.{needs}
 use Rattle.evaluate.specs.Shown.{foundIn}
 use Rattle.evaluate.specs.Laws.Shown.{len-width, product-fits, unfit-shown}
-use Rattle.evaluate.specs.Laws.Steps.{looped-many, looped-own, looped-room, looped-wide}
+use Rattle.evaluate.proofs.Steps.{looped-many, looped-own, looped-room, looped-wide}
 use Rattle.evaluate.proofs.loop_in.Statement.{statement}
 use Rattle.evaluate.proofs.loop_in.Tie as tie
 

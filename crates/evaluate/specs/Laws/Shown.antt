@@ -1,6 +1,6 @@
 -- What answers in arrays show, and what the next step may rely on.
 use mathlib.Core.Path.{_≡_, refl, sym, ap, _∙_, subst}
-use mathlib.Core.Bool.{Bool, true, false}
+use mathlib.Core.Bool.{Bool, true, false, cond}
 use mathlib.Core.List.{List}
 use Prim.Native.Nat.{ℕ, suc, _*_, _^_, _<_, _≤_}
 use native.Mathlib.Nat.{mul-le-mul}
@@ -17,7 +17,6 @@ use Rattle.evaluate.specs.Evaluate.{Values}
 use Rattle.evaluate.specs.Evaluator.{Found, andThen, found, goneRound, joined, unfit}
 use Rattle.evaluate.specs.Shown.{Ready, Roomy, Shows, foundIn, withNext}
 use Rattle.evaluate.specs.Laws.Sane.{Sane}
-use Rattle.evaluate.specs.Laws.Steps.{then-fits}
 
 -- ---- arrays
 
@@ -51,6 +50,9 @@ then-shown {r} {a} {e} s f = go (r .fits) refl
 
 -- ---- the next child
 
+pub then-fits : (c : Found) (f : Found → Found) → c .fits ≡ true → andThen c f ≡ f c
+then-fits c f e = ap (λ t. cond t (f c) unfit) e
+
 module _ (v : Values) (k : Kind) (s c : Found) where
   pub next-unfit : c .fits ≡ false → withNext v k s c ≡ unfit
   unfolding withNext
@@ -82,7 +84,7 @@ sane-ready l h = record { canonical = h .proper .canonical; low = h .low; thin =
 pub product-fits : (n t : ℕ) → n ≤ mostCount → t ≤ mostTime → n * t < 2 ^ 64
 product-fits n t l m = omega (arith, mul-le-mul l m)
 
--- the longest table
+-- a table as long as any, for what is said of none in particular
 pub longest : List ℕ
 longest = replicate (recordLength * mostRecords) 0
 

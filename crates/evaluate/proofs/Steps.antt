@@ -1,5 +1,5 @@
 -- The cases of the evaluator's definition, as the program meets them.
-use mathlib.Core.Path.{_≡_, refl, ap}
+use mathlib.Core.Path.{_≡_, refl}
 use mathlib.Core.Bool.{Bool, true, false, cond}
 use mathlib.Core.List.{List}
 use Prim.Native.Nat.{ℕ, zero, suc, _+_, _*_, _-_, min, _<_, _≤_}
@@ -10,18 +10,16 @@ use borrow.Author.Tests.{le-leb, lt-leb}
 use Rattle.table.specs.Numbers.{mostCount, mostTime, mostWeight, recordLength}
 use Rattle.table.specs.Table.{childByte, firstNode}
 use Rattle.table.specs.Trees.{rest}
+use Rattle.table.specs.declared.Kind.{Kind}
+use Rattle.table.specs.declared.Limit.the-variants.{AtMost}
+use Rattle.table.specs.declared.Number.{Number}
 use Rattle.lists.specs.Operations.{capPairs, first, groupPairs}
 use Rattle.lists.specs.Pairs.{Pairs, ever, top, width}
-use Rattle.evaluate.specs.Nodes.{Kind, AtMost, Number}
 use Rattle.evaluate.specs.Evaluate.{Values, amount, outward}
 use Rattle.evaluate.specs.Evaluator.{Found, andThen, checked, evaluateBelow, evaluateMore, evaluateNode, found, goneRound, joinPairs, joined, limited, looped, unfit}
 use Rattle.evaluate.specs.Shown.{withNext}
 
 -- ---- steps
-
--- one after the other
-pub then-fits : (c : Found) (f : Found → Found) → c .fits ≡ true → andThen c f ≡ f c
-then-fits c f e = ap (λ t. cond t (f c) unfit) e
 
 pub checked-low : (p : Pairs) (k n : ℕ) → top p ≤ mostTime → checked p k n ≡ found p k n
 checked-low p k n l = rw (le-leb (top p) mostTime l) refl
@@ -90,7 +88,7 @@ pub more-done : (v : Values) (f : List ℕ → Found) (k : Kind) (n : ℕ) (b : 
 unfolding evaluateMore
 more-done v f k n b s e = rw e refl
 
--- in two ways
+-- one after the other, in two ways
 regrouped : (c : Found) (f g h : Found → Found) → andThen c (λ c. andThen (f c) (λ d. andThen (g d) h)) ≡ andThen (andThen c (λ c. andThen (f c) g)) h
 regrouped c f g h = go (c .fits) (f c .fits)
   where
