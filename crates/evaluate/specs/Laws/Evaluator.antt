@@ -46,13 +46,13 @@ pub record FairIn (k : Kind) (f : Forest) (d : ℕ) : Type 0 where
   pub named : T (namedIn k f d)
   pub weighed : weightIn k f d ≤ mostWeight
 
-fair-below : (n : Node) (f : Forest) (d : ℕ) → Fair (node n f) d → FairIn (n .kind) f d
+pub fair-below : (n : Node) (f : Forest) (d : ℕ) → Fair (node n f) d → FairIn (n .kind) f d
 unfolding listed loops named weight
 fair-below n f d a =
     let (p, l) = both _ _ (a .listed) in
     record { ranged = both _ _ (both _ _ p .0) .0; listed = l; nested = omega (arith, a .nested); named = both _ _ (a .named) .1; weighed = omega (arith, a .weighed) }
 
-fair-first : (k : Kind) (t : Tree) (f : Forest) (d : ℕ) → FairIn k (t ▸ f) d → Fair t (around k d)
+pub fair-first : (k : Kind) (t : Tree) (f : Forest) (d : ℕ) → FairIn k (t ▸ f) d → Fair t (around k d)
 unfolding listed loops named weight
 fair-first k t f d a = record { listed = both _ _ (a .listed) .0; nested = omega (arith, a .nested); named = both _ _ (a .named) .0; weighed = omega (arith, a .weighed) }
 
@@ -63,7 +63,7 @@ rest-ranged Sequence = tt
 rest-ranged Choice = tt
 rest-ranged (Loop n) = tt
 
-fair-rest : (k : Kind) (t : Tree) (f : Forest) (d : ℕ) → FairIn k (t ▸ f) d → FairIn (rest k) f d
+pub fair-rest : (k : Kind) (t : Tree) (f : Forest) (d : ℕ) → FairIn k (t ▸ f) d → FairIn (rest k) f d
 unfolding listed loops named weight
 fair-rest k t f d a = record { ranged = rest-ranged k; listed = both _ _ (a .listed) .1; nested = omega (arith, a .nested); named = both _ _ (a .named) .1; weighed = omega (arith, a .weighed) }
 

@@ -73,10 +73,10 @@ pub part-long : (b : List ℕ) (i : ℕ) → i < recordCount b → recordLength 
 part-long b i h = rw (part-from, length-drop) (omega arith)
 
 -- past record i lies record i + 1, and there is one fewer to come
-next-count : (n i : ℕ) → i < n → n - i ≡ suc (n - (i + 1))
+pub next-count : (n i : ℕ) → i < n → n - i ≡ suc (n - (i + 1))
 next-count n i h = omega arith
 
-next-part : (b : List ℕ) (i : ℕ) → drop recordLength (drop (recordLength * i) b) ≡ drop (recordLength * (i + 1)) b
+pub next-part : (b : List ℕ) (i : ℕ) → drop recordLength (drop (recordLength * i) b) ≡ drop (recordLength * (i + 1)) b
 next-part b i =
     let e : recordLength * (i + 1) ≡ recordLength * i + recordLength = omega arith in
     rw (e, drop-drop) refl

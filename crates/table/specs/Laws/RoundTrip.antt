@@ -15,12 +15,12 @@ use Rattle.table.specs.Laws.Bytes.{from-to}
 
 -- ---- forests
 
-first-⧺ : (f g : Forest) → firstOnes (size f) (f ⧺ g) ≡ f
+pub first-⧺ : (f g : Forest) → firstOnes (size f) (f ⧺ g) ≡ f
 unfolding firstOnes size _⧺_
 first-⧺ nil g = refl
 first-⧺ (t ▸ f) g = ap (λ h. t ▸ h) (first-⧺ f g)
 
-after-⧺ : (f g : Forest) → afterOnes (size f) (f ⧺ g) ≡ g
+pub after-⧺ : (f g : Forest) → afterOnes (size f) (f ⧺ g) ≡ g
 unfolding afterOnes size _⧺_
 after-⧺ nil g = refl
 after-⧺ (t ▸ f) g = after-⧺ f g
@@ -139,7 +139,7 @@ mutual
   forest-tree : (t : Tree) → Writes t → (n : ℕ) (r : List ℕ) → forest (records t + n) (encode t ++ r) ≡ t ▸ forest n r
   forest-tree (node nd f) h n r = rw (append-assoc, suc-add) (forest-node nd f (forest n r) (recordsIn f + n) (encodes f ++ r) (h .0) (forest-all f (h .1) n r))
 
-  forest-all : (f : Forest) → WritesAll f → (n : ℕ) (r : List ℕ) → forest (recordsIn f + n) (encodes f ++ r) ≡ f ⧺ forest n r
+  pub forest-all : (f : Forest) → WritesAll f → (n : ℕ) (r : List ℕ) → forest (recordsIn f + n) (encodes f ++ r) ≡ f ⧺ forest n r
   forest-all nil h n r = rw zero-add refl
   forest-all (t ▸ f) h n r = rw (append-assoc, add-assoc, forest-tree t (h .0) (recordsIn f + n) (encodes f ++ r), forest-all f (h .1) n r) refl
 

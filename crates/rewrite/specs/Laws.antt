@@ -1,0 +1,2 @@
+-- Laws, in the order in which they lean on each other.
+pub mod Children

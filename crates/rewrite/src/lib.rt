@@ -1,0 +1,162 @@
+// Rules 2 to 9 of document 01's simplification, each as a rewrite of a table's bytes from a node's record on into a second buffer.
+ghost use mathlib.Core.Path.{_≡_};
+ghost use mathlib.Core.List.{_++_};
+ghost use Prim.Native.Nat.{_+_, _*_, _-_, _<_, _≤_};
+ghost use lib.ListN.{length};
+ghost use Rattle.table.specs.Numbers.{recordLength};
+ghost use Rattle.table.specs.Table.{flag, kindByte, limitNum, loopByte, raw, recordBytes, recordCount, valueNum};
+ghost use Rattle.simplify.specs.Rules.{bare, isSum, rule2, rule3, rule5, rule6, rule7, rule8, rule9};
+ghost use Rattle.subtrees.specs.Facts.{Extents, Surveyed};
+ghost use Rattle.subtrees.specs.Parts.{Simplifiable, subtree, treesAt};
+ghost use Rattle.rewrite.specs.Writing.{Wrote, front, nodeOf, ruleAt, slice};
+ghost use Rattle.rewrite.specs.Children.{childAt, wanted};
+use table::Kind;
+use table::Limit;
+use table::Number;
+use table::RECORD_LENGTH;
+
+// A child that is looked for.
+pub enum Wanted {
+    GivesWay(Kind, usize),
+    Zero,
+    Bare,
+}
+
+// ---- Writing
+
+// Copies n records from record i on to the buffer's record `at` and on; answers the record after them.
+fn copy_records(table: &[u8], i: usize, n: usize, out: &mut [u8], at: usize) -> usize
+    requires { ⌜ (recordLength * (i + n) ≤ length (now table)) × (recordLength * (at + n) ≤ length (now out)) ⌝ }
+    ensures { λ r. ⌜ (r ≡ at + n) × (front r (now (out .exit)) ≡ front at (now (out .entry)) ++ slice (now (table .entry)) i n) ⌝ }
+{
+    let start = RECORD_LENGTH * i;
+    let end = RECORD_LENGTH * n;
+    let over = RECORD_LENGTH * at;
+    let mut k = 0;
+    while k < end {
+        out[over + k] = table[start + k];
+        k += 1;
+    }
+    at + n
+}
+
+// A record's sixteen bytes.
+fn record_of(kind: Kind, limit: Limit, count: u8) -> [u8; RECORD_LENGTH]
+    ensures { λ r. ⌜ r ≡ recordBytes (nodeOf kind limit) count ⌝ }
+{
+    [0; RECORD_LENGTH]
+}
+
+// Puts a node's record at the buffer's record `at`; answers the record after it.
+fn put_node(out: &mut [u8], at: usize, kind: Kind, limit: Limit, count: u8) -> usize
+    requires { ⌜ recordLength * (at + 1) ≤ length (now out) ⌝ }
+    ensures { λ r. ⌜ (r ≡ at + 1) × (front r (now (out .exit)) ≡ front at (now (out .entry)) ++ recordBytes (nodeOf kind limit) count) ⌝ }
+{
+    at + 1
+}
+
+// ---- Children
+
+fn is_sum(kind: Kind) -> bool
+    ensures { λ r. ⌜ r ≡ isSum kind ⌝ }
+{
+    match kind {
+        Kind::Sequence => true,
+        Kind::Choice => true,
+        _ => false,
+    }
+}
+
+// Is the tree at record p an unlimited plain block?
+fn is_bare(table: &[u8], p: usize) -> bool
+    requires { ⌜ Simplifiable (now table) ⌝ ∗ ⌜ p < recordCount (now table) ⌝ }
+    ensures { λ r. ⌜ r ≡ bare (subtree (now (table .entry)) p) ⌝ }
+{
+    let at = RECORD_LENGTH * p;
+    (table[at] == 0) & (table[at + 1] == 0) & (table[at + 3] == 0)
+}
+
+// Is the child at record p one that is looked for?
+fn is_wanted(which: Wanted, table: &[u8], p: usize) -> bool
+    requires { ⌜ Simplifiable (now table) ⌝ ∗ ⌜ p < recordCount (now table) ⌝ }
+    ensures { λ r. ⌜ r ≡ wanted which (subtree (now (table .entry)) p) ⌝ }
+{
+    false
+}
+
+// The record of the first child that is looked for of the node at record i, or 0.
+fn first_child(table: &[u8], extents: &[usize], i: usize, which: Wanted) -> usize
+    requires { ⌜ Extents (now table) (now extents) ⌝ ∗ ⌜ i < recordCount (now table) ⌝ }
+    ensures { λ r. ⌜ r ≡ childAt (wanted which) i (treesAt (now (table .entry)) i) ⌝ }
+{
+    let start = RECORD_LENGTH * i;
+    let mut left = table::child_count(&table[start..]);
+    let mut p = i + 1;
+    while 0 < left {
+        if is_wanted(which, table, p) {
+            return p;
+        }
+        p += extents[p];
+        left -= 1;
+    }
+    0
+}
+
+// ---- Rules: each writes what the table becomes from record i on, and answers how many records that is; 0 where the rule does not fit
+
+// 2. The first unlimited child of the same kind gives way to its children.
+pub fn rule2_at(table: &[u8], extents: &[usize], i: usize, out: &mut [u8]) -> usize
+    requires { ⌜ Extents (now table) (now extents) ⌝ ∗ ⌜ i < recordCount (now table) ⌝ ∗ ⌜ length (now table) ≤ length (now out) ⌝ }
+    ensures { λ r. ⌜ Wrote (ruleAt rule2 (treesAt (now (table .entry)) i)) r (now (out .exit)) ⌝ }
+{
+    0
+}
+
+// 3. A sequence or choice of one child becomes the child, if at most one of the two has a limit.
+pub fn rule3_at(table: &[u8], extents: &[usize], i: usize, out: &mut [u8]) -> usize
+    requires { ⌜ Extents (now table) (now extents) ⌝ ∗ ⌜ i < recordCount (now table) ⌝ ∗ ⌜ length (now table) ≤ length (now out) ⌝ }
+    ensures { λ r. ⌜ Wrote (ruleAt rule3 (treesAt (now (table .entry)) i)) r (now (out .exit)) ⌝ }
+{
+    0
+}
+
+// 5. In a sequence or choice of at least two children, the first unlimited plain block of time 0 goes.
+pub fn rule5_at(table: &[u8], extents: &[usize], i: usize, out: &mut [u8]) -> usize
+    requires { ⌜ Extents (now table) (now extents) ⌝ ∗ ⌜ i < recordCount (now table) ⌝ ∗ ⌜ length (now table) ≤ length (now out) ⌝ }
+    ensures { λ r. ⌜ Wrote (ruleAt rule5 (treesAt (now (table .entry)) i)) r (now (out .exit)) ⌝ }
+{
+    0
+}
+
+// 6. In a sequence, two or more unlimited plain blocks become one of their sum, as first child.
+pub fn rule6_at(table: &[u8], extents: &[usize], i: usize, out: &mut [u8]) -> usize
+    requires { ⌜ Extents (now table) (now extents) ⌝ ∗ ⌜ i < recordCount (now table) ⌝ ∗ ⌜ length (now table) ≤ length (now out) ⌝ }
+    ensures { λ r. ⌜ Wrote (ruleAt rule6 (treesAt (now (table .entry)) i)) r (now (out .exit)) ⌝ }
+{
+    0
+}
+
+// 7. In a choice, two or more unlimited plain blocks become the largest, at the first one's place.
+pub fn rule7_at(table: &[u8], extents: &[usize], i: usize, out: &mut [u8]) -> usize
+    requires { ⌜ Extents (now table) (now extents) ⌝ ∗ ⌜ i < recordCount (now table) ⌝ ∗ ⌜ length (now table) ≤ length (now out) ⌝ }
+    ensures { λ r. ⌜ Wrote (ruleAt rule7 (treesAt (now (table .entry)) i)) r (now (out .exit)) ⌝ }
+{
+    0
+}
+
+// 8. A choice of at least two unlimited two-child sequences with the same closed second child becomes a sequence of a choice of the first children and
+// that second child.
+pub fn rule8_at(table: &[u8], extents: &[usize], marks: &[u8], i: usize, out: &mut [u8]) -> usize
+    requires { ⌜ Surveyed (now table) (now extents) (now marks) ⌝ ∗ ⌜ i < recordCount (now table) ⌝ ∗ ⌜ length (now table) ≤ length (now out) ⌝ }
+    ensures { λ r. ⌜ Wrote (ruleAt rule8 (treesAt (now (table .entry)) i)) r (now (out .exit)) ⌝ }
+{
+    0
+}
+
+// 9. An unlimited loop of plain bound 0, whose body's list names this loop or the whole run, becomes its exit.
+pub fn rule9_at(table: &[u8], extents: &[usize], marks: &[u8], i: usize, out: &mut [u8]) -> usize
+    requires { ⌜ Surveyed (now table) (now extents) (now marks) ⌝ ∗ ⌜ i < recordCount (now table) ⌝ ∗ ⌜ length (now table) ≤ length (now out) ⌝ }
+    ensures { λ r. ⌜ Wrote (ruleAt rule9 (treesAt (now (table .entry)) i)) r (now (out .exit)) ⌝ }
+{
+    0
+}
