@@ -56,3 +56,10 @@ pub and-is : (x y : Bool) → (x && y) ≡ (x and y)
 unfolding _and_
 and-is true y = refl
 and-is false y = refl
+
+-- two tests that say yes together are one
+pub same-test : (a b : Bool) → (T a → T b) → (T b → T a) → a ≡ b
+same-test true true p q = refl
+same-test true false p q = absurd (p tt)
+same-test false true p q = absurd (q tt)
+same-test false false p q = refl

@@ -8,7 +8,7 @@ use native.Mathlib.Omega.{arith}
 use lib.Dec.{T, leb, leb→le, le→leb}
 use lib.ListN.{drop, length, length-append}
 use borrow.Author.Tests.{le-leb}
-use Rattle.booleans.specs.Laws.{both, T-is, is-T, join-and}
+use Rattle.booleans.specs.Laws.{both, T-is, is-T, join-and, same-test}
 use Rattle.table.specs.Bytes.{AreBytes}
 use Rattle.table.specs.Checking.{refusal}
 use Rattle.table.specs.Numbers.{mostLoops, mostWeight, recordLength, wholeRun, mostCount, mostDepth, firstTimeSymbol}
@@ -92,14 +92,8 @@ finds-evaluated v t e h = record {
   holds = h .holds;
   pairs = λ i. pairs-are v t (e .pairs) (h .holds i .are);
   figure = λ i. top-is (h .holds i .are);
-  fits = same (e .fits) (fits v t) (λ i. h .only (T-is _ i)) (λ i. is-T _ (h .holds i .fits));
+  fits = same-test (e .fits) (fits v t) (λ i. h .only (T-is _ i)) (λ i. is-T _ (h .holds i .fits));
 }
-  where
-    same : (a b : Bool) → (T a → T b) → (T b → T a) → a ≡ b
-    same true true x y = refl
-    same true false x y = absurd (x tt)
-    same false true x y = absurd (y tt)
-    same false false x y = refl
 
 module _ (v : Values) (ranged : (k : ℕ) → k < firstTimeSymbol → v k ≤ mostCount) where
   -- by what is found of the children, whatever the fuel

@@ -1,1 +1,86 @@
--- x
+-- The facts kept of a subtree say what the rules ask, and those of a node follow from its children's.
+use mathlib.Core.Path.{_≡_, refl, ap, ap₂, sym, _∙_}
+use mathlib.Core.Bool.{Bool, true, false, cond, _||_}
+use Prim.Native.Nat.{ℕ, _+_, _*_, _-_, _<_, _≤_, max, min, suc}
+use native.Mathlib.Omega.{arith}
+use lib.Dec.{T, eqb, eqb→eq, leb, leb→le, le→leb, lt→ltb, ltb}
+use borrow.Author.Tests.{le-leb, leb-true}
+use Rattle.booleans.specs.Laws.{both, is-T, join-and, same-test}
+use Rattle.booleans.specs.Tests.{_and_}
+use Rattle.table.specs.Numbers.{mostLoops, wholeRun}
+use Rattle.table.specs.Questions.{depth, depthIn, limitInRange, listed, listedIn}
+use Rattle.table.specs.Table.{loopByte}
+use Rattle.table.specs.Trees.{Forest, Tree, nil, node, _▸_, around, records, recordsIn, rest}
+use Rattle.table.specs.Laws.Trees.{some-depth}
+use Rattle.evaluate.specs.Closed.{closed, closedIn, stays, symbolFree, symbolFreeIn}
+use Rattle.evaluate.specs.Evaluate.{name, nameIn, outward, seen}
+use Rattle.subtrees.specs.Nodes.{AtMost, Block, Choice, Kind, Limit, Loop, Sequence, Unlimited}
+use Rattle.subtrees.specs.Facts.{belowOf, childIn, noChild, outer, passed, reach, reachIn, symbols, symbolsIn}
+use Rattle.subtrees.specs.declared.Below.{Below}
+use Rattle.subtrees.specs.Laws.Forests.{Sound}
+
+-- ---- closed, by the outermost loop that a limit names
+
+same-leb : (a b c d : ℕ) → (a ≤ b → c ≤ d) → (c ≤ d → a ≤ b) → leb a b ≡ leb c d
+same-leb a b c d p q = same-test _ _ (λ t. le→leb c d (p (leb→le a b t))) (λ t. le→leb a b (q (leb→le c d t)))
+
+and-max : (a b d : ℕ) → (leb a d and leb b d) ≡ leb (max a b) d
+and-max a b d =
+    same-test _ _
+    (λ t. let (p, q) = both _ _ t in le→leb (max a b) d (omega (arith, leb→le a d p, leb→le b d q)))
+    (λ t. let l = leb→le (max a b) d t in join-and _ _ (le→leb a d (omega arith)) (le→leb b d (omega arith)))
+
+-- byte 3 of a limit is one of the listed ones
+limit-byte : (k : ℕ) → T ((leb 1 k and leb k mostLoops) || eqb k wholeRun) → 1 ≤ k
+limit-byte k h = go (leb 1 k and leb k mostLoops) refl h
+  where
+    go : (x : Bool) → (leb 1 k and leb k mostLoops) ≡ x → T (x || eqb k wholeRun) → 1 ≤ k
+    go true e t = leb→le 1 k (both _ _ (is-T _ e) .0)
+    go false e t = omega (arith, eqb→eq k wholeRun t)
+
+stays-is : (l : Limit) (d : ℕ) → T (limitInRange l) → d < wholeRun → stays l d ≡ leb (loopByte l) d
+unfolding stays loopByte limitInRange
+stays-is Unlimited d h i = sym (le-leb 0 d (omega arith))
+stays-is (AtMost k m) d h i =
+    same-test _ _
+    (λ t. both _ _ (both _ _ t .0) .1)
+    (λ t. join-and _ _ (join-and _ _ (le→leb 1 k (limit-byte k (both _ _ h .0))) t) (lt→ltb k wholeRun (omega (arith, leb→le k d t))))
+
+outer-is : (r d : ℕ) → suc d < wholeRun → leb r (suc d) ≡ leb (outer r) d
+unfolding outer
+outer-is r d h = go (leb wholeRun r) refl
+  where
+    go : (x : Bool) → leb wholeRun r ≡ x → leb r (suc d) ≡ leb (cond x wholeRun (r - 1)) d
+    go true e = same-leb r (suc d) wholeRun d (λ l. absurd (omega (arith, leb-true wholeRun r e))) (λ l. absurd (omega arith))
+    go false e = same-leb r (suc d) (r - 1) d (λ l. omega arith) (λ l. omega arith)
+
+passed-is : (k : Kind) (r d : ℕ) → suc d < wholeRun → leb r (around k d) ≡ leb (passed k r) d
+unfolding passed around
+passed-is (Block t) r d h = refl
+passed-is Sequence r d h = refl
+passed-is Choice r d h = refl
+passed-is (Loop n) r d h = outer-is r d h
+
+around-most : (k : Kind) (d : ℕ) → around k d ≤ suc d
+unfolding around
+around-most (Block t) d = omega arith
+around-most Sequence d = omega arith
+around-most Choice d = omega arith
+around-most (Loop n) d = omega arith
+
+mutual
+  unfolding closed reach listed depth
+
+  pub closed-is : (t : Tree) (d : ℕ) → T (listed t) → d + depth t < wholeRun → closed t d ≡ leb (reach t) d
+  closed-is (node n f) d l h =
+      let (p, q) = both _ _ l in
+      rw (stays-is (n .limit) d (both _ _ (both _ _ p .0) .1) (omega arith), closedIn-is (n .kind) f d q (omega arith)) (and-max _ _ d)
+
+  pub closedIn-is : (k : Kind) (f : Forest) (d : ℕ) → T (listedIn f) → d + suc (depthIn f) < wholeRun → closedIn k f d ≡ leb (reachIn k f) d
+  closedIn-is k nil d l h = sym (le-leb 0 d (omega arith))
+  closedIn-is k (t ▸ f) d l h =
+      let (p, q) = both _ _ l in
+      rw (closed-is t (around k d) p (omega (arith, around-most k d)), passed-is k (reach t) d (omega (arith, some-depth t)), closedIn-is (rest k) f d q (omega arith)) (and-max _ _ d)
+
+pub closed-at : (t : Tree) → Sound t → closed t 0 ≡ leb (reach t) 0
+closed-at t s = closed-is t 0 (s .fair .listed) (omega (arith, s .deep))
