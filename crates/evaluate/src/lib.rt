@@ -63,14 +63,14 @@ fn amount_of(number: Number, values: &[u64]) -> u64
 }
 
 // The inner of two named loops.
-fn inner_of(a: u8, b: u8) -> u8
+pub fn inner_of(a: u8, b: u8) -> u8
     ensures { λ r. ⌜ r ≡ min a b ⌝ }
 {
     if a <= b { a } else { b }
 }
 
 // A loop named inside a loop's body, counted from outside.
-fn outward_of(named: u8) -> u8
+pub fn outward_of(named: u8) -> u8
     ensures { λ r. ⌜ r ≡ outward named ⌝ }
 {
     if named <= 1 {

@@ -2,3 +2,4 @@
 pub mod Forests
 pub mod Parts
 pub mod Facts
+pub mod Survey

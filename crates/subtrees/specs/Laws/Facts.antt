@@ -2,6 +2,7 @@
 use mathlib.Core.Path.{_≡_, refl, ap, ap₂, sym, _∙_}
 use mathlib.Core.Bool.{Bool, true, false, cond, _||_}
 use Prim.Native.Nat.{ℕ, _+_, _*_, _-_, _<_, _≤_, max, min, suc}
+use native.Mathlib.Nat.{add-assoc, zero-add}
 use native.Mathlib.Omega.{arith}
 use lib.Dec.{T, eqb, eqb→eq, leb, leb→le, le→leb, lt→ltb, ltb}
 use borrow.Author.Tests.{le-leb, leb-true}
@@ -9,11 +10,12 @@ use Rattle.booleans.specs.Laws.{both, is-T, join-and, same-test}
 use Rattle.booleans.specs.Tests.{_and_}
 use Rattle.table.specs.Numbers.{mostLoops, wholeRun}
 use Rattle.table.specs.Questions.{depth, depthIn, limitInRange, listed, listedIn}
-use Rattle.table.specs.Table.{loopByte}
+use Rattle.table.specs.Table.{kindByte, loopByte}
 use Rattle.table.specs.Trees.{Forest, Tree, nil, node, _▸_, around, records, recordsIn, rest}
 use Rattle.table.specs.Laws.Trees.{some-depth}
 use Rattle.evaluate.specs.Closed.{closed, closedIn, stays, symbolFree, symbolFreeIn}
 use Rattle.evaluate.specs.Evaluate.{name, nameIn, outward, seen}
+use Rattle.evaluate.specs.Laws.Monotone.{nameIn-le}
 use Rattle.subtrees.specs.Nodes.{AtMost, Block, Choice, Kind, Limit, Loop, Sequence, Unlimited}
 use Rattle.subtrees.specs.Facts.{belowOf, childIn, noChild, outer, passed, reach, reachIn, symbols, symbolsIn}
 use Rattle.subtrees.specs.declared.Below.{Below}
@@ -84,3 +86,102 @@ mutual
 
 pub closed-at : (t : Tree) → Sound t → closed t 0 ≡ leb (reach t) 0
 closed-at t s = closed-is t 0 (s .fair .listed) (omega (arith, s .deep))
+
+-- ---- children one after the other
+
+unfoldable pub isLoop : Kind → Bool
+isLoop (Block t) = false
+isLoop Sequence = false
+isLoop Choice = false
+isLoop (Loop n) = true
+
+pub loop-byte : (k : Kind) → eqb (kindByte k) 3 ≡ isLoop k
+unfolding kindByte isLoop
+loop-byte (Block t) = refl
+loop-byte Sequence = refl
+loop-byte Choice = refl
+loop-byte (Loop n) = refl
+
+rest-loop : (k : Kind) → isLoop (rest k) ≡ false
+unfolding isLoop rest
+rest-loop (Block t) = refl
+rest-loop Sequence = refl
+rest-loop Choice = refl
+rest-loop (Loop n) = refl
+
+seen-loop : (k : Kind) (n : ℕ) → cond (isLoop k) (outward n) n ≡ seen k n
+unfolding isLoop seen
+seen-loop (Block t) n = refl
+seen-loop Sequence n = refl
+seen-loop Choice n = refl
+seen-loop (Loop m) n = refl
+
+passed-loop : (k : Kind) (n : ℕ) → cond (isLoop k) (outer n) n ≡ passed k n
+unfolding isLoop passed
+passed-loop (Block t) n = refl
+passed-loop Sequence n = refl
+passed-loop Choice n = refl
+passed-loop (Loop m) n = refl
+
+-- the children so far, s, and those of f, the first of them a loop's body or not
+unfoldable pub moreChildren : (body : Bool) → Below → Forest → Below
+moreChildren body s nil = s
+moreChildren body s (t ▸ f) = moreChildren false (childIn body s (records t) (symbols t) (name t) (reach t)) f
+
+abbrev with-below : Below → Below → Below
+with-below s c = record { records = s .records + c .records; symbols = max (s .symbols) (c .symbols); named = min (s .named) (c .named); reach = max (s .reach) (c .reach) }
+
+symbols-more : (t : Tree) (f : Forest) → symbolsIn (t ▸ f) ≡ max (symbols t) (symbolsIn f)
+unfolding symbols symbolsIn symbolFreeIn
+symbols-more t f = go (symbolFree t) (symbolFreeIn f)
+  where
+    go : (x y : Bool) → cond (x and y) 0 1 ≡ max (cond x 0 1) (cond y 0 1)
+    go true true = unfold _and_ in refl
+    go true false = unfold _and_ in refl
+    go false true = unfold _and_ in refl
+    go false false = unfold _and_ in refl
+
+max-assoc : (a b c : ℕ) → max (max a b) c ≡ max a (max b c)
+max-assoc a b c = omega arith
+
+min-assoc : (a b c : ℕ) → min (min a b) c ≡ min a (min b c)
+min-assoc a b c = omega arith
+
+-- the same, one field after the other
+child-below : (k : Kind) (t : Tree) (f : Forest) (s : Below)
+    → with-below (childIn (isLoop k) s (records t) (symbols t) (name t) (reach t)) (belowOf (rest k) f) ≡ with-below s (belowOf k (t ▸ f))
+unfolding recordsIn nameIn reachIn
+child-below k t f s = λ i. record {
+  records = add-assoc (s .records) (records t) (recordsIn f) i;
+  symbols = (max-assoc (s .symbols) (symbols t) (symbolsIn f) ∙ ap (max (s .symbols)) (sym (symbols-more t f))) i;
+  named = (ap (λ x. min (min (s .named) x) (nameIn (rest k) f)) (seen-loop k (name t)) ∙ min-assoc (s .named) (seen k (name t)) (nameIn (rest k) f)) i;
+  reach = (ap (λ x. max (max (s .reach) x) (reachIn (rest k) f)) (passed-loop k (reach t)) ∙ max-assoc (s .reach) (passed k (reach t)) (reachIn (rest k) f)) i;
+}
+
+more-children : (k : Kind) (f : Forest) (s : Below) → s .named ≤ wholeRun → moreChildren (isLoop k) s f ≡ with-below s (belowOf k f)
+unfolding moreChildren recordsIn nameIn reachIn symbolsIn symbolFreeIn
+more-children k nil s h = λ i. record { records = nil-add (s .records) i; symbols = nil-max (s .symbols) i; named = nil-min (s .named) h i; reach = nil-max (s .reach) i }
+  where
+    nil-add : (n : ℕ) → n ≡ n + 0
+    nil-add n = omega arith
+
+    nil-max : (n : ℕ) → n ≡ max n 0
+    nil-max n = omega arith
+
+    nil-min : (n : ℕ) → n ≤ wholeRun → n ≡ min n wholeRun
+    nil-min n h = omega arith
+more-children k (t ▸ f) s h =
+    ap (λ x. moreChildren x (childIn (isLoop k) s (records t) (symbols t) (name t) (reach t)) f) (sym (rest-loop k))
+    ∙ more-children (rest k) f (childIn (isLoop k) s (records t) (symbols t) (name t) (reach t)) (omega arith) ∙ child-below k t f s
+
+pub all-children : (k : Kind) (f : Forest) → moreChildren (isLoop k) noChild f ≡ belowOf k f
+all-children k f = more-children k f noChild (omega arith) ∙ none-before
+  where
+    none-before : with-below noChild (belowOf k f) ≡ belowOf k f
+    none-before = λ i. record { records = zero-add (recordsIn f) i; symbols = zero-max (symbolsIn f) i; named = run-min (nameIn k f) (nameIn-le k f) i; reach = zero-max (reachIn k f) i }
+      where
+        zero-max : (n : ℕ) → max 0 n ≡ n
+        zero-max n = omega arith
+
+        run-min : (n : ℕ) → n ≤ wholeRun → min wholeRun n ≡ n
+        run-min n h = omega arith

@@ -2,6 +2,7 @@
 use mathlib.Core.Path.{_≡_, refl, ap, sym, _∙_, subst}
 use mathlib.Core.List.{List, _++_, [], append-assoc, append-nil}
 use Prim.Native.Nat.{ℕ, _+_, _-_, _*_, _≤_, _<_, suc}
+use native.Mathlib.Numerals.{add-one}
 use native.Mathlib.Omega.{arith}
 use lib.ListN.{drop, length, length-drop, take}
 use lib.Seq.{drop-at, take-at}
@@ -11,9 +12,10 @@ use Rattle.table.specs.Table.{childByte, decode, encode, encodes, firstNode, fo
 use Rattle.table.specs.Trees.{Forest, Tree, nil, node, _▸_, _⧺_, records, recordsIn, size}
 use Rattle.table.specs.Laws.NotRefused.{tree-writes}
 use Rattle.table.specs.Laws.RoundTrip.{Writes, children-bytes, head-bytes, length-encode, length-encodes}
+use Rattle.table.specs.Laws.Trees.{some-records}
 use Rattle.subtrees.specs.Nodes.{Node}
 use Rattle.subtrees.specs.Parts.{Simplifiable, subtree, treesAt}
-use Rattle.subtrees.specs.Laws.Forests.{Sound, SoundIn, below, drop-from, encodes-⧺, from, from-add, from-next, from-records, from-row, from-sound, row-back}
+use Rattle.subtrees.specs.Laws.Forests.{Sound, SoundIn, below, drop-from, encodes-⧺, from, from-add, from-next, from-records, from-row, from-sound, records-⧺, row-back}
 
 -- the node at record i with its children, and what stands after them
 pub record Here (b : List ℕ) (i : ℕ) : Type 0 where
@@ -103,3 +105,57 @@ module _ (b : List ℕ) (s : Simplifiable b) where
         sound = first-sound n f g (subst SoundIn e (sound-at i));
         bytes = sym (back-at i) ∙ ap encodes e ∙ row-bytes n f g;
       }
+
+-- ---- trees of a row one after the other, as a loop over a node's children reads them
+
+-- `left` trees stand from record p on, and others after them
+pub record Row (b : List ℕ) (p left : ℕ) : Type 0 where
+  pub trees : Forest
+  pub later : Forest
+  pub row : treesAt b p ≡ trees ⧺ later
+  pub many : size trees ≡ left
+  pub last : p + left ≤ recordCount b
+
+some-each : (f : Forest) → size f ≤ recordsIn f
+unfolding size recordsIn
+some-each nil = omega arith
+some-each (t ▸ f) = omega (arith, some-each f, some-records t)
+
+-- the first of them, and the others
+pub record First (b : List ℕ) (p left : ℕ) (r : Row b p left) : Type 0 where
+  pub tree : Tree
+  pub others : Row b (p + records tree) (left - 1)
+  pub split : r .trees ≡ tree ▸ others .trees
+  pub same : others .later ≡ r .later
+  pub here : subtree b p ≡ tree
+  pub inside : p + records tree ≤ recordCount b
+
+module _ (b : List ℕ) (s : Simplifiable b) where
+  -- a node's children
+  pub kids-last : (i : ℕ) (h : Here b i) → i + 1 + size (h .kids) ≤ recordCount b
+  unfolding records recordsIn
+  kids-last i h = omega (arith, records-at b s i, ap recordsIn (h .here), some-each (h .kids))
+
+  abbrev pub kids-row : (i : ℕ) (h : Here b i) → Row b (i + 1) (size (h .kids))
+  kids-row i h = record { trees = h .kids; later = h .later; row = rw add-one (h .next); many = refl; last = kids-last i h }
+
+  -- past the first tree
+  past-first : (p : ℕ) (t : Tree) (g : Forest) → treesAt b p ≡ t ▸ g → (treesAt b (p + records t) ≡ g) × (p + records t ≤ recordCount b)
+  unfolding _⧺_ recordsIn
+  past-first p t g e =
+      let n : p + (records t + 0) ≡ p + records t = omega arith in
+      (rw n at (skip-at b s p (t ▸ nil) g e), omega (arith, records-at b s p, ap recordsIn e, some-records t))
+
+  past-last : (p : ℕ) (t : Tree) (f g : Forest) → treesAt b p ≡ t ▸ (f ⧺ g) → p + records t + size f ≤ recordCount b
+  unfolding recordsIn
+  past-last p t f g e = omega (arith, records-at b s p, ap recordsIn e, some-records t, records-⧺ f g, some-each f)
+
+  pub first-row : (p left : ℕ) (r : Row b p left) → 0 < left → First b p left r
+  unfolding size _⧺_ subtree top
+  first-row p left r l = go (r .trees) refl (r .row) (r .many)
+    where
+      go : (f : Forest) → r .trees ≡ f → treesAt b p ≡ f ⧺ r .later → size f ≡ left → First b p left r
+      go nil e q m = absurd (omega arith)
+      go (t ▸ f) e q m =
+          let (past, inside) = past-first p t (f ⧺ r .later) q in
+          record { tree = t; others = record { trees = f; later = r .later; row = past; many = omega arith; last = omega (arith, past-last p t f (r .later) q) }; split = e; same = refl; here = ap top q; inside = inside }
