@@ -7,7 +7,7 @@ ghost use Rattle.table.specs.Numbers.{mostRecords};
 ghost use Rattle.table.specs.Table.{recordCount};
 ghost use Rattle.subtrees.specs.Parts.{Simplifiable, treesAt};
 ghost use Rattle.subtrees.specs.Facts.{Known, Surveyed, belowAt, childIn, marksEach, outer};
-ghost use Rattle.subtrees.specs.Marks.{marked};
+ghost use Rattle.subtrees.specs.Marks.{flagged, limitedName, marked};
 use table::MOST_RECORDS;
 use table::RECORD_LENGTH;
 use table::WHOLE_RUN;
@@ -105,4 +105,60 @@ fn below_of(table: &[u8], i: usize, extents: &[usize], marks: &[u8]) -> Below
         left -= 1;
     }
     found
+}
+
+// Whether there is a symbol, by a record's flags and by what stands below it.
+fn with_flags(flags: u8, symbols: u8) -> u8
+    ensures { λ r. ⌜ r ≡ flagged flags symbols ⌝ }
+{
+    if flags == 0 { symbols } else { 1 }
+}
+
+// The loop that a list names, by byte 3 of the node's record and by its children.
+fn with_limit(limit: u8, named: u8) -> u8
+    ensures { λ r. ⌜ r ≡ limitedName limit named ⌝ }
+{
+    if limit == 0 {
+        return named;
+    }
+    evaluate::inner_of(limit, named)
+}
+
+fn put_marks(marks: &mut [u8], i: usize, symbols: u8, named: u8, reach: u8, below: u8)
+    requires { ⌜ marksEach * i + marksEach ≤ length (now marks) ⌝ }
+    ensures { λ _. ⌜ now (marks .exit) ≡ marked (now (marks .entry)) i symbols named reach below ⌝ }
+{
+    let at = MARKS * i;
+    marks[at] = symbols;
+    marks[at + 1] = named;
+    marks[at + 2] = reach;
+    marks[at + 3] = below;
+}
+
+// Keeps the facts of record i, where those of all later records are kept.
+fn mark_record(table: &[u8], i: usize, extents: &mut [usize], marks: &mut [u8])
+    requires { ⌜ Simplifiable (now table) ⌝ ∗ ⌜ i < recordCount (now table) ⌝ ∗ ⌜ Known (now table) (now extents) (now marks) (i + 1) ⌝ }
+    requires { ⌜ (recordCount (now table) ≤ length (now extents)) × (marksEach * recordCount (now table) ≤ length (now marks)) ⌝ }
+    ensures { λ _. ⌜ Known (now (table .entry)) (now (extents .exit)) (now (marks .exit)) i ⌝ }
+{
+    let below = below_of(table, i, extents, marks);
+    let start = RECORD_LENGTH * i;
+    let limit = table[start + 3];
+    let symbols = with_flags(table[start + 1], below.symbols);
+    let named = with_limit(limit, below.named);
+    let reach = larger_of(limit, below.reach);
+    extents[i] = below.records + 1;
+    put_marks(marks, i, symbols, named, reach, below.reach);
+}
+
+// The facts of every record: one pass from the last to the first, in which each record is read once for itself and once as a child.
+pub fn survey(table: &[u8], extents: &mut [usize], marks: &mut [u8])
+    requires { ⌜ Simplifiable (now table) ⌝ ∗ ⌜ (recordCount (now table) ≤ length (now extents)) × (marksEach * recordCount (now table) ≤ length (now marks)) ⌝ }
+    ensures { λ _. ⌜ Surveyed (now (table .entry)) (now (extents .exit)) (now (marks .exit)) ⌝ }
+{
+    let mut i = table.len() / RECORD_LENGTH;
+    while 0 < i {
+        i -= 1;
+        mark_record(table, i, extents, marks);
+    }
 }

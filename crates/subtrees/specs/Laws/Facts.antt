@@ -33,7 +33,7 @@ and-max a b d =
     (λ t. let l = leb→le (max a b) d t in join-and _ _ (le→leb a d (omega arith)) (le→leb b d (omega arith)))
 
 -- byte 3 of a limit is one of the listed ones
-limit-byte : (k : ℕ) → T ((leb 1 k and leb k mostLoops) || eqb k wholeRun) → 1 ≤ k
+pub limit-byte : (k : ℕ) → T ((leb 1 k and leb k mostLoops) || eqb k wholeRun) → 1 ≤ k
 limit-byte k h = go (leb 1 k and leb k mostLoops) refl h
   where
     go : (x : Bool) → (leb 1 k and leb k mostLoops) ≡ x → T (x || eqb k wholeRun) → 1 ≤ k

@@ -1,24 +1,30 @@
 -- The pass over a table that finds the facts of every record, from the last to the first.
 use mathlib.Core.Path.{_≡_, refl, ap, sym, _∙_}
-use mathlib.Core.Bool.{Bool, false}
-use mathlib.Core.List.{List}
-use Prim.Native.Nat.{ℕ, _+_, _*_, _-_, _<_, _≤_, suc}
+use mathlib.Core.Bool.{Bool, cond, false, true}
+use mathlib.Core.List.{List, _++_}
+use Prim.Native.Nat.{ℕ, _+_, _*_, _-_, _<_, _≤_, max, suc}
 use native.Mathlib.Omega.{arith}
-use lib.Dec.{eqb}
-use lib.ListN.{getD}
-use lib.Seq.{getD-drop}
+use lib.Dec.{T, eqb, ltb}
+use lib.ListN.{getD, length, length-set, set}
+use lib.Seq.{getD-drop, getD-set-other, getD-set-same}
+use borrow.Author.Tests.{ltb-false, ltb-true, ne-eqb}
+use Rattle.booleans.specs.Laws.{both}
+use Rattle.booleans.specs.Tests.{_and_}
 use Rattle.table.specs.Numbers.{mostRecords, recordLength}
-use Rattle.table.specs.Table.{childByte, kindByte, recordBytes, recordCount}
-use Rattle.table.specs.Trees.{Forest, Tree, nil, node, _▸_, records, recordsIn, size}
+use Rattle.table.specs.Table.{childByte, encodes, flag, top, kindByte, limitNum, loopByte, recordBytes, recordCount, valueNum}
+use Rattle.table.specs.Questions.{limitInRange, listed}
+use Rattle.table.specs.Trees.{Forest, Tree, nil, node, _▸_, _⧺_, records, recordsIn, size}
 use Rattle.table.specs.Laws.Reading.{part-from, partAt}
 use Rattle.table.specs.Laws.RoundTrip.{children-bytes}
 use Rattle.table.specs.Laws.Trees.{some-records}
-use Rattle.evaluate.specs.Evaluate.{name}
-use Rattle.subtrees.specs.Nodes.{Node}
-use Rattle.subtrees.specs.Facts.{Known, belowAt, belowOf, childIn, marksEach, noChild, reach, symbols}
+use Rattle.evaluate.specs.Closed.{isPlain, plainKind, plainLimit, symbolFree, symbolFreeIn}
+use Rattle.evaluate.specs.Evaluate.{inner, name}
+use Rattle.subtrees.specs.Nodes.{AtMost, Block, Choice, Kind, Limit, Loop, Node, Number, Plain, Sequence, Symbol, Unlimited}
+use Rattle.subtrees.specs.Facts.{Known, MarkedAt, belowAt, belowOf, childIn, marksEach, noChild, reach, reachBelow, symbols, symbolsIn}
+use Rattle.subtrees.specs.Marks.{flagged, limitedName, marked}
 use Rattle.subtrees.specs.Parts.{Simplifiable, subtree, treesAt}
 use Rattle.subtrees.specs.declared.Below.{Below}
-use Rattle.subtrees.specs.Laws.Facts.{all-children, isLoop, loop-byte, moreChildren}
+use Rattle.subtrees.specs.Laws.Facts.{all-children, isLoop, limit-byte, loop-byte, moreChildren}
 use Rattle.subtrees.specs.Laws.Parts.{First, Here, Row, few-records, first-row, here-at, kids-row, records-at}
 
 -- ---- bytes of the record at i
@@ -87,7 +93,7 @@ module _ (b : List ℕ) (s : Simplifiable b) where
         let t = first .tree in
         let f = first .others .trees in
         let n : next ≡ childIn body found (records t) (symbols t) (name t) (reach t) =
-            e ∙ rw (extent, m .symbols ∙ ap symbols (first .here), m .named ∙ ap name (first .here), m .reach ∙ ap reach (first .here)) refl in
+        e ∙ rw (extent, m .symbols ∙ ap symbols (first .here), m .named ∙ ap name (first .here), m .reach ∙ ap reach (first .here)) refl in
         rw (extent, n) (record {
           row = first .others;
           sum = sym (ap (moreChildren body found) (first .split)) ∙ w .sum;
@@ -103,3 +109,167 @@ module _ (b : List ℕ) (s : Simplifiable b) where
       go : (f : Forest) → size f ≡ left → moreChildren body found f ≡ all → found ≡ all
       go nil m e = e
       go (t ▸ f) m e = absurd (omega arith)
+
+-- ---- the facts of the record itself
+
+-- byte k of the record at i
+byte-at : (b : List ℕ) (i k : ℕ) (h : Here b i) → getD b (recordLength * i + k) 0 ≡ getD (recordBytes (h .own) (size (h .kids)) ++ encodes (h .kids ⧺ h .later)) k 0
+byte-at b i k h = sym (getD-drop (recordLength * i) b k 0) ∙ ap (λ x. getD x k 0) (h .bytes)
+
+pub limit-at : (b : List ℕ) (i : ℕ) (h : Here b i) → getD b (recordLength * i + 3) 0 ≡ loopByte (h .own .limit)
+unfolding recordBytes
+limit-at b i h = byte-at b i 3 h
+
+pub flags-at : (b : List ℕ) (i : ℕ) (h : Here b i) → getD b (recordLength * i + 1) 0 ≡ flag (valueNum (h .own .kind)) + 2 * flag (limitNum (h .own .limit))
+unfolding recordBytes
+flags-at b i h = byte-at b i 1 h
+
+plain-flag : (m : Number) → isPlain m ≡ eqb (flag m) 0
+unfolding isPlain flag
+plain-flag (Plain n) = refl
+plain-flag (Symbol n) = refl
+
+plain-value : (k : Kind) → plainKind k ≡ eqb (flag (valueNum k)) 0
+unfolding plainKind valueNum flag
+plain-value (Block t) = plain-flag t
+plain-value Sequence = refl
+plain-value Choice = refl
+plain-value (Loop n) = plain-flag n
+
+plain-most : (l : Limit) → plainLimit l ≡ eqb (flag (limitNum l)) 0
+unfolding plainLimit limitNum flag
+plain-most Unlimited = refl
+plain-most (AtMost k m) = plain-flag m
+
+both-flags : (v m : Number) → (eqb (flag v) 0 and eqb (flag m) 0) ≡ eqb (flag v + 2 * flag m) 0
+unfolding flag _and_
+both-flags (Plain a) (Plain b) = refl
+both-flags (Plain a) (Symbol b) = refl
+both-flags (Symbol a) (Plain b) = refl
+both-flags (Symbol a) (Symbol b) = refl
+
+-- a symbol in the record, or below it
+pub symbols-of : (n : Node) (f : Forest) → flagged (flag (valueNum (n .kind)) + 2 * flag (limitNum (n .limit))) (symbolsIn f) ≡ symbols (node n f)
+unfolding symbols symbolsIn symbolFree
+symbols-of n f = rw (plain-value (n .kind), plain-most (n .limit), both-flags (valueNum (n .kind)) (limitNum (n .limit))) (go (eqb (flag (valueNum (n .kind)) + 2 * flag (limitNum (n .limit))) 0) (symbolFreeIn f))
+  where
+    go : (x y : Bool) → _≡_ {A = ℕ} (cond x (cond y 0 1) 1) (cond (x and y) 0 1)
+    go true y = unfold _and_ in refl
+    go false y = unfold _and_ in refl
+
+pub name-of : (l : Limit) (k : ℕ) → T (limitInRange l) → limitedName (loopByte l) k ≡ inner l k
+unfolding loopByte inner limitInRange
+name-of Unlimited k h = refl
+name-of (AtMost j m) k h = rw (ne-eqb j 0 (λ e. omega (arith, limit-byte j (both _ _ h .0)))) refl
+
+-- ---- the marks of a record, written
+
+module _ (marks : List ℕ) (i y k r u : ℕ) (l : marksEach * i + marksEach ≤ length marks) where
+  one : List ℕ
+  one = set marks (marksEach * i) y
+
+  two : List ℕ
+  two = set one (marksEach * i + 1) k
+
+  three : List ℕ
+  three = set two (marksEach * i + 2) r
+
+  marked-other : (n : ℕ) → (n ≡ marksEach * i → ⊥) → (n ≡ marksEach * i + 1 → ⊥) → (n ≡ marksEach * i + 2 → ⊥) → (n ≡ marksEach * i + 3 → ⊥)
+      → getD (marked marks i y k r u) n 0 ≡ getD marks n 0
+  unfolding marked one two three
+  marked-other n p q s t =
+      getD-set-other three (marksEach * i + 3) n u 0 t ∙ getD-set-other two (marksEach * i + 2) n r 0 s
+      ∙ getD-set-other one (marksEach * i + 1) n k 0 q ∙ getD-set-other marks (marksEach * i) n y 0 p
+
+  marked-symbols : getD (marked marks i y k r u) (marksEach * i) 0 ≡ y
+  unfolding marked one two three
+  marked-symbols =
+      getD-set-other three (marksEach * i + 3) (marksEach * i) u 0 (λ e. omega arith) ∙ getD-set-other two (marksEach * i + 2) (marksEach * i) r 0 (λ e. omega arith)
+      ∙ getD-set-other one (marksEach * i + 1) (marksEach * i) k 0 (λ e. omega arith) ∙ getD-set-same marks (marksEach * i) y 0 (omega arith)
+
+  marked-named : getD (marked marks i y k r u) (marksEach * i + 1) 0 ≡ k
+  unfolding marked one two three
+  marked-named =
+      getD-set-other three (marksEach * i + 3) (marksEach * i + 1) u 0 (λ e. omega arith) ∙ getD-set-other two (marksEach * i + 2) (marksEach * i + 1) r 0 (λ e. omega arith)
+      ∙ getD-set-same one (marksEach * i + 1) k 0 (simp length-set (omega arith))
+
+  marked-reach : getD (marked marks i y k r u) (marksEach * i + 2) 0 ≡ r
+  unfolding marked one two three
+  marked-reach =
+      getD-set-other three (marksEach * i + 3) (marksEach * i + 2) u 0 (λ e. omega arith) ∙ getD-set-same two (marksEach * i + 2) r 0 (simp length-set (omega arith))
+
+  marked-below : getD (marked marks i y k r u) (marksEach * i + 3) 0 ≡ u
+  unfolding marked one two three
+  marked-below = getD-set-same three (marksEach * i + 3) u 0 (simp length-set (omega arith))
+
+  pub marked-length : length (marked marks i y k r u) ≡ length marks
+  unfolding marked
+  marked-length = simp length-set refl
+
+  -- the marks of another record stay
+  marked-later : (b : List ℕ) (j : ℕ) → i < j → MarkedAt b marks j → MarkedAt b (marked marks i y k r u) j
+  marked-later b j o m = record {
+    symbols = marked-other (marksEach * j) (λ e. omega arith) (λ e. omega arith) (λ e. omega arith) (λ e. omega arith) ∙ m .symbols;
+    named = marked-other (marksEach * j + 1) (λ e. omega arith) (λ e. omega arith) (λ e. omega arith) (λ e. omega arith) ∙ m .named;
+    reach = marked-other (marksEach * j + 2) (λ e. omega arith) (λ e. omega arith) (λ e. omega arith) (λ e. omega arith) ∙ m .reach;
+    below = marked-other (marksEach * j + 3) (λ e. omega arith) (λ e. omega arith) (λ e. omega arith) (λ e. omega arith) ∙ m .below;
+  }
+
+module _ (b : List ℕ) (s : Simplifiable b) (i : ℕ) (l : i < recordCount b) where
+  h : Here b i
+  h = here-at b s i l
+
+  at-here : subtree b i ≡ node (h .own) (h .kids)
+  unfolding subtree top
+  at-here = ap top (h .here)
+
+  come : belowAt (treesAt b i) ≡ belowOf (h .own .kind) (h .kids)
+  unfolding belowAt
+  come = ap belowAt (h .here)
+
+  ranged : T (limitInRange (h .own .limit))
+  unfolding listed
+  ranged = let (p, q) = both _ _ (h .sound .fair .listed) in both _ _ (both _ _ p .0) .1
+
+  -- what is kept of the record, by its bytes and what its children come to
+  abbrev pub newExtents : List ℕ → Below → List ℕ
+  newExtents extents c = set extents i (c .records + 1)
+
+  abbrev pub newMarks : List ℕ → Below → List ℕ
+  newMarks marks c =
+      marked marks i (flagged (getD b (recordLength * i + 1) 0) (c .symbols)) (limitedName (getD b (recordLength * i + 3) 0) (c .named))
+      (max (getD b (recordLength * i + 3) 0) (c .reach)) (c .reach)
+
+  fresh-extent : (extents : List ℕ) → recordCount b ≤ length extents → (c : Below) → c ≡ belowAt (treesAt b i) → getD (newExtents extents c) i 0 ≡ records (subtree b i)
+  unfolding records
+  fresh-extent extents room c e = getD-set-same extents i (c .records + 1) 0 (omega arith) ∙ rw (e ∙ come, at-here) (omega arith)
+
+  fresh-marks : (marks : List ℕ) → marksEach * recordCount b ≤ length marks → (c : Below) → c ≡ belowAt (treesAt b i) → MarkedAt b (newMarks marks c) i
+  unfolding name reach reachBelow
+  fresh-marks marks space c e =
+      let long : marksEach * i + marksEach ≤ length marks = omega arith in
+      record {
+        symbols = marked-symbols marks i _ _ _ _ long ∙ rw (e ∙ come, at-here, flags-at b i h) (symbols-of (h .own) (h .kids));
+        named = marked-named marks i _ _ _ _ long ∙ rw (e ∙ come, at-here, limit-at b i h) (name-of (h .own .limit) _ ranged);
+        reach = marked-reach marks i _ _ _ _ long ∙ rw (e ∙ come, at-here, limit-at b i h) refl;
+        below = marked-below marks i _ _ _ _ long ∙ rw (e ∙ come, at-here) refl;
+      }
+
+  pub few-below : (c : Below) → c ≡ belowAt (treesAt b i) → c .records + 1 ≤ mostRecords
+  few-below c e =
+      omega (arith, ap (λ x. x .records) (e ∙ come), records-at b s i, few-records b s, ap recordsIn (h .here), first-records (h .own) (h .kids) (h .later))
+
+  pub known-next : (extents marks : List ℕ) → recordCount b ≤ length extents → marksEach * recordCount b ≤ length marks → Known b extents marks (i + 1)
+      → (c : Below) → c ≡ belowAt (treesAt b i) → Known b (newExtents extents c) (newMarks marks c) i
+  known-next extents marks room space k c e = record { sizes = λ j p q. sizes j p q (ltb i j) refl; each = λ j p q. each j p q (ltb i j) refl }
+    where
+      same : (j : ℕ) → i ≤ j → ltb i j ≡ false → j ≡ i
+      same j p t = omega (arith, ltb-false i j t)
+
+      sizes : (j : ℕ) → i ≤ j → j < recordCount b → (x : Bool) → ltb i j ≡ x → getD (newExtents extents c) j 0 ≡ records (subtree b j)
+      sizes j p q true t = getD-set-other extents i j _ 0 (λ d. omega (arith, ltb-true i j t)) ∙ k .sizes j (omega (arith, ltb-true i j t)) q
+      sizes j p q false t = rw (same j p t) (fresh-extent extents room c e)
+
+      each : (j : ℕ) → i ≤ j → j < recordCount b → (x : Bool) → ltb i j ≡ x → MarkedAt b (newMarks marks c) j
+      each j p q true t = marked-later marks i _ _ _ _ (omega arith) b j (ltb-true i j t) (k .each j (omega (arith, ltb-true i j t)) q)
+      each j p q false t = rw (same j p t) (fresh-marks marks space c e)
