@@ -295,7 +295,7 @@ pub fn evaluate_node(
 // The `count` children at the front of `table` of a node of this kind, each at most `depth` nodes deep.
 // Their list grows in `out`, and each child's own stands in an array of this call.
 // A child that does not fit ends the walk: it tells no place for the next, and so no record is read twice.
-fn evaluate_children(
+pub fn evaluate_children(
     table: &[u8],
     values: &[u64],
     depth: usize,

@@ -63,7 +63,7 @@ unfolding const Canonical width
 none-yet = record { holds = found-holds (const 0) (ever 0) 0 wholeRun 0 (are-pairs tt (expand-ever 0)) (omega arith); falls = const-falls 0; low = omega arith; inner = omega arith }
 
 -- from no children on
-from-none : (v : Values) (k : Kind) (f : Forest) (e : Found) → More v (const 0) 0 wholeRun 0 k f e
+pub from-none : (v : Values) (k : Kind) (f : Forest) (e : Found) → More v (const 0) 0 wholeRun 0 k f e
     → Finds ((before v k f 0 ≤ mostTime) × T (fitsIn v f)) e (before v k f) (boundIn k f) (nameIn k f) (recordsIn f)
 from-none v k f e h =
     let i : join k (const 0) (before v k f) ≡ before v k f = zero-join k _ (before-falls v k f) in

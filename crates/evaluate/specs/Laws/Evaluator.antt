@@ -22,10 +22,10 @@ use Rattle.lists.specs.Pairs.{top, ever}
 use Rattle.lists.specs.Streams.{Stream, const}
 use Rattle.lists.specs.Laws.Pairs.{top-is}
 use Rattle.evaluate.specs.Nodes.{Kind, Node, Block, Sequence, Choice, Loop}
-use Rattle.evaluate.specs.Evaluate.{Values, name, list, figure, fits, start}
+use Rattle.evaluate.specs.Evaluate.{Values, before, name, list, figure, fits, start}
 use Rattle.evaluate.specs.Evaluator.{andThen, limited, evaluateBelow, evaluateNode, Found, found, evaluateMore}
 use Rattle.evaluate.specs.ListPairs.{listPairs}
-use Rattle.evaluate.specs.Laws.Children.{More, SoFar, rest-start, no-more, none-yet, below-finds, next-more}
+use Rattle.evaluate.specs.Laws.Children.{More, SoFar, rest-start, from-none, no-more, none-yet, below-finds, next-more}
 use Rattle.evaluate.specs.Laws.Found.{Holds, Finds, known-finds, same-finds, then-finds, limited-holds}
 use Rattle.evaluate.specs.Laws.ListPairs.{pairs-are}
 use Rattle.evaluate.specs.Laws.PairCount.{bound, boundIn}
@@ -132,6 +132,18 @@ module _ (v : Values) (ranged : (k : ℕ) → k < firstTimeSymbol → v k ≤ mo
         next-more v ranged k t f (evaluateNode v h) b a w j m s g (c .ranged) u
         (tree-finds t (around k d) h _ (encodes f ++ z) (ap (λ n. drop (recordLength * n) b) (g .holds .records) ∙ q) (fair-first k t f d c) (omega arith))
         (λ r i. forest-finds f (rest k) d h b z _ _ _ _ r (drop-tree t m b (encodes f ++ z) q) (fair-rest k t f d c) (omega arith) (rest-start v k) i (omega arith))
+
+  -- a node's children, before its own limit, where question 10 says yes
+  pub children-found : (n : Node) (f : Forest) (d h : ℕ) (b z : List ℕ) → b ≡ encodes f ++ z → Fair (node n f) d → depthIn f ≤ h → start v (n .kind) ≡ const 0 → T (fits v (node n f))
+      → let e = evaluateMore v (evaluateNode v h) (n .kind) (size f) b (found (ever 0) wholeRun 0) in (e .fits ≡ true) × (top (e .pairs) ≡ before v (n .kind) f 0)
+  unfolding fits
+  children-found n f d h b z e a l o q =
+      let c = fair-below n f d a in
+      let (x, y) = both _ _ q in
+      let m = from-none v (n .kind) f _
+        (forest-finds f (n .kind) d h b z (const 0) 0 wholeRun 0 _ e c l o none-yet (omega (arith, boundIn-weight (n .kind) f d (c .nested) (c .named), c .weighed))) in
+      let w = m .holds (leb→le _ _ x, y) in
+      (w .fits, top-is (w .are))
 
   pub evaluated : (t : Tree) (d h : ℕ) (b z : List ℕ) → b ≡ encode t ++ z → Fair t d → depth t ≤ h → Evaluated v t (evaluateNode v h b)
   evaluated t d h b z e a l = finds-evaluated v t _ (tree-finds t d h b z e a l)
