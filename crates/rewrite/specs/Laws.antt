@@ -1,2 +1,3 @@
 -- Laws, in the order in which they lean on each other.
+pub mod Writing
 pub mod Children

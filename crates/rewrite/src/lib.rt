@@ -40,11 +40,106 @@ fn copy_records(table: &[u8], i: usize, n: usize, out: &mut [u8], at: usize) -> 
     at + n
 }
 
+// A number's flag, and its field.
+fn flag_of(number: Number) -> u8
+    ensures { λ r. ⌜ (r ≡ flag number) × (r ≤ 1) ⌝ }
+{
+    match number {
+        Number::Plain(_) => 0,
+        Number::Symbol(_) => 1,
+    }
+}
+
+fn raw_of(number: Number) -> u64
+    ensures { λ r. ⌜ r ≡ raw number ⌝ }
+{
+    match number {
+        Number::Plain(n) => n,
+        Number::Symbol(n) => n,
+    }
+}
+
+fn kind_byte(kind: Kind) -> u8
+    ensures { λ r. ⌜ r ≡ kindByte kind ⌝ }
+{
+    match kind {
+        Kind::Block(_) => 0,
+        Kind::Sequence => 1,
+        Kind::Choice => 2,
+        Kind::Loop(_) => 3,
+    }
+}
+
+// A block's time, a loop's bound.
+fn value_of(kind: Kind) -> Number
+    ensures { λ r. ⌜ r ≡ valueNum kind ⌝ }
+{
+    match kind {
+        Kind::Block(value) => value,
+        Kind::Sequence => Number::Plain(0),
+        Kind::Choice => Number::Plain(0),
+        Kind::Loop(value) => value,
+    }
+}
+
+fn loop_byte(limit: Limit) -> u8
+    ensures { λ r. ⌜ r ≡ loopByte limit ⌝ }
+{
+    match limit {
+        Limit::Unlimited => 0,
+        Limit::AtMost(name, _) => name,
+    }
+}
+
+fn most_of(limit: Limit) -> Number
+    ensures { λ r. ⌜ r ≡ limitNum limit ⌝ }
+{
+    match limit {
+        Limit::Unlimited => Number::Plain(0),
+        Limit::AtMost(_, most) => most,
+    }
+}
+
 // A record's sixteen bytes.
 fn record_of(kind: Kind, limit: Limit, count: u8) -> [u8; RECORD_LENGTH]
     ensures { λ r. ⌜ r ≡ recordBytes (nodeOf kind limit) count ⌝ }
 {
-    [0; RECORD_LENGTH]
+    let value = value_of(kind);
+    let most = most_of(limit);
+    let v = raw_of(value);
+    let m = raw_of(most);
+    [
+        kind_byte(kind),
+        flag_of(value) + 2 * flag_of(most),
+        count,
+        loop_byte(limit),
+        (m % 256) as u8,
+        (m / 256 % 256) as u8,
+        (m / 256 / 256 % 256) as u8,
+        (m / 256 / 256 / 256 % 256) as u8,
+        (v % 256) as u8,
+        (v / 256 % 256) as u8,
+        (v / 256 / 256 % 256) as u8,
+        (v / 256 / 256 / 256 % 256) as u8,
+        (v / 256 / 256 / 256 / 256 % 256) as u8,
+        (v / 256 / 256 / 256 / 256 / 256 % 256) as u8,
+        (v / 256 / 256 / 256 / 256 / 256 / 256 % 256) as u8,
+        (v / 256 / 256 / 256 / 256 / 256 / 256 / 256 % 256) as u8,
+    ]
+}
+
+// Puts a record's bytes at the buffer's record `at`; answers the record after it.
+fn put_record(out: &mut [u8], at: usize, bytes: [u8; RECORD_LENGTH]) -> usize
+    requires { ⌜ recordLength * (at + 1) ≤ length (now out) ⌝ }
+    ensures { λ r. ⌜ (r ≡ at + 1) × (front r (now (out .exit)) ≡ front at (now (out .entry)) ++ bytes) ⌝ }
+{
+    let over = RECORD_LENGTH * at;
+    let mut k = 0;
+    while k < RECORD_LENGTH {
+        out[over + k] = bytes[k];
+        k += 1;
+    }
+    at + 1
 }
 
 // Puts a node's record at the buffer's record `at`; answers the record after it.
@@ -52,7 +147,7 @@ fn put_node(out: &mut [u8], at: usize, kind: Kind, limit: Limit, count: u8) -> u
     requires { ⌜ recordLength * (at + 1) ≤ length (now out) ⌝ }
     ensures { λ r. ⌜ (r ≡ at + 1) × (front r (now (out .exit)) ≡ front at (now (out .entry)) ++ recordBytes (nodeOf kind limit) count) ⌝ }
 {
-    at + 1
+    put_record(out, at, record_of(kind, limit, count))
 }
 
 // ---- Children
@@ -61,9 +156,10 @@ fn is_sum(kind: Kind) -> bool
     ensures { λ r. ⌜ r ≡ isSum kind ⌝ }
 {
     match kind {
+        Kind::Block(_) => false,
         Kind::Sequence => true,
         Kind::Choice => true,
-        _ => false,
+        Kind::Loop(_) => false,
     }
 }
 
