@@ -1,11 +1,14 @@
 // Rules 2 to 9 of document 01's simplification, each as a rewrite of a table's bytes from a node's record on into a second buffer.
 ghost use mathlib.Core.Path.{_≡_};
 ghost use mathlib.Core.List.{_++_};
-ghost use Prim.Native.Nat.{_+_, _*_, _-_, _<_, _≤_};
+ghost use Prim.Native.Nat.{_+_, _*_, _-_, _<_, _≤_, suc};
+ghost use lib.Dec.{leb};
 ghost use lib.ListN.{length};
-ghost use Rattle.table.specs.Numbers.{recordLength};
+ghost use Rattle.table.specs.Numbers.{mostChildren, recordLength};
 ghost use Rattle.table.specs.Table.{flag, kindByte, limitNum, loopByte, raw, recordBytes, recordCount, valueNum};
-ghost use Rattle.simplify.specs.Rules.{bare, isSum, rule2, rule3, rule5, rule6, rule7, rule8, rule9};
+ghost use Rattle.evaluate.specs.Closed.{isUnlimited};
+ghost use Rattle.simplify.specs.Same.{sameKind};
+ghost use Rattle.simplify.specs.Rules.{bare, gives, isSum, isZero, rule2, rule3, rule5, rule6, rule7, rule8, rule9};
 ghost use Rattle.subtrees.specs.Facts.{Extents, Surveyed};
 ghost use Rattle.subtrees.specs.Parts.{Simplifiable, subtree, treesAt};
 ghost use Rattle.rewrite.specs.Writing.{Wrote, front, nodeOf, ruleAt, slice};
@@ -172,12 +175,66 @@ fn is_bare(table: &[u8], p: usize) -> bool
     (table[at] == 0) & (table[at + 1] == 0) & (table[at + 3] == 0)
 }
 
+// Is it one of time 0?
+fn is_zero(table: &[u8], p: usize) -> bool
+    requires { ⌜ Simplifiable (now table) ⌝ ∗ ⌜ p < recordCount (now table) ⌝ }
+    ensures { λ r. ⌜ r ≡ isZero (subtree (now (table .entry)) p) ⌝ }
+{
+    let at = RECORD_LENGTH * p;
+    is_bare(table, p) & (table::read_u64(table, at + 8) == 0)
+}
+
+fn is_unlimited(limit: Limit) -> bool
+    ensures { λ r. ⌜ r ≡ isUnlimited limit ⌝ }
+{
+    match limit {
+        Limit::Unlimited => true,
+        Limit::AtMost(_, _) => false,
+    }
+}
+
+fn same_kind(a: Kind, b: Kind) -> bool
+    ensures { λ r. ⌜ r ≡ sameKind a b ⌝ }
+{
+    let x = value_of(a);
+    let y = value_of(b);
+    (kind_byte(a) == kind_byte(b)) & (flag_of(x) == flag_of(y)) & (raw_of(x) == raw_of(y))
+}
+
+// Has a node of this many children room for those of one of them in its place?
+fn has_room(count: usize, more: usize) -> bool
+    requires { ⌜ more < 256 ⌝ }
+    ensures { λ r. ⌜ r ≡ leb (count + more) (suc mostChildren) ⌝ }
+{
+    if 256 < count {
+        return false;
+    }
+    count + more <= 256
+}
+
+// Does the tree at record p, a child of a node of this kind and this many children, give way to its own children?
+fn gives_way(table: &[u8], p: usize, kind: Kind, count: usize) -> bool
+    requires { ⌜ Simplifiable (now table) ⌝ ∗ ⌜ p < recordCount (now table) ⌝ }
+    ensures { λ r. ⌜ r ≡ gives kind count (subtree (now (table .entry)) p) ⌝ }
+{
+    let at = RECORD_LENGTH * p;
+    let node = table::read_node(&table[at..]);
+    let own = node.kind;
+    let limit = node.limit;
+    let more = table::child_count(&table[at..]);
+    same_kind(own, kind) & is_unlimited(limit) & has_room(count, more)
+}
+
 // Is the child at record p one that is looked for?
 fn is_wanted(which: Wanted, table: &[u8], p: usize) -> bool
     requires { ⌜ Simplifiable (now table) ⌝ ∗ ⌜ p < recordCount (now table) ⌝ }
     ensures { λ r. ⌜ r ≡ wanted which (subtree (now (table .entry)) p) ⌝ }
 {
-    false
+    match which {
+        Wanted::GivesWay(kind, count) => gives_way(table, p, kind, count),
+        Wanted::Zero => is_zero(table, p),
+        Wanted::Bare => is_bare(table, p),
+    }
 }
 
 // The record of the first child that is looked for of the node at record i, or 0.
