@@ -3,6 +3,7 @@ use mathlib.Core.Path.{_≡_, refl, ap, sym, _∙_, subst}
 use mathlib.Core.Bool.{Bool, true, false, cond, _&&_, _||_}
 use mathlib.Core.List.{List, _++_}
 use Prim.Native.Nat.{ℕ, suc, zero, _+_, _*_, _-_, _<_, _≤_}
+use native.Mathlib.Nat.{add-assoc, add-zero}
 use native.Mathlib.Numerals.{add-one}
 use native.Mathlib.Omega.{arith}
 use lib.Dec.{T, eqb, leb, eqb·suc-zero}
@@ -198,3 +199,51 @@ module _ (b extents : List ℕ) (i : ℕ) (q : Tree → Bool) where
       let w : recordsIn (t ▸ nil) ≡ records t = omega arith in
       (l, s .each p l ∙ ap (λ (g : Forest). records (top g)) e, omega arith, rw w at (skip-at b (s .simplifiable) p (t ▸ nil) f e))
 
+  row-next : (s : Extents b extents) (left p : ℕ) (f g : Forest) → treesAt b p ≡ f ⧺ g → size f ≡ left → 0 < left
+      → childAt q i (treesAt b i) ≡ cond (any q f) (p + offset q f) 0 → q (subtree b p) ≡ false → Looking b extents i q (left - 1) (p + getD extents p 0)
+  unfolding size _⧺_ any offset subtree top
+  row-next s left p nil g e m l v z = absurd (omega arith)
+  row-next s left p (t ▸ f) g e m l v z =
+      let (o, x, y, w) = past s p t (f ⧺ g) e in
+      let no : q t ≡ false = ap (λ (r : Forest). q (top r)) (sym e) ∙ z in
+      record {
+        sizes = s;
+        todo = f;
+        later = g;
+        here = rw x w;
+        many = omega arith;
+        value = v ∙ rw (no, x, add-assoc) refl;
+      }
+
+  row-found : (s : Extents b extents) (left p : ℕ) (f g : Forest) → treesAt b p ≡ f ⧺ g → size f ≡ left → 0 < left
+      → childAt q i (treesAt b i) ≡ cond (any q f) (p + offset q f) 0 → q (subtree b p) ≡ true → childAt q i (treesAt b i) ≡ p
+  unfolding size _⧺_ any offset subtree top
+  row-found s left p nil g e m l v z = absurd (omega arith)
+  row-found s left p (t ▸ f) g e m l v z =
+      let yes : q t ≡ true = ap (λ (r : Forest). q (top r)) (sym e) ∙ z in
+      v ∙ rw (yes, add-zero) refl
+
+  row-none : (left p : ℕ) (f : Forest) → size f ≡ left → left ≤ 0 → childAt q i (treesAt b i) ≡ cond (any q f) (p + offset q f) 0
+      → childAt q i (treesAt b i) ≡ 0
+  unfolding size any
+  row-none left p nil m l v = v
+  row-none left p (t ▸ f) m l v = absurd (omega arith)
+
+  row-inside : (s : Extents b extents) (left p : ℕ) (f g : Forest) → treesAt b p ≡ f ⧺ g → size f ≡ left → 0 < left
+      → (p < recordCount b) × (p + getD extents p 0 ≤ recordCount b)
+  unfolding size _⧺_
+  row-inside s left p nil g e m l = absurd (omega arith)
+  row-inside s left p (t ▸ f) g e m l = let (o, x, y, w) = past s p t (f ⧺ g) e in (o, rw x y)
+
+  module _ (left p : ℕ) (w : Looking b extents i q left p) where
+    pub look-inside : 0 < left → (p < recordCount b) × (p + getD extents p 0 ≤ recordCount b)
+    look-inside = row-inside (w .sizes) left p (w .todo) (w .later) (w .here) (w .many)
+
+    pub look-next : {r : Bool} → r ≡ q (subtree b p) → r ≡ false → 0 < left → Looking b extents i q (left - 1) (p + getD extents p 0)
+    look-next e z l = row-next (w .sizes) left p (w .todo) (w .later) (w .here) (w .many) l (w .value) (sym e ∙ z)
+
+    pub look-found : {r : Bool} → r ≡ q (subtree b p) → r ≡ true → 0 < left → p ≡ childAt q i (treesAt b i)
+    look-found e z l = sym (row-found (w .sizes) left p (w .todo) (w .later) (w .here) (w .many) l (w .value) (sym e ∙ z))
+
+    pub look-none : left ≤ 0 → 0 ≡ childAt q i (treesAt b i)
+    look-none l = sym (row-none left p (w .todo) (w .many) l (w .value))
