@@ -1,3 +1,4 @@
 -- Laws, in the order in which they lean on each other.
 pub mod Writing
 pub mod Children
+pub mod Exit

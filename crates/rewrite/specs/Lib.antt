@@ -2,5 +2,6 @@
 mod Nodes
 pub mod Writing
 pub mod Children
+pub mod Sharing
 -- What is proved of them.
 pub mod Laws

@@ -13,10 +13,13 @@ ghost use Rattle.subtrees.specs.Facts.{Extents, Surveyed};
 ghost use Rattle.subtrees.specs.Parts.{Simplifiable, subtree, treesAt};
 ghost use Rattle.rewrite.specs.Writing.{Wrote, front, nodeOf, ruleAt, slice};
 ghost use Rattle.rewrite.specs.Children.{childAt, wanted};
+ghost use Rattle.rewrite.specs.Sharing.{idle};
+use subtrees::MARKS;
 use table::Kind;
 use table::Limit;
 use table::Number;
 use table::RECORD_LENGTH;
+use table::WHOLE_RUN;
 
 // A child that is looked for.
 pub enum Wanted {
@@ -306,10 +309,32 @@ pub fn rule8_at(table: &[u8], extents: &[usize], marks: &[u8], i: usize, out: &m
     0
 }
 
+// Is the tree at record p an unlimited loop of plain bound 0?
+fn is_idle(table: &[u8], p: usize) -> bool
+    requires { ⌜ Simplifiable (now table) ⌝ ∗ ⌜ p < recordCount (now table) ⌝ }
+    ensures { λ r. ⌜ r ≡ idle (subtree (now (table .entry)) p) ⌝ }
+{
+    let at = RECORD_LENGTH * p;
+    (table[at] == 3)
+        & (table[at + 1] == 0)
+        & (table[at + 3] == 0)
+        & (table::read_u64(table, at + 8) == 0)
+}
+
 // 9. An unlimited loop of plain bound 0, whose body's list names this loop or the whole run, becomes its exit.
 pub fn rule9_at(table: &[u8], extents: &[usize], marks: &[u8], i: usize, out: &mut [u8]) -> usize
     requires { ⌜ Surveyed (now table) (now extents) (now marks) ⌝ ∗ ⌜ i < recordCount (now table) ⌝ ∗ ⌜ length (now table) ≤ length (now out) ⌝ }
     ensures { λ r. ⌜ Wrote (ruleAt rule9 (treesAt (now (table .entry)) i)) r (now (out .exit)) ⌝ }
 {
+    if !is_idle(table, i) {
+        return 0;
+    }
+    let body = i + 1;
+    let named = marks[MARKS * body + 1];
+    if (named == 1) | (named == WHOLE_RUN) {
+        let from = body + extents[body];
+        let n = table.len() / RECORD_LENGTH - from;
+        return copy_records(table, from, n, out, 0);
+    }
     0
 }

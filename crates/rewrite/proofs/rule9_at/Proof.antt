@@ -1,0 +1,78 @@
+use mathlib.Core.Path.{sym, _∙_}
+use native.Mathlib.Omega.{arith}
+use borrow.Author.Needs.{needs}
+use borrow.Author.Tests.{not-false}
+use Rattle.subtrees.specs.Laws.Parts.{few-records, length-is}
+use Rattle.rewrite.specs.Laws.Exit.{ExitAt, exit-at, exit-written, not-idle, other-named}
+use Rattle.rewrite.proofs.rule9_at.Statement.{statement}
+use Rattle.rewrite.proofs.rule9_at.Tie as tie
+
+-- past the first test, the loop has a body and an exit
+found : (c : tie.Else1) → let a = c .before .before .before .before .before .before .args in ExitAt (a .table .now) (a .extents .now) (a .marks .now) (a .i)
+found c =
+    let start = c .before .before .before .before .before .before in
+    exit-at _ _ _ (start .pre .0) _ (start .pre .1 .0) (sym (c .before .is-idle .ensures) ∙ not-false _ (c .if1 .left))
+
+is-idle-requires : tie.Need-is-idle-requires
+is-idle-requires c κs = search needs
+
+returns : tie.Need-returns
+returns c = let start = c .before .before .before .before .before .before in not-idle _ _ _ (start .pre .0) _ (start .pre .1 .0) _ _ (c .before .is-idle .ensures) (c .if1 .taken)
+
+add-body : tie.Need-add-body
+add-body c = search needs
+
+mul-named : tie.Need-mul-named
+mul-named c = search needs
+
+add-named : tie.Need-add-named
+add-named c = search needs
+
+shared-slice-read-named : tie.Need-shared-slice-read-named
+shared-slice-read-named c = found (c .before) .room
+
+mul-from : tie.Need-mul-from
+mul-from c = search needs
+
+shared-slice-read-from : tie.Need-shared-slice-read-from
+shared-slice-read-from c = found (c .before .before .before) .sized
+
+add-from : tie.Need-add-from
+add-from c = let x = found (c .before .before .before) in omega (arith, x .within, few-records _ (x .simplifiable))
+
+sub-n : tie.Need-sub-n
+sub-n c = found (c .before .before .before) .within
+
+copy-records-requires : tie.Need-copy-records-requires
+copy-records-requires c κs = let x = found (c .before .before .before .before) in omega (arith, x .within, length-is _ (x .simplifiable))
+
+same-length : tie.Need-same-length
+same-length c = search needs
+
+returns-2 : tie.Need-returns-2
+returns-2 c =
+    let copied = c .before .before in
+    let named = copied .before .before .before in
+    exit-written (found (named .before .before)) _ _ (named .if2 .taken) (copied .copy-records .ensures .0) (copied .copy-records .ensures .1)
+
+returns-3 : tie.Need-returns-3
+returns-3 c = other-named (found (c .before .before)) _ (c .if2 .left)
+
+pub rule9-at-spec : {M : Type 1} → statement M
+rule9-at-spec =
+    tie.close
+    (tie.spec
+    is-idle-requires
+    returns
+    add-body
+    mul-named
+    add-named
+    shared-slice-read-named
+    mul-from
+    shared-slice-read-from
+    add-from
+    sub-n
+    copy-records-requires
+    same-length
+    returns-2
+    returns-3)
