@@ -2,3 +2,4 @@
 pub mod Writing
 pub mod Children
 pub mod Exit
+pub mod Settled

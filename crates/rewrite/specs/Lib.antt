@@ -2,6 +2,7 @@
 mod Nodes
 pub mod Writing
 pub mod Children
+pub mod Settled
 pub mod Sharing
 -- What is proved of them.
 pub mod Laws

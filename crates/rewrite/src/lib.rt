@@ -1,5 +1,6 @@
 // Rules 2 to 9 of document 01's simplification, each as a rewrite of a table's bytes from a node's record on into a second buffer.
 ghost use mathlib.Core.Path.{_≡_};
+ghost use mathlib.Core.Bool.{false};
 ghost use mathlib.Core.List.{_++_};
 ghost use Prim.Native.Nat.{_+_, _*_, _-_, _<_, _≤_, suc};
 ghost use lib.Dec.{leb};
@@ -8,15 +9,18 @@ ghost use Rattle.table.specs.Numbers.{mostChildren, recordLength};
 ghost use Rattle.table.specs.Table.{flag, kindByte, limitNum, loopByte, raw, recordBytes, recordCount, valueNum};
 ghost use Rattle.evaluate.specs.Closed.{isUnlimited};
 ghost use Rattle.simplify.specs.Same.{sameKind};
-ghost use Rattle.simplify.specs.Rules.{bare, gives, isSum, isZero, rule2, rule3, rule5, rule6, rule7, rule8, rule9};
+ghost use Rattle.simplify.specs.Rules.{bare, gives, isBlock, isSum, isZero, rule2, rule3, rule4, rule5, rule6, rule7, rule8, rule9};
 ghost use Rattle.subtrees.specs.Facts.{Extents, Surveyed};
 ghost use Rattle.subtrees.specs.Parts.{Simplifiable, subtree, treesAt};
 ghost use Rattle.rewrite.specs.Writing.{Wrote, front, nodeOf, ruleAt, slice};
+ghost use Rattle.rewrite.specs.Settled.{beforeAt, blockAt};
 ghost use Rattle.rewrite.specs.Children.{childAt, wanted};
 ghost use Rattle.rewrite.specs.Sharing.{idle};
+use lists::List;
 use subtrees::MARKS;
 use table::Kind;
 use table::Limit;
+use table::MOST_DEPTH;
 use table::Number;
 use table::RECORD_LENGTH;
 use table::WHOLE_RUN;
@@ -337,4 +341,64 @@ pub fn rule9_at(table: &[u8], extents: &[usize], marks: &[u8], i: usize, out: &m
         return copy_records(table, from, n, out, 0);
     }
     0
+}
+
+fn is_block(kind: Kind) -> bool
+    ensures { λ r. ⌜ r ≡ isBlock kind ⌝ }
+{
+    match kind {
+        Kind::Block(_) => true,
+        Kind::Sequence => false,
+        Kind::Choice => false,
+        Kind::Loop(_) => false,
+    }
+}
+
+// The first member of the node at record i, no block, before its own limit and with every symbol 0.
+fn settled_value(table: &[u8], i: usize) -> u64
+    requires { ⌜ Simplifiable (now table) ⌝ ∗ ⌜ i < recordCount (now table) ⌝ ∗ ⌜ blockAt (treesAt (now table) i) ≡ false ⌝ }
+    ensures { λ r. ⌜ r ≡ beforeAt (treesAt (now (table .entry)) i) ⌝ }
+{
+    let start = RECORD_LENGTH * i;
+    let node = table::read_node(&table[start..]);
+    let kind = node.kind;
+    let count = table::child_count(&table[start..]);
+    let next = start + RECORD_LENGTH;
+    let zeros = [0; 0];
+    let mut list = List::zero();
+    let mut spare = List::zero();
+    evaluate::evaluate_children(
+        &table[next..],
+        &zeros,
+        MOST_DEPTH,
+        kind,
+        count,
+        &mut list.pairs,
+        &mut spare.pairs,
+    );
+    lists::value_at(&list.pairs, 0)
+}
+
+// 4. A symbol-free node, not a block, whose children are each closed once limits naming that node itself are set aside, becomes a block of its first
+// member before its own limit, keeping that limit.
+pub fn rule4_at(table: &[u8], extents: &[usize], marks: &[u8], i: usize, out: &mut [u8]) -> usize
+    requires { ⌜ Surveyed (now table) (now extents) (now marks) ⌝ ∗ ⌜ i < recordCount (now table) ⌝ ∗ ⌜ length (now table) ≤ length (now out) ⌝ }
+    ensures { λ r. ⌜ Wrote (ruleAt rule4 (treesAt (now (table .entry)) i)) r (now (out .exit)) ⌝ }
+{
+    let start = RECORD_LENGTH * i;
+    let node = table::read_node(&table[start..]);
+    let kind = node.kind;
+    let limit = node.limit;
+    let m = MARKS * i;
+    let settled = (marks[m] == 0) & (marks[m + 3] == 0);
+    if !settled {
+        return 0;
+    }
+    if is_block(kind) {
+        return 0;
+    }
+    let time = Number::Plain(settled_value(table, i));
+    let at = put_node(out, 0, Kind::Block(time), limit, 0);
+    let end = i + extents[i];
+    copy_records(table, end, table.len() / RECORD_LENGTH - end, out, at)
 }

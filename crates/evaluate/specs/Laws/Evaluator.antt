@@ -141,7 +141,7 @@ module _ (v : Values) (ranged : (k : ℕ) → k < firstTimeSymbol → v k ≤ mo
       let c = fair-below n f d a in
       let (x, y) = both _ _ q in
       let m = from-none v (n .kind) f _
-        (forest-finds f (n .kind) d h b z (const 0) 0 wholeRun 0 _ e c l o none-yet (omega (arith, boundIn-weight (n .kind) f d (c .nested) (c .named), c .weighed))) in
+      (forest-finds f (n .kind) d h b z (const 0) 0 wholeRun 0 _ e c l o none-yet (omega (arith, boundIn-weight (n .kind) f d (c .nested) (c .named), c .weighed))) in
       let w = m .holds (leb→le _ _ x, y) in
       (w .fits, top-is (w .are))
 

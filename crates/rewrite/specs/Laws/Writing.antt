@@ -35,7 +35,7 @@ pub copy-next : (s d : List ℕ) (over : ℕ) (out : List ℕ) (k x : ℕ) → x
     → Copied s d over (set out (over + k) x) (k + 1)
 copy-next s d over out k x e l m c =
     let z : set out (over + k) x ≡ paste d over s (k + 1) =
-      rw add-one (ap₂ (λ (o : List ℕ) (y : ℕ). set o (over + k) y) (c .is) e ∙ paste-suc d over s k 0 m l) in
+    rw add-one (ap₂ (λ (o : List ℕ) (y : ℕ). set o (over + k) y) (c .is) e ∙ paste-suc d over s k 0 m l) in
     record {
       from = omega arith;
       room = omega arith;

@@ -5,7 +5,7 @@ use Prim.Native.Nat.{ℕ, _+_, _-_, _*_, _≤_, _<_, suc}
 use native.Mathlib.Numerals.{add-one}
 use native.Mathlib.Omega.{arith}
 use lib.ListN.{drop, length, length-drop, take}
-use lib.Seq.{drop-at, take-at}
+use lib.Seq.{take-all, take-at}
 use Rattle.table.specs.Numbers.{recordLength, mostRecords}
 use Rattle.table.specs.Questions.{Accepted}
 use Rattle.table.specs.Table.{childByte, decode, encode, encodes, firstNode, forest, recordBytes, recordCount, top}
@@ -91,6 +91,10 @@ module _ (b : List ℕ) (s : Simplifiable b) where
   pub bytes-at : (i : ℕ) (f g : Forest) → treesAt b i ≡ f ⧺ g → take (recordLength * recordsIn f) (drop (recordLength * i) b) ≡ encodes f
   bytes-at i f g e = rw (← back-at i, e, encodes-⧺) (take-at (encodes f) (encodes g) (recordLength * recordsIn f) (length-encodes f))
 
+  -- what stands from record i to the table's end
+  pub tail-at : (i : ℕ) → take (recordLength * (recordCount b - i)) (drop (recordLength * i) b) ≡ encodes (treesAt b i)
+  tail-at i = take-all (recordLength * (recordCount b - i)) (drop (recordLength * i) b) (rw length-drop (omega (arith, length-is))) ∙ sym (back-at i)
+
   pub here-at : (i : ℕ) → i < recordCount b → Here b i
   here-at i l = go (treesAt b i) refl
     where
@@ -140,7 +144,7 @@ module _ (b : List ℕ) (s : Simplifiable b) where
   kids-row i h = record { trees = h .kids; later = h .later; row = rw add-one (h .next); many = refl; last = kids-last i h }
 
   -- past the first tree
-  past-first : (p : ℕ) (t : Tree) (g : Forest) → treesAt b p ≡ t ▸ g → (treesAt b (p + records t) ≡ g) × (p + records t ≤ recordCount b)
+  pub past-first : (p : ℕ) (t : Tree) (g : Forest) → treesAt b p ≡ t ▸ g → (treesAt b (p + records t) ≡ g) × (p + records t ≤ recordCount b)
   unfolding _⧺_ recordsIn
   past-first p t g e =
       let n : p + (records t + 0) ≡ p + records t = omega arith in

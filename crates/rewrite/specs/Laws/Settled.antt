@@ -1,0 +1,160 @@
+-- The value that rule 4 puts in a node's place, and when the rule fits.
+use mathlib.Core.Path.{_≡_, refl, ap, sym, subst, _∙_}
+use mathlib.Core.Bool.{Bool, cond, true, false, not, _&&_}
+use mathlib.Core.List.{List, _++_, append-nil}
+use mathlib.Core.Option.{none, some}
+use Prim.Native.Nat.{ℕ, _+_, _*_, _-_, _<_, _≤_}
+use native.Mathlib.Omega.{arith}
+use lib.Dec.{T, eqb, eqb→eq, le→leb, leb, leb→le}
+use borrow.Author.Tests.{eq-eqb}
+use Rattle.booleans.specs.Laws.{both, is-T, same-test}
+use Rattle.booleans.specs.Tests.{_and_}
+use lib.ListN.{drop, getD, length, length-drop, take}
+use lib.Seq.{drop-drop}
+use Rattle.table.specs.Numbers.{mostCount, mostDepth, mostRecords, recordLength}
+use Rattle.table.specs.Questions.{depth, depthIn, listed}
+use Rattle.table.specs.Table.{childByte, encode, encodes, firstNode, recordBytes, recordCount}
+use Rattle.table.specs.Trees.{Forest, Tree, nil, node, _▸_, _⧺_, records, recordsIn, size}
+use Rattle.table.specs.Laws.Trees.{some-records}
+use Rattle.table.specs.Laws.Reading.{part-from, partAt}
+use Rattle.table.specs.Laws.RoundTrip.{drop-bytes, head-bytes}
+use Rattle.lists.specs.Pairs.{top}
+use Rattle.lists.specs.Streams.{const}
+use Rattle.evaluate.specs.Closed.{closedIn, symbolFree}
+use Rattle.evaluate.specs.Evaluate.{before, start, zeros}
+use Rattle.evaluate.specs.Shown.{Shows, evaluateChildren}
+use Rattle.evaluate.specs.Laws.Evaluator.{children-found}
+use Rattle.evaluate.specs.Laws.Shown.{first-top}
+use Rattle.evaluate.specs.declared.Valued.{Valued}
+use Rattle.simplify.specs.Rules.{isBlock, leaf, rule4, when}
+use Rattle.simplify.specs.Steps.{also}
+use Rattle.subtrees.specs.Facts.{Surveyed, marksEach, reachBelow, reachIn, symbols}
+use Rattle.subtrees.specs.Parts.{Simplifiable, subtree, treesAt}
+use Rattle.subtrees.specs.Laws.Facts.{closedIn-is}
+use Rattle.subtrees.specs.Laws.Forests.{Sound, encodes-⧺}
+use Rattle.subtrees.specs.Laws.Parts.{Here, few-records, here-at, length-is, past-first, records-at, tail-at}
+use Rattle.subtrees.specs.Laws.Survey.{count-at}
+use Rattle.rewrite.specs.Nodes.{Block, Choice, Kind, Loop, Node, Plain, Sequence}
+use Rattle.rewrite.specs.Settled.{beforeAt, blockAt}
+use Rattle.rewrite.specs.Writing.{Wrote, front, nodeOf, ruleAt, slice}
+use Rattle.rewrite.specs.Laws.Exit.{own-writes, subtree-is, wrote-none, wrote-some}
+
+-- the node that the record at i writes
+pub node-at : (b : List ℕ) (i : ℕ) (h : Here b i) → firstNode (partAt b i) ≡ h .own
+node-at b i h = rw (part-from, h .bytes) (head-bytes (h .own) (size (h .kids)) _ (own-writes b i h))
+
+-- and what stands after that record
+rest-at : (b : List ℕ) (i : ℕ) (h : Here b i) → drop (recordLength * i + recordLength) b ≡ encodes (h .kids) ++ encodes (h .later)
+rest-at b i h = rw (← drop-drop, h .bytes, drop-bytes) (encodes-⧺ (h .kids) (h .later))
+
+starts-at-zero : (k : Kind) → isBlock k ≡ false → start zeros k ≡ const 0
+unfolding isBlock start
+starts-at-zero (Block t) e = absurd (subst T e tt)
+starts-at-zero Sequence e = refl
+starts-at-zero Choice e = refl
+starts-at-zero (Loop n) e = refl
+
+module _ (b : List ℕ) (s : Simplifiable b) (i : ℕ) (l : i < recordCount b) where
+  -- a part of the table is no longer than the evaluator takes
+  pub short-part : (n : ℕ) → length (take (length b - n) (drop n b)) ≤ recordLength * mostRecords
+  short-part n = rw (part-from, length-drop) (omega (arith, length-is b s, few-records b s))
+
+  pub settled : blockAt (treesAt b i) ≡ false → {r : Valued} {a : List ℕ} {n : Node} {c : ℕ} → n ≡ firstNode (partAt b i) → c ≡ childByte (partAt b i)
+      → let m = recordLength * i + recordLength in Shows r a (evaluateChildren zeros mostDepth (n .kind) c (take (length b - m) (drop m b)))
+      → getD a 0 0 ≡ beforeAt (treesAt b i)
+  unfolding blockAt beforeAt depth
+  settled e {r} {a} {n} {c} p q w =
+      let h = here-at b s i l in
+      let no : isBlock (h .own .kind) ≡ false = sym (ap blockAt (h .here)) ∙ e in
+      let t = h .sound in
+      let (fits, first) = children-found zeros (λ k q. omega arith) (h .own) (h .kids) (t .around) mostDepth _ (encodes (h .later)) refl (t .fair) (omega (arith, t .deep)) (starts-at-zero (h .own .kind) no) (t .fits) in
+      let v : Shows r a (evaluateChildren zeros mostDepth (h .own .kind) (size (h .kids)) (encodes (h .kids) ++ encodes (h .later))) = rw (p ∙ node-at b i h, q ∙ count-at b i h, part-from, rest-at b i h) at w in
+      let is = v .list (v .fits ∙ fits) in
+      sym (first-top (is .proper)) ∙ ap top (is .pairs) ∙ first ∙ sym (ap beforeAt (h .here))
+
+-- ---- when the rule fits
+
+free-is : (t : Tree) → eqb (symbols t) 0 ≡ symbolFree t
+unfolding symbols
+free-is t = go (symbolFree t)
+  where
+    go : (x : Bool) → eqb (cond x 0 1) 0 ≡ x
+    go true = refl
+    go false = refl
+
+zero-is : (n : ℕ) → eqb n 0 ≡ leb n 0
+zero-is n = same-test _ _ (λ t. le→leb n 0 (omega (arith, eqb→eq n 0 t))) (λ t. is-T _ (eq-eqb n 0 (omega (arith, leb→le n 0 t))))
+
+closed-kids : (n : Node) (f : Forest) → Sound (node n f) → closedIn (n .kind) f 0 ≡ leb (reachIn (n .kind) f) 0
+unfolding listed depth
+closed-kids n f t = closedIn-is (n .kind) f 0 (both _ _ (t .fair .listed) .1) (omega (arith, t .deep))
+
+module _ (b extents marks : List ℕ) (s : Surveyed b extents marks) (i : ℕ) (l : i < recordCount b) where
+  h : Here b i
+  h = here-at b (s .sizes .simplifiable) i l
+
+  fits-here : (symbolFree (node (h .own) (h .kids)) and not (isBlock (h .own .kind)) and closedIn (h .own .kind) (h .kids) 0)
+      ≡ (eqb (getD marks (marksEach * i) 0) 0 and not (isBlock (firstNode (partAt b i) .kind)) and eqb (getD marks (marksEach * i + 3) 0) 0)
+  unfolding reachBelow
+  fits-here =
+      let m = s .each i l in
+      let t = subtree-is b i h in
+      rw (node-at b i h, m .symbols ∙ ap symbols t, m .below ∙ ap reachBelow t, free-is, zero-is, closed-kids (h .own) (h .kids) (h .sound)) refl
+
+  -- by the tests, what the table becomes from record i on
+  becomes : ruleAt rule4 (treesAt b i)
+      ≡ also (λ t. t ▸ h .later)
+      (when (eqb (getD marks (marksEach * i) 0) 0 and not (isBlock (firstNode (partAt b i) .kind)) and eqb (getD marks (marksEach * i + 3) 0) 0) (leaf (beforeAt (treesAt b i)) (firstNode (partAt b i) .limit)))
+  unfolding ruleAt rule4 beforeAt
+  becomes = rw (h .here, ← fits-here, node-at b i h) refl
+
+  pub not-settled : (out : List ℕ) → (eqb (getD marks (marksEach * i) 0) 0 && eqb (getD marks (marksEach * i + 3) 0) 0) ≡ false → Wrote (ruleAt rule4 (treesAt b i)) 0 out
+  unfolding also when
+  not-settled out e = wrote-none _ 0 out (becomes ∙ rw (no _ _ (isBlock (firstNode (partAt b i) .kind)) e) refl) refl
+    where
+      no : (x y z : Bool) → (x && y) ≡ false → (x and not z and y) ≡ false
+      no true true z e = absurd (subst T e tt)
+      no true false true e = unfold _and_ in refl
+      no true false false e = unfold _and_ in refl
+      no false y z e = unfold _and_ in refl
+
+  pub no-node : (out : List ℕ) → isBlock (firstNode (partAt b i) .kind) ≡ true → Wrote (ruleAt rule4 (treesAt b i)) 0 out
+  unfolding also when
+  no-node out e = wrote-none _ 0 out (becomes ∙ rw (e, no (eqb (getD marks (marksEach * i) 0) 0) _) refl) refl
+    where
+      no : (x y : Bool) → (x and not true and y) ≡ false
+      no true y = unfold _and_ in refl
+      no false y = unfold _and_ in refl
+
+  pub is-node : isBlock (firstNode (partAt b i) .kind) ≡ false → blockAt (treesAt b i) ≡ false
+  unfolding blockAt
+  is-node e = ap blockAt (h .here) ∙ ap (λ n. isBlock (n .kind)) (sym (node-at b i h)) ∙ e
+
+  -- past the node stands what follows it
+  past : (treesAt b (i + getD extents i 0) ≡ h .later) × (i + getD extents i 0 ≤ recordCount b)
+  past =
+      let e : getD extents i 0 ≡ records (node (h .own) (h .kids)) = s .sizes .each i l ∙ ap records (subtree-is b i h) in
+      rw e (past-first b (s .sizes .simplifiable) i _ (h .later) (h .here))
+
+  pub past-inside : i + getD extents i 0 ≤ recordCount b
+  past-inside = past .1
+
+  pub past-some : 0 < getD extents i 0
+  past-some = omega (arith, s .sizes .each i l, some-records (subtree b i))
+
+  pub settled-written : (x r : ℕ) (out : List ℕ) → x ≡ beforeAt (treesAt b i)
+      → (eqb (getD marks (marksEach * i) 0) 0 && eqb (getD marks (marksEach * i + 3) 0) 0) ≡ true → isBlock (firstNode (partAt b i) .kind) ≡ false
+      → let end = i + getD extents i 0 in r ≡ 1 + (recordCount b - end)
+      → front r out ≡ recordBytes (nodeOf (Block (Plain x)) (firstNode (partAt b i) .limit)) 0 ++ slice b end (recordCount b - end)
+      → Wrote (ruleAt rule4 (treesAt b i)) r out
+  unfolding also when recordsIn records encode encodes leaf size
+  settled-written x r out v e f n q =
+      let end = i + getD extents i 0 in
+      let t = s .sizes .simplifiable in
+      wrote-some (leaf x (firstNode (partAt b i) .limit) ▸ h .later) _ r out (becomes ∙ rw (f, yes _ _ e, v) refl)
+      (omega (arith, records-at b t end, ap recordsIn (past .0)), q ∙ rw (tail-at b t end, past .0, append-nil) refl)
+    where
+      yes : (x y : Bool) → (x && y) ≡ true → (x and not false and y) ≡ true
+      yes true true e = unfold _and_ in refl
+      yes true false e = absurd (subst T (sym e) tt)
+      yes false y e = absurd (subst T (sym e) tt)
