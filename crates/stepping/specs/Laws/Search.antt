@@ -1,0 +1,236 @@
+-- A step is found record by record: where no rule fits the subtree at a record, the step is the one that is found from the next record on.
+use mathlib.Core.Path.{_≡_, refl, ap, sym, _∙_, subst}
+use mathlib.Core.Bool.{Bool, true, false}
+use mathlib.Core.List.{List, _++_, append-assoc}
+use mathlib.Core.Option.{Option, none, some}
+use Prim.Native.Nat.{ℕ, _+_, _*_, _-_, _<_, _≤_, suc}
+use native.Mathlib.Omega.{arith}
+use lib.Dec.{T}
+use lib.ListN.{drop, take}
+use native.Mathlib.Numerals.{add-one}
+use lib.Seq.{take-add, take-at}
+use Rattle.table.specs.Laws.RoundTrip.{length-bytes}
+use Rattle.table.specs.Numbers.{recordLength}
+use Rattle.table.specs.Table.{decode, encode, encodes, recordBytes, recordCount}
+use Rattle.table.specs.Trees.{Forest, Tree, nil, node, _▸_, _⧺_, recordsIn, size}
+use Rattle.table.specs.Laws.Trees.{some-records}
+use Rattle.simplify.specs.Rules.{rule1}
+use Rattle.simplify.specs.Steps.{also, inside, insideIn, orElse, rule, step}
+use Rattle.subtrees.specs.Parts.{Simplifiable, treesAt}
+use Rattle.subtrees.specs.Laws.Forests.{encodes-⧺}
+use Rattle.subtrees.specs.Laws.Parts.{Here, here-at, records-at, root-at}
+use Rattle.rewrite.specs.Writing.{Wrote, front, ruleAt}
+use Rattle.stepping.specs.Nodes.{Node}
+use Rattle.stepping.specs.Spots.{Rewritten, stepped}
+
+-- ---- a step in a row of trees
+
+unfoldable SizeOf : ℕ → Option Forest → Type 0
+SizeOf n none = Unit {0}
+SizeOf n (some g) = size g ≡ n
+
+or-size : (n : ℕ) (x y : Option Forest) → SizeOf n x → SizeOf n y → SizeOf n (orElse x y)
+unfolding orElse SizeOf
+or-size n none y p q = q
+or-size n (some g) y p q = p
+
+first-size : (f : Forest) (x : Option Tree) → SizeOf (suc (size f)) (also (λ u. u ▸ f) x)
+unfolding also SizeOf size
+first-size f none = tt
+first-size f (some u) = refl
+
+later-size : (t : Tree) (n : ℕ) (x : Option Forest) → SizeOf n x → SizeOf (suc n) (also (λ g. t ▸ g) x)
+unfolding also SizeOf size
+later-size t n none h = tt
+later-size t n (some g) h = ap suc h
+
+-- it leaves as many trees
+inside-size : (f : Forest) → SizeOf (size f) (insideIn f)
+unfolding insideIn SizeOf size
+inside-size nil = tt
+inside-size (t ▸ f) = or-size _ (also (λ u. u ▸ f) (inside t)) _ (first-size f (inside t)) (later-size t (size f) (insideIn f) (inside-size f))
+
+-- one row after another
+or-also : {A : Type 0} (x : Option Forest) (y : Option Forest) (k : Forest → A) → also k (orElse x y) ≡ orElse (also k x) (also k y)
+unfolding also orElse
+or-also none y k = refl
+or-also (some g) y k = refl
+
+also-also : {A B C : Type 0} (k : B → C) (j : A → B) (x : Option A) → also k (also j x) ≡ also (λ a. k (j a)) x
+unfolding also
+also-also k j none = refl
+also-also k j (some a) = refl
+
+or-assoc : (x y z : Option Forest) → orElse (orElse x y) z ≡ orElse x (orElse y z)
+unfolding orElse
+or-assoc none y z = refl
+or-assoc (some g) y z = refl
+
+also-self : (x : Option Forest) → also (λ h. h) x ≡ x
+unfolding also
+also-self none = refl
+also-self (some g) = refl
+
+pub inside-⧺ : (f g : Forest) → insideIn (f ⧺ g) ≡ orElse (also (λ h. h ⧺ g) (insideIn f)) (also (λ h. f ⧺ h) (insideIn g))
+unfolding insideIn _⧺_ also orElse
+inside-⧺ nil g = sym (also-self (insideIn g))
+inside-⧺ (t ▸ f) g =
+    rw (inside-⧺ f g, or-also (also (λ u. u ▸ f) (inside t)), or-also (also (λ h. h ⧺ g) (insideIn f)), or-assoc, also-also, also-also, also-also, also-also) refl
+
+-- ---- past a record
+
+-- where no rule fits a node, a step is one among its children and what stands after them
+over-row : (n : Node) (f g : Forest) (x y : Option Forest) → SizeOf (size f) x
+    → also encodes (orElse (also (λ u. u ▸ g) (also (node n) x)) (also (λ h. node n f ▸ h) y))
+    ≡ also (λ z. recordBytes n (size f) ++ z) (also encodes (orElse (also (λ h. h ⧺ g) x) (also (λ h. f ⧺ h) y)))
+unfolding also orElse SizeOf encode encodes
+over-row n f g none none s = refl
+over-row n f g none (some h) s = ap some (rw (encodes-⧺ f h, append-assoc) refl)
+over-row n f g (some e) y s = ap some (rw (s, encodes-⧺ e g, append-assoc) refl)
+
+step-over : (n : Node) (f g : Forest) → rule n f ≡ none
+    → also encodes (insideIn (node n f ▸ g)) ≡ also (λ z. recordBytes n (size f) ++ z) (also encodes (insideIn (f ⧺ g)))
+unfolding inside orElse
+step-over n f g e = rw (e, inside-⧺ f g) (over-row n f g (insideIn f) (insideIn g) (inside-size f))
+
+step-here : (n : Node) (f g : Forest) (t : Tree) → rule n f ≡ some t → insideIn (node n f ▸ g) ≡ some (t ▸ g)
+unfolding inside also orElse
+step-here n f g t e = rw e refl
+
+-- ---- the search
+
+-- no rule fits before record i: the step is found from there on
+pub record Sought (b : List ℕ) (i : ℕ) : Type 0 where
+  pub within : i ≤ recordCount b
+  pub same : also encodes (insideIn (treesAt b 0)) ≡ also (λ z. front i b ++ z) (also encodes (insideIn (treesAt b i)))
+
+also-nothing : (x : Option (List ℕ)) → also (λ z. z) x ≡ x
+unfolding also
+also-nothing none = refl
+also-nothing (some z) = refl
+
+pub sought-none : (b : List ℕ) → Sought b 0
+sought-none b = record { within = omega arith; same = sym (also-nothing _) }
+
+some-first : (r : Node → Forest → Option Tree) (g : Forest) (out : List ℕ) → Wrote (ruleAt r g) 0 out → ruleAt r g ≡ none
+unfolding ruleAt
+some-first r nil out w = refl
+some-first r (node n f ▸ g) out w = go (r n f) w
+  where
+    go : (x : Option Tree) → Wrote (also (λ t. t ▸ g) x) 0 out → also (λ t. t ▸ g) x ≡ none
+    go none w = unfold also in refl
+    go (some t) w = absurd (unfold Wrote in unfold also in unfold recordsIn in omega (arith, w .0, some-records t))
+
+-- what a rule at the node of record i makes of the row
+rule-here : (b : List ℕ) (i : ℕ) (h : Here b i) → ruleAt rule (treesAt b i) ≡ also (λ t. t ▸ h .later) (rule (h .own) (h .kids))
+unfolding ruleAt
+rule-here b i h = rw (h .here) refl
+
+none-first : (g : Forest) (x : Option Tree) → also (λ t. t ▸ g) x ≡ none → x ≡ none
+unfolding also
+none-first g none e = refl
+none-first g (some t) e = absurd (subst IsSome e tt)
+  where
+    IsSome : Option Forest → Type 0
+    IsSome none = ⊥
+    IsSome (some h) = Unit {0}
+
+front-next : (b : List ℕ) (i : ℕ) (h : Here b i) → front (i + 1) b ≡ front i b ++ recordBytes (h .own) (size (h .kids))
+front-next b i h =
+    let m : recordLength * (i + 1) ≡ recordLength * i + recordLength = omega arith in
+    rw (m, take-add, h .bytes) (ap (λ z. front i b ++ z) (take-at (recordBytes (h .own) (size (h .kids))) _ recordLength (length-bytes (h .own) (size (h .kids)))))
+
+also-append : (a c : List ℕ) (x : Option (List ℕ)) → also (λ z. a ++ z) (also (λ z. c ++ z) x) ≡ also (λ z. (a ++ c) ++ z) x
+unfolding also
+also-append a c none = refl
+also-append a c (some z) = ap some (sym (append-assoc a c z))
+
+module _ (b : List ℕ) (s : Simplifiable b) where
+  pub sought-next : (i : ℕ) (out : List ℕ) → i < recordCount b → Sought b i → Wrote (ruleAt rule (treesAt b i)) 0 out → Sought b (i + 1)
+  sought-next i out l q w =
+      let h = here-at b s i l in
+      let no : rule (h .own) (h .kids) ≡ none = none-first (h .later) _ (sym (rule-here b i h) ∙ some-first rule (treesAt b i) out w) in
+      let over : also encodes (insideIn (treesAt b i)) ≡ also (λ z. recordBytes (h .own) (size (h .kids)) ++ z) (also encodes (insideIn (treesAt b (i + 1)))) =
+        rw (h .here, add-one, h .next) (step-over (h .own) (h .kids) (h .later) no) in
+      record {
+        within = omega arith;
+        same = q .same ∙ ap (also (λ z. front i b ++ z)) over ∙ also-append (front i b) (recordBytes (h .own) (size (h .kids))) (also encodes (insideIn (treesAt b (i + 1)))) ∙ ap (λ x. also (λ z. x ++ z) (also encodes (insideIn (treesAt b (i + 1))))) (sym (front-next b i h));
+      }
+
+  by-bytes : (x : Option Forest) (z : List ℕ) (at n : ℕ) (out : List ℕ) → also encodes x ≡ some z → 0 < n → at ≤ recordCount b → front at b ++ front n out ≡ z → Rewritten x b at n out
+  unfolding also Rewritten
+  by-bytes none z at n out e l m w = absurd (subst isNone e tt)
+    where
+      isNone : Option (List ℕ) → Type 0
+      isNone none = Unit {0}
+      isNone (some z) = ⊥
+  by-bytes (some g) z at n out e l m w = (l, m, w ∙ sym (ap bytes e))
+    where
+      bytes : Option (List ℕ) → List ℕ
+      bytes none = z
+      bytes (some y) = y
+
+  no-bytes : (x : Option Forest) (at : ℕ) (out : List ℕ) → also encodes x ≡ none → Rewritten x b at 0 out
+  unfolding also Rewritten
+  no-bytes none at out e = refl
+  no-bytes (some g) at out e = absurd (subst isSome e tt)
+    where
+      isSome : Option (List ℕ) → Type 0
+      isSome none = ⊥
+      isSome (some z) = Unit {0}
+
+  -- a rule that fits at record i
+  found-here : (i r : ℕ) (out : List ℕ) (n : Node) (f g : Forest) (t : Tree) → treesAt b i ≡ node n f ▸ g → Sought b i → rule n f ≡ some t
+      → Wrote (some (t ▸ g)) r out → Rewritten (insideIn (treesAt b 0)) b i r out
+  unfolding also Wrote recordsIn
+  found-here i r out n f g t e q k w =
+      let at : insideIn (treesAt b i) ≡ some (t ▸ g) = ap insideIn e ∙ step-here n f g t k in
+      by-bytes _ _ i r out (q .same ∙ ap (λ x. also (λ z. front i b ++ z) (also encodes x)) at) (omega (arith, w .0, some-records t)) (q .within) (ap (λ z. front i b ++ z) (w .1))
+
+  pub sought-found : (i r : ℕ) (out : List ℕ) → i < recordCount b → Sought b i → (r ≡ 0 → ⊥) → Wrote (ruleAt rule (treesAt b i)) r out → Rewritten (insideIn (treesAt b 0)) b i r out
+  sought-found i r out l q n w = go (rule (h .own) (h .kids)) refl (subst (λ x. Wrote x r out) (rule-here b i h) w)
+    where
+      h : Here b i
+      h = here-at b s i l
+
+      go : (x : Option Tree) → rule (h .own) (h .kids) ≡ x → Wrote (also (λ t. t ▸ h .later) x) r out → Rewritten (insideIn (treesAt b 0)) b i r out
+      go none e v = absurd (n (unfold also in unfold Wrote in v))
+      go (some t) e v = found-here i r out (h .own) (h .kids) (h .later) t (h .here) q e (unfold also in v)
+
+  -- past the last record stands no tree
+  none-left : (g : Forest) → recordsIn g ≡ 0 → insideIn g ≡ none
+  unfolding insideIn recordsIn
+  none-left nil e = refl
+  none-left (t ▸ g) e = absurd (omega (arith, some-records t))
+
+  pub sought-end : (i at : ℕ) (out : List ℕ) → recordCount b ≤ i → Sought b i → Rewritten (insideIn (treesAt b 0)) b at 0 out
+  unfolding also
+  sought-end i at out l q = no-bytes _ at out (q .same ∙ rw (none-left (treesAt b i) (omega (arith, records-at b s i))) refl)
+
+-- ---- rule 1 first, then the search
+
+whole-row : (t : Tree) → stepped t ≡ orElse (also (λ u. u ▸ nil) (rule1 t)) (insideIn (t ▸ nil))
+unfolding stepped step insideIn also
+whole-row t = go (rule1 t) (inside t)
+  where
+    go : (x y : Option Tree) → also (λ u. u ▸ nil) (orElse x y) ≡ orElse (also (λ u. u ▸ nil) x) (orElse (also (λ u. u ▸ nil) y) none)
+    go none none = unfold also in unfold orElse in refl
+    go none (some u) = unfold also in unfold orElse in refl
+    go (some u) y = unfold also in unfold orElse in refl
+
+rule1-fits : (b : List ℕ) (y : Option Forest) (r : ℕ) (out : List ℕ) (x : Option Tree) → (r ≡ 0 → ⊥) → Wrote (also (λ u. u ▸ nil) x) r out → Rewritten (orElse (also (λ u. u ▸ nil) x) y) b 0 r out
+unfolding also orElse Wrote Rewritten
+rule1-fits b y r out none n w = absurd (n w)
+rule1-fits b y r out (some u) n w = (omega (arith, n), omega arith, w .1)
+
+rule1-not : (b : List ℕ) (y : Option Forest) (at n : ℕ) (out mid : List ℕ) (x : Option Tree) → Wrote (also (λ u. u ▸ nil) x) 0 mid → Rewritten y b at n out → Rewritten (orElse (also (λ u. u ▸ nil) x) y) b at n out
+unfolding also orElse Wrote recordsIn
+rule1-not b y at n out mid none w v = v
+rule1-not b y at n out mid (some u) w v = absurd (omega (arith, w .0, some-records u))
+
+module _ (b : List ℕ) (s : Simplifiable b) where
+  pub by-rule1 : (r : ℕ) (out : List ℕ) → (r ≡ 0 → ⊥) → Wrote (also (λ u. u ▸ nil) (rule1 (decode b))) r out → Rewritten (stepped (decode b)) b 0 r out
+  by-rule1 r out n w = rw (whole-row (decode b)) (rule1-fits b _ r out (rule1 (decode b)) n w)
+
+  pub by-search : (at n : ℕ) (out mid : List ℕ) → Wrote (also (λ u. u ▸ nil) (rule1 (decode b))) 0 mid → Rewritten (insideIn (treesAt b 0)) b at n out → Rewritten (stepped (decode b)) b at n out
+  by-search at n out mid w v = rw (whole-row (decode b)) (rule1-not b _ at n out mid (rule1 (decode b)) w (rw (root-at b s) at v))
