@@ -3,3 +3,4 @@ pub mod Writing
 pub mod Children
 pub mod Exit
 pub mod Settled
+pub mod Sharing

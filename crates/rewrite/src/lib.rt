@@ -2,20 +2,21 @@
 ghost use mathlib.Core.Path.{_≡_};
 ghost use mathlib.Core.Bool.{false};
 ghost use mathlib.Core.List.{_++_};
-ghost use Prim.Native.Nat.{_+_, _*_, _-_, _<_, _≤_, suc};
+ghost use Prim.Native.Nat.{_*_, _+_, _-_, _<_, _≤_, suc};
 ghost use lib.Dec.{leb};
 ghost use lib.ListN.{length};
 ghost use Rattle.table.specs.Numbers.{mostChildren, recordLength};
-ghost use Rattle.table.specs.Table.{flag, kindByte, limitNum, loopByte, raw, recordBytes, recordCount, valueNum};
+ghost use Rattle.table.specs.Table.{encodes, flag, kindByte, limitNum, loopByte, raw, recordBytes, recordCount, valueNum};
 ghost use Rattle.evaluate.specs.Closed.{isUnlimited};
-ghost use Rattle.simplify.specs.Same.{sameKind};
-ghost use Rattle.simplify.specs.Rules.{bare, gives, isBlock, isSum, isZero, rule2, rule3, rule4, rule5, rule6, rule7, rule8, rule9};
+ghost use Rattle.simplify.specs.Same.{same, sameKind};
+ghost use Rattle.simplify.specs.Rules.{allPairs, bare, children, gives, isBlock, isPair, isSum, isZero, rule2, rule3, rule4, rule5, rule6, rule7, rule8, rule9};
+ghost use Rattle.table.specs.Trees.{recordsIn};
 ghost use Rattle.subtrees.specs.Facts.{Extents, Surveyed};
 ghost use Rattle.subtrees.specs.Parts.{Simplifiable, subtree, treesAt};
 ghost use Rattle.rewrite.specs.Writing.{Wrote, front, nodeOf, ruleAt, slice};
 ghost use Rattle.rewrite.specs.Settled.{beforeAt, blockAt};
 ghost use Rattle.rewrite.specs.Children.{childAt, wanted};
-ghost use Rattle.rewrite.specs.Sharing.{idle};
+ghost use Rattle.rewrite.specs.Sharing.{PairsAt, firstsAt, idle, sameBytes, sharedAt, sharing, topBytes};
 use lists::List;
 use subtrees::MARKS;
 use table::Kind;
@@ -304,13 +305,153 @@ pub fn rule7_at(table: &[u8], extents: &[usize], i: usize, out: &mut [u8]) -> us
     0
 }
 
+// Are the n records from record a on the same, byte for byte, as those from record b on?
+fn same_records(table: &[u8], a: usize, b: usize, n: usize) -> bool
+    requires { ⌜ (recordLength * (a + n) ≤ length (now table)) × (recordLength * (b + n) ≤ length (now table)) ⌝ }
+    ensures { λ r. ⌜ r ≡ sameBytes (slice (now (table .entry)) a n) (slice (now (table .entry)) b n) ⌝ }
+{
+    let one = RECORD_LENGTH * a;
+    let other = RECORD_LENGTH * b;
+    let end = RECORD_LENGTH * n;
+    let mut k = 0;
+    while k < end {
+        if table[one + k] != table[other + k] {
+            return false;
+        }
+        k += 1;
+    }
+    true
+}
+
+// Are the subtrees at records a and b the same?
+fn same_subtrees(table: &[u8], extents: &[usize], a: usize, b: usize) -> bool
+    requires { ⌜ Extents (now table) (now extents) ⌝ ∗ ⌜ a < recordCount (now table) ⌝ ∗ ⌜ b < recordCount (now table) ⌝ }
+    ensures { λ r. ⌜ r ≡ same (subtree (now (table .entry)) a) (subtree (now (table .entry)) b) ⌝ }
+{
+    let n = extents[a];
+    if n != extents[b] {
+        return false;
+    }
+    same_records(table, a, b, n)
+}
+
+// Is the tree at record p an unlimited sequence of two children?
+fn is_pair(table: &[u8], p: usize) -> bool
+    requires { ⌜ Simplifiable (now table) ⌝ ∗ ⌜ p < recordCount (now table) ⌝ }
+    ensures { λ r. ⌜ r ≡ isPair (subtree (now (table .entry)) p) ⌝ }
+{
+    let at = RECORD_LENGTH * p;
+    (table[at] == 1) & (table[at + 2] == 2) & (table[at + 3] == 0)
+}
+
+// Is it one whose second child is the same as the subtree at record `second`?
+fn pair_shares(table: &[u8], extents: &[usize], p: usize, second: usize) -> bool
+    requires { ⌜ Extents (now table) (now extents) ⌝ ∗ ⌜ p < recordCount (now table) ⌝ ∗ ⌜ second < recordCount (now table) ⌝ }
+    ensures { λ r. ⌜ r ≡ sharing (subtree (now (table .entry)) second) (subtree (now (table .entry)) p) ⌝ }
+{
+    if !is_pair(table, p) {
+        return false;
+    }
+    let first = p + 1;
+    same_subtrees(table, extents, first + extents[first], second)
+}
+
+// Are all children of the node at record i such?
+fn all_share(table: &[u8], extents: &[usize], i: usize, second: usize) -> bool
+    requires { ⌜ Extents (now table) (now extents) ⌝ ∗ ⌜ i < recordCount (now table) ⌝ ∗ ⌜ second < recordCount (now table) ⌝ }
+    ensures { λ r. ⌜ r ≡ allPairs (subtree (now (table .entry)) second) (children (subtree (now (table .entry)) i)) ⌝ }
+{
+    let start = RECORD_LENGTH * i;
+    let mut left = table::child_count(&table[start..]);
+    let mut p = i + 1;
+    while 0 < left {
+        if !pair_shares(table, extents, p, second) {
+            return false;
+        }
+        p += extents[p];
+        left -= 1;
+    }
+    true
+}
+
+// The record of the second child that the children of the node at record i share, where rule 8 fits, or 0.
+fn shared_child(table: &[u8], extents: &[usize], marks: &[u8], i: usize) -> usize
+    requires { ⌜ Surveyed (now table) (now extents) (now marks) ⌝ ∗ ⌜ i < recordCount (now table) ⌝ }
+    ensures { λ r. ⌜ r ≡ sharedAt i (treesAt (now (table .entry)) i) ⌝ }
+{
+    let start = RECORD_LENGTH * i;
+    if (table[start] != 2) | (table[start + 2] < 2) {
+        return 0;
+    }
+    let p = i + 1;
+    if !is_pair(table, p) {
+        return 0;
+    }
+    let first = p + 1;
+    let second = first + extents[first];
+    if marks[MARKS * second + 2] != 0 {
+        return 0;
+    }
+    if all_share(table, extents, i, second) {
+        return second;
+    }
+    0
+}
+
+// Copies the first children of `left` pairs, of which the first stands at record p, to the buffer's record `at` and on; answers the record after them.
+fn copy_firsts(
+    table: &[u8],
+    extents: &[usize],
+    p: usize,
+    left: usize,
+    out: &mut [u8],
+    at: usize,
+) -> usize
+    requires { ⌜ Extents (now table) (now extents) ⌝ ∗ ⌜ PairsAt (now table) p left ⌝ ∗ ⌜ recordLength * (at + recordsIn (firstsAt (now table) p left)) ≤ length (now out) ⌝ }
+    ensures { λ r. ⌜ (r ≡ at + recordsIn (firstsAt (now (table .entry)) p left)) × (front r (now (out .exit)) ≡ front at (now (out .entry)) ++ encodes (firstsAt (now (table .entry)) p left)) ⌝ }
+{
+    let mut q = p;
+    let mut to = at;
+    let mut n = left;
+    while 0 < n {
+        let first = q + 1;
+        to = copy_records(table, first, extents[first], out, to);
+        q += extents[q];
+        n -= 1;
+    }
+    to
+}
+
+// Puts the records of a sequence of two with the limit of the node at record i, and of an unlimited choice with its number of children.
+fn put_tops(table: &[u8], i: usize, out: &mut [u8]) -> usize
+    requires { ⌜ Simplifiable (now table) ⌝ ∗ ⌜ i < recordCount (now table) ⌝ ∗ ⌜ recordLength * 2 ≤ length (now out) ⌝ }
+    ensures { λ r. ⌜ (r ≡ 2) × (front r (now (out .exit)) ≡ topBytes (subtree (now (table .entry)) i)) ⌝ }
+{
+    let start = RECORD_LENGTH * i;
+    let node = table::read_node(&table[start..]);
+    let limit = node.limit;
+    let next = put_node(out, 0, Kind::Sequence, limit, 2);
+    put_node(out, next, Kind::Choice, Limit::Unlimited, table[start + 2])
+}
+
 // 8. A choice of at least two unlimited two-child sequences with the same closed second child becomes a sequence of a choice of the first children and
 // that second child.
 pub fn rule8_at(table: &[u8], extents: &[usize], marks: &[u8], i: usize, out: &mut [u8]) -> usize
     requires { ⌜ Surveyed (now table) (now extents) (now marks) ⌝ ∗ ⌜ i < recordCount (now table) ⌝ ∗ ⌜ length (now table) ≤ length (now out) ⌝ }
     ensures { λ r. ⌜ Wrote (ruleAt rule8 (treesAt (now (table .entry)) i)) r (now (out .exit)) ⌝ }
 {
-    0
+    let second = shared_child(table, extents, marks, i);
+    if second == 0 {
+        return 0;
+    }
+    let start = RECORD_LENGTH * i;
+    let count = table::child_count(&table[start..]);
+    let tops = put_tops(table, i, out);
+    let firsts = copy_firsts(table, extents, i + 1, count, out, tops);
+    let at = copy_records(table, second, extents[second], out, firsts);
+    let from = i + extents[i];
+    let n = table.len() / RECORD_LENGTH - from;
+    copy_records(table, from, n, out, at)
 }
 
 // Is the tree at record p an unlimited loop of plain bound 0?

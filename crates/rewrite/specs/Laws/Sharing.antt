@@ -1,0 +1,309 @@
+-- Rule 8 by records and bytes.
+use mathlib.Core.Path.{_≡_, refl, ap, ap₂, sym, subst, _∙_}
+use mathlib.Core.Bool.{Bool, true, false, not, cond, _&&_, _||_}
+use mathlib.Core.List.{List, [], _∷_, _++_, append-assoc, append-nil}
+use mathlib.Core.Option.{Option, none, some}
+use Prim.Native.Nat.{ℕ, zero, suc, _+_, _*_, _-_, _<_, _≤_}
+use native.Mathlib.Nat.{zero-add}
+use native.Mathlib.Numerals.{add-one}
+use native.Mathlib.Omega.{arith}
+use lib.Dec.{T, eqb, eqb→eq, eqb-refl, leb}
+use lib.ListN.{drop, getD, length, length-drop, length-take, take}
+use lib.Seq.{drop-cons, drop-length, getD-drop, getD-take, take-all}
+use borrow.Author.Tests.{eq-eqb, ne-eqb, not-false, not-true}
+use Rattle.booleans.specs.Laws.{T-is, both, is-T, join-and, same-test}
+use Rattle.booleans.specs.Tests.{_and_}
+use Rattle.evaluate.specs.Closed.{closed, isUnlimited}
+use Rattle.simplify.specs.Rules.{allPairs, children, firstOf, firsts, headOf, isPair, limitOf, rule8, secondOf, sharedOut, shares, tailOf, when}
+use Rattle.simplify.specs.Same.{same, sameKind}
+use Rattle.simplify.specs.Steps.{also}
+use Rattle.simplify.specs.Laws.Same.{bytes-same, kind-is, same-is, self}
+use Rattle.table.specs.Numbers.{recordLength}
+use Rattle.table.specs.Questions.{listed}
+use Rattle.table.specs.Table.{childByte, encode, encodes, firstNode, firstOnes, kindByte, loopByte, recordBytes, recordCount, top}
+use Rattle.table.specs.Trees.{Forest, Tree, nil, node, _▸_, _⧺_, records, recordsIn, size}
+use Rattle.table.specs.Laws.RoundTrip.{WritesLimit, children-bytes, first-⧺, length-encode}
+use Rattle.table.specs.Laws.Reading.{part-from, part-long, partAt}
+use Rattle.table.specs.Laws.Trees.{some-records}
+use Rattle.subtrees.specs.Facts.{Extents, Surveyed, marksEach}
+use Rattle.subtrees.specs.Parts.{Simplifiable, subtree, treesAt}
+use Rattle.subtrees.specs.Laws.Facts.{closed-at}
+use Rattle.subtrees.specs.Laws.Forests.{Sound}
+use Rattle.subtrees.specs.Laws.Parts.{Here, back-at, bytes-at, few-records, here-at, length-is, records-at, skip-at}
+use Rattle.rewrite.specs.Nodes.{AtMost, Block, Choice, Kind, Limit, Loop, Node, Number, Plain, Sequence, Symbol, Unlimited}
+use Rattle.rewrite.specs.Sharing.{PairsAt, firstsAt, pairs, sameBytes, sharedAt, sharing, topBytes}
+use Rattle.rewrite.specs.Writing.{Wrote, front, nodeOf, ruleAt, slice}
+use Rattle.rewrite.specs.Laws.Exit.{Fields, Two, fields-at, own-writes, rest-written, subtree-is, two-are, wrote-none, wrote-some}
+
+-- ---- bytes compared one by one
+
+pub bytes-are : (b c : List ℕ) → T (sameBytes b c) → b ≡ c
+unfolding sameBytes
+bytes-are [] [] h = refl
+bytes-are [] (y ∷ c) h = absurd h
+bytes-are (x ∷ b) [] h = absurd h
+bytes-are (x ∷ b) (y ∷ c) h = let (p, q) = both _ _ h in ap₂ _∷_ (eqb→eq x y p) (bytes-are b c q)
+
+pub bytes-self : (b : List ℕ) → T (sameBytes b b)
+unfolding sameBytes
+bytes-self [] = tt
+bytes-self (x ∷ b) = join-and _ _ (eqb-refl x) (bytes-self b)
+
+-- what is left of the comparison of the n records from records i and j on, after k bytes
+pub record Compared (b : List ℕ) (i j n k : ℕ) : Type 0 where
+  pub within : k ≤ recordLength * n
+  pub left : sameBytes (slice b i n) (slice b j n) ≡ sameBytes (drop k (slice b i n)) (drop k (slice b j n))
+
+slice-long : (b : List ℕ) (i n : ℕ) → recordLength * (i + n) ≤ length b → length (slice b i n) ≡ recordLength * n
+slice-long b i n l = rw (length-take, length-drop) (omega arith)
+
+slice-more : (b : List ℕ) (i n k : ℕ) → recordLength * (i + n) ≤ length b → k < recordLength * n
+    → drop k (slice b i n) ≡ getD b (recordLength * i + k) 0 ∷ drop (suc k) (slice b i n)
+slice-more b i n k l m =
+    drop-cons (slice b i n) k 0 (rw (slice-long b i n l) m) ∙ rw (getD-take (recordLength * n) (drop (recordLength * i) b) k 0 m, getD-drop) refl
+
+compare-step : (b : List ℕ) (i j n k : ℕ) → recordLength * (i + n) ≤ length b → recordLength * (j + n) ≤ length b → k < recordLength * n → Compared b i j n k
+    → sameBytes (slice b i n) (slice b j n) ≡ (eqb (getD b (recordLength * i + k) 0) (getD b (recordLength * j + k) 0) and sameBytes (drop (suc k) (slice b i n)) (drop (suc k) (slice b j n)))
+unfolding sameBytes
+compare-step b i j n k l m h c = c .left ∙ rw (slice-more b i n k l h, slice-more b j n k m h) refl
+
+pub none-compared : (b : List ℕ) (i j n : ℕ) → Compared b i j n 0
+none-compared b i j n = record { within = omega arith; left = refl }
+
+pub byte-same : (b : List ℕ) (i j n k : ℕ) → recordLength * (i + n) ≤ length b → recordLength * (j + n) ≤ length b → k < recordLength * n → Compared b i j n k
+    → getD b (recordLength * i + k) 0 ≡ getD b (recordLength * j + k) 0 → Compared b i j n (k + 1)
+unfolding _and_
+byte-same b i j n k l m h c e = record { within = omega arith; left = compare-step b i j n k l m h c ∙ rw (eq-eqb (getD b (recordLength * i + k) 0) (getD b (recordLength * j + k) 0) e, add-one) refl }
+
+pub byte-other : (b : List ℕ) (i j n k : ℕ) → recordLength * (i + n) ≤ length b → recordLength * (j + n) ≤ length b → k < recordLength * n → Compared b i j n k
+    → (getD b (recordLength * i + k) 0 ≡ getD b (recordLength * j + k) 0 → ⊥) → false ≡ sameBytes (slice b i n) (slice b j n)
+unfolding _and_
+byte-other b i j n k l m h c e = sym (compare-step b i j n k l m h c ∙ rw (ne-eqb (getD b (recordLength * i + k) 0) (getD b (recordLength * j + k) 0) e) refl)
+
+drop-past : (l : List ℕ) (k : ℕ) → length l ≤ k → drop k l ≡ []
+drop-past [] zero h = refl
+drop-past [] (suc k) h = refl
+drop-past (x ∷ l) zero h = absurd (omega arith)
+drop-past (x ∷ l) (suc k) h = drop-past l k (omega arith)
+
+pub all-compared : (b : List ℕ) (i j n k : ℕ) → recordLength * (i + n) ≤ length b → recordLength * (j + n) ≤ length b → recordLength * n ≤ k → Compared b i j n k
+    → true ≡ sameBytes (slice b i n) (slice b j n)
+unfolding sameBytes
+all-compared b i j n k l m h c =
+    sym (c .left ∙ rw (drop-past (slice b i n) k (rw (slice-long b i n l) h), drop-past (slice b j n) k (rw (slice-long b j n m) h)) refl)
+
+-- ---- two subtrees compared
+
+subtree-bytes : (b : List ℕ) → Simplifiable b → (i : ℕ) → i < recordCount b → slice b i (records (subtree b i)) ≡ encode (subtree b i)
+unfolding recordsIn encodes _⧺_
+subtree-bytes b s i l =
+    let h = here-at b s i l in
+    let t = node (h .own) (h .kids) in
+    let n : recordsIn (t ▸ nil) ≡ records t = omega arith in
+    rw (subtree-is b i h, ← n) (bytes-at b s i (t ▸ nil) (h .later) (h .here) ∙ append-nil (encode t))
+
+subtree-listed : (b : List ℕ) → Simplifiable b → (i : ℕ) → i < recordCount b → T (listed (subtree b i))
+subtree-listed b s i l = let h = here-at b s i l in rw (subtree-is b i h) (h .sound .fair .listed)
+
+pub subtree-within : (b : List ℕ) → Simplifiable b → (i : ℕ) → i < recordCount b → i + records (subtree b i) ≤ recordCount b
+unfolding recordsIn
+subtree-within b s i l =
+    let h = here-at b s i l in
+    let e : recordsIn (treesAt b i) ≡ records (node (h .own) (h .kids)) + recordsIn (h .later) = ap recordsIn (h .here) in
+    rw (subtree-is b i h) (omega (arith, records-at b s i))
+
+never : (x : Bool) → (T x → ⊥) → false ≡ x
+never true f = absurd (f tt)
+never false f = refl
+
+module _ (b extents : List ℕ) (s : Extents b extents) (i j : ℕ) (l : i < recordCount b) (m : j < recordCount b) where
+  -- they differ in how many records they have
+  pub other-sizes : (getD extents i 0 ≡ getD extents j 0 → ⊥) → false ≡ same (subtree b i) (subtree b j)
+  other-sizes e =
+      let t = subtree b i in
+      let u = subtree b j in
+      never (same t u) (λ q. e (s .each i l ∙ ap records (same-is t u q) ∙ sym (s .each j m)))
+
+  -- both have as many
+  pub same-room : getD extents i 0 ≡ getD extents j 0
+      → (recordLength * (i + getD extents i 0) ≤ length b) × (recordLength * (j + getD extents i 0) ≤ length b)
+  same-room e =
+      let p = s .simplifiable in
+      omega (arith, s .each i l, s .each j m, subtree-within b p i l, subtree-within b p j m, length-is b p)
+
+  pub same-bytes : (r : Bool) → getD extents i 0 ≡ getD extents j 0
+      → r ≡ sameBytes (slice b i (getD extents i 0)) (slice b j (getD extents i 0)) → r ≡ same (subtree b i) (subtree b j)
+  same-bytes r e w =
+      let p = s .simplifiable in
+      let t = subtree b i in
+      let u = subtree b j in
+      let x : slice b i (getD extents i 0) ≡ encode t = ap (slice b i) (s .each i l) ∙ subtree-bytes b p i l in
+      let y : slice b j (getD extents i 0) ≡ encode u = ap (slice b j) (e ∙ s .each j m) ∙ subtree-bytes b p j m in
+      w ∙ rw (x, y) (same-test _ _
+      (λ h. bytes-same t u (subtree-listed b p i l) (subtree-listed b p j m) (bytes-are (encode t) (encode u) h))
+      (λ h. subst (λ v. T (sameBytes (encode t) (encode v))) (same-is t u h) (bytes-self (encode t))))
+
+-- ---- pairs
+
+pair-kind : (k : Kind) (l : Limit) → WritesLimit l → (eqb (kindByte k) 1 && true && eqb (loopByte l) 0) ≡ (sameKind k Sequence and isUnlimited l)
+unfolding kindByte loopByte sameKind isUnlimited WritesLimit _and_
+pair-kind (Block v) l w = refl
+pair-kind Sequence Unlimited w = refl
+pair-kind Sequence (AtMost j m) w = rw (ne-eqb j 0 (λ e. omega arith)) refl
+pair-kind Choice l w = refl
+pair-kind (Loop v) l w = refl
+
+not-two : (x y : Bool) → (x && false && y) ≡ false
+not-two true y = refl
+not-two false y = refl
+
+pair-bytes : (n : Node) (f : Forest) → WritesLimit (n .limit) → (eqb (kindByte (n .kind)) 1 && eqb (size f) 2 && eqb (loopByte (n .limit)) 0) ≡ isPair (node n f)
+unfolding isPair size
+pair-bytes n nil w = not-two (eqb (kindByte (n .kind)) 1) (eqb (loopByte (n .limit)) 0)
+pair-bytes n (a ▸ nil) w = not-two (eqb (kindByte (n .kind)) 1) (eqb (loopByte (n .limit)) 0)
+pair-bytes n (a ▸ x ▸ nil) w = pair-kind (n .kind) (n .limit) w
+pair-bytes n (a ▸ x ▸ y ▸ f) w = rw (ne-eqb (suc (suc (suc (size f)))) 2 (λ e. omega arith)) (not-two (eqb (kindByte (n .kind)) 1) (eqb (loopByte (n .limit)) 0))
+
+pub pair-test : (b : List ℕ) (p : ℕ) → Simplifiable b → p < recordCount b
+    → (eqb (getD b (recordLength * p) 0) 1 && eqb (getD b (recordLength * p + 2) 0) 2 && eqb (getD b (recordLength * p + 3) 0) 0) ≡ isPair (subtree b p)
+pair-test b p s l =
+    let h = here-at b s p l in
+    let f = fields-at b p h in
+    rw (f .kind, f .count, f .loop, subtree-is b p h) (pair-bytes (h .own) (h .kids) (own-writes b p h .limit))
+
+pair-size : (n : Node) (f : Forest) → T (isPair (node n f)) → size f ≡ 2
+unfolding isPair size
+pair-size n nil h = absurd h
+pair-size n (a ▸ nil) h = absurd h
+pair-size n (a ▸ x ▸ nil) h = refl
+pair-size n (a ▸ x ▸ y ▸ f) h = absurd h
+
+-- where a pair's two children stand
+pub record PairAt (b extents : List ℕ) (p : ℕ) : Type 0 where
+  pub later : Forest
+  pub inside : p + 1 < recordCount b
+  pub sized : p + 1 < length extents
+  pub size : getD extents (p + 1) 0 ≡ records (firstOf (subtree b p))
+  pub row : treesAt b (p + 1) ≡ firstOf (subtree b p) ▸ secondOf (subtree b p) ▸ later
+  pub place : p + 1 + getD extents (p + 1) 0 < recordCount b
+  pub stand : subtree b (p + 1 + getD extents (p + 1) 0) ≡ secondOf (subtree b p)
+
+module _ (b extents : List ℕ) (s : Extents b extents) (p : ℕ) (l : p < recordCount b) where
+  pair-from : (h : Here b p) → Two (h .kids) → PairAt b extents p
+  unfolding recordsIn _⧺_ subtree top firstOf secondOf headOf tailOf children
+  pair-from h w =
+      let sim = s .simplifiable in
+      let t : subtree b p ≡ node (h .own) (w .one ▸ w .other ▸ nil) = subtree-is b p h ∙ ap (node (h .own)) (w .are) in
+      let next : treesAt b (p + 1) ≡ w .one ▸ w .other ▸ h .later = rw add-one (h .next ∙ ap (λ f. f ⧺ h .later) (w .are)) in
+      let count = records-at b sim (p + 1) in
+      let long : recordsIn (treesAt b (p + 1)) ≡ records (w .one) + (records (w .other) + recordsIn (h .later)) = ap recordsIn next in
+      let inside : p + 1 < recordCount b = omega (arith, some-records (w .one)) in
+      let size : getD extents (p + 1) 0 ≡ records (w .one) = s .each (p + 1) inside ∙ ap records (ap top next) in
+      let past : recordsIn (w .one ▸ nil) ≡ getD extents (p + 1) 0 = omega arith in
+      let after : treesAt b (p + 1 + getD extents (p + 1) 0) ≡ w .other ▸ h .later = rw (← past) (skip-at b sim (p + 1) (w .one ▸ nil) (w .other ▸ h .later) next) in
+      record {
+        later = h .later;
+        inside = inside;
+        sized = omega (arith, s .room);
+        size = size ∙ ap (λ u. records (firstOf u)) (sym t);
+        row = next ∙ ap (λ u. firstOf u ▸ secondOf u ▸ h .later) (sym t);
+        place = omega (arith, some-records (w .other));
+        stand = ap top after ∙ ap secondOf (sym t);
+      }
+
+  pub pair-at : isPair (subtree b p) ≡ true → PairAt b extents p
+  pair-at e =
+      let h = here-at b (s .simplifiable) p l in
+      pair-from h (two-are (h .kids) (pair-size (h .own) (h .kids) (is-T _ (ap isPair (sym (subtree-is b p h)) ∙ e))))
+
+pub no-pair : (r : Bool) (x t : Tree) → r ≡ isPair t → not r ≡ true → false ≡ sharing x t
+unfolding sharing _and_
+no-pair r x t e n = rw (← e, not-true r n) refl
+
+pub pair-same : (r q : Bool) (x t u : Tree) → q ≡ isPair t → not q ≡ false → u ≡ secondOf t → r ≡ same u x → r ≡ sharing x t
+unfolding sharing _and_
+pair-same r q x t u e n w h = rw (← e, not-false q n, ← w) h
+
+-- ---- children one after another
+
+-- the first of the trees that stand in a row from record p on, and where the next one stands
+pub record NextAt (b extents : List ℕ) (p : ℕ) (row later : Forest) : Type 0 where
+  pub others : Forest
+  pub are : row ≡ subtree b p ▸ others
+  pub inside : p < recordCount b
+  pub sized : p < length extents
+  pub within : p + getD extents p 0 ≤ recordCount b
+  pub next : treesAt b (p + getD extents p 0) ≡ others ⧺ later
+
+pub next-at : (b extents : List ℕ) → Extents b extents → (p : ℕ) (row later : Forest) → treesAt b p ≡ row ⧺ later → 0 < size row → NextAt b extents p row later
+unfolding size _⧺_ recordsIn subtree top
+next-at b extents s p nil later e h = absurd (omega arith)
+next-at b extents s p (t ▸ f) later e h =
+    let sim = s .simplifiable in
+    let count = records-at b sim p in
+    let long : recordsIn (treesAt b p) ≡ records t + recordsIn (f ⧺ later) = ap recordsIn e in
+    let inside : p < recordCount b = omega (arith, some-records t) in
+    let size : getD extents p 0 ≡ records t = s .each p inside ∙ ap records (ap top e) in
+    let past : recordsIn (t ▸ nil) ≡ getD extents p 0 = omega arith in
+    record {
+      others = f;
+      are = ap (λ u. u ▸ f) (sym (ap top e));
+      inside = inside;
+      sized = omega (arith, s .room);
+      within = omega arith;
+      next = rw (← past) (skip-at b sim p (t ▸ nil) (f ⧺ later) e);
+    }
+
+-- the trees from record p on are left to be looked at, of the children of the node at record i
+pub record Shared (b : List ℕ) (i x p left : ℕ) : Type 0 where
+  pub row : Forest
+  pub later : Forest
+  pub stand : treesAt b p ≡ row ⧺ later
+  pub count : size row ≡ left
+  pub still : allPairs (subtree b x) (children (subtree b i)) ≡ allPairs (subtree b x) row
+
+pub count-at : (b : List ℕ) (i : ℕ) (h : Here b i) → childByte (partAt b i) ≡ size (h .kids)
+count-at b i h = ap childByte (part-from b (recordLength * i) ∙ h .bytes) ∙ children-bytes (h .own) (size (h .kids)) _
+
+pub shared-start : (b : List ℕ) → Simplifiable b → (i x c : ℕ) → i < recordCount b → c ≡ childByte (partAt b i) → Shared b i x (i + 1) c
+unfolding children
+shared-start b s i x c l e = let h = here-at b s i l in record {
+  row = h .kids;
+  later = h .later;
+  stand = rw add-one (h .next);
+  count = sym (e ∙ count-at b i h);
+  still = ap (λ t. allPairs (subtree b x) (children t)) (subtree-is b i h);
+}
+
+module _ (b extents : List ℕ) (s : Extents b extents) (i x p left : ℕ) (h : Shared b i x p left) (l : 0 < left) where
+  pub shared-turn : NextAt b extents p (h .row) (h .later)
+  shared-turn = next-at b extents s p (h .row) (h .later) (h .stand) (omega (arith, h .count))
+
+  shared-split : allPairs (subtree b x) (children (subtree b i)) ≡ (sharing (subtree b x) (subtree b p) and allPairs (subtree b x) (shared-turn .others))
+  unfolding allPairs sharing
+  shared-split = h .still ∙ ap (allPairs (subtree b x)) (shared-turn .are)
+
+  pub shared-next : (r : Bool) → r ≡ sharing (subtree b x) (subtree b p) → not r ≡ false → Shared b i x (p + getD extents p 0) (left - 1)
+  unfolding _and_ size
+  shared-next r e n =
+      let c : size (h .row) ≡ suc (size (shared-turn .others)) = ap size (shared-turn .are) in
+      record {
+        row = shared-turn .others;
+        later = h .later;
+        stand = shared-turn .next;
+        count = omega (arith, h .count);
+        still = shared-split ∙ rw (← e, not-false r n) refl;
+      }
+
+  pub shared-not : (r : Bool) → r ≡ sharing (subtree b x) (subtree b p) → not r ≡ true → false ≡ allPairs (subtree b x) (children (subtree b i))
+  unfolding _and_
+  shared-not r e n = sym (shared-split ∙ rw (← e, not-true r n) refl)
+
+no-more : (f : Forest) → size f ≡ 0 → f ≡ nil
+unfolding size
+no-more nil e = refl
+no-more (t ▸ f) e = absurd (omega arith)
+
+pub shared-all : (b : List ℕ) (i x p left : ℕ) → Shared b i x p left → left ≤ 0 → true ≡ allPairs (subtree b x) (children (subtree b i))
+unfolding allPairs
+shared-all b i x p left h l = sym (h .still ∙ rw (no-more (h .row) (omega (arith, h .count))) refl)
