@@ -7,10 +7,10 @@ use Prim.Native.Nat.{ℕ, zero, suc, _+_, _*_, _-_, _<_, _≤_}
 use native.Mathlib.Nat.{zero-add}
 use native.Mathlib.Numerals.{add-one}
 use native.Mathlib.Omega.{arith}
-use lib.Dec.{T, eqb, eqb→eq, eqb-refl, leb}
+use lib.Dec.{T, eqb, eqb→eq, eqb-refl, leb, leb→le, ltb}
 use lib.ListN.{drop, getD, length, length-drop, length-take, take}
 use lib.Seq.{drop-cons, drop-length, getD-drop, getD-take, take-all}
-use borrow.Author.Tests.{eq-eqb, ne-eqb, not-false, not-true}
+use borrow.Author.Tests.{eq-eqb, le-leb, lt-leb, ltb-false, ltb-true, ne-eqb, not-false, not-true}
 use Rattle.booleans.specs.Laws.{T-is, both, is-T, join-and, same-test}
 use Rattle.booleans.specs.Tests.{_and_}
 use Rattle.evaluate.specs.Closed.{closed, isUnlimited}
@@ -25,7 +25,7 @@ use Rattle.table.specs.Trees.{Forest, Tree, nil, node, _▸_, _⧺_, records, r
 use Rattle.table.specs.Laws.RoundTrip.{WritesLimit, children-bytes, first-⧺, length-encode}
 use Rattle.table.specs.Laws.Reading.{part-from, part-long, partAt}
 use Rattle.table.specs.Laws.Trees.{some-records}
-use Rattle.subtrees.specs.Facts.{Extents, Surveyed, marksEach}
+use Rattle.subtrees.specs.Facts.{Extents, Surveyed, marksEach, reach}
 use Rattle.subtrees.specs.Parts.{Simplifiable, subtree, treesAt}
 use Rattle.subtrees.specs.Laws.Facts.{closed-at}
 use Rattle.subtrees.specs.Laws.Forests.{Sound}
@@ -307,3 +307,203 @@ no-more (t ▸ f) e = absurd (omega arith)
 pub shared-all : (b : List ℕ) (i x p left : ℕ) → Shared b i x p left → left ≤ 0 → true ≡ allPairs (subtree b x) (children (subtree b i))
 unfolding allPairs
 shared-all b i x p left h l = sym (h .still ∙ rw (no-more (h .row) (omega (arith, h .count))) refl)
+
+-- ---- where rule 8 fits
+
+kind-choice : (k : Kind) → eqb (kindByte k) 2 ≡ sameKind k Choice
+unfolding kindByte sameKind
+kind-choice (Block v) = refl
+kind-choice Sequence = refl
+kind-choice Choice = refl
+kind-choice (Loop v) = refl
+
+and-false : (x : Bool) → (x and false) ≡ false
+unfolding _and_
+and-false true = refl
+and-false false = refl
+
+no-fit : (x : Bool) (n : ℕ) (c d : Bool) → (not x || ltb n 2) ≡ true → (x and (leb 2 n and c and d)) ≡ false
+unfolding _and_
+no-fit true n c d e = rw (lt-leb 2 n (ltb-true n 2 e)) refl
+no-fit false n c d e = refl
+
+some-fit : (x : Bool) (n : ℕ) → (not x || ltb n 2) ≡ false → (x ≡ true) × (2 ≤ n)
+some-fit true n e = (refl, ltb-false n 2 e)
+some-fit false n e = absurd (subst T e tt)
+
+-- the test of the first record: not a choice, or of fewer than two children
+abbrev pub other : List ℕ → ℕ → Bool
+other b i = not (eqb (getD b (recordLength * i) 0) 2) || ltb (getD b (recordLength * i + 2) 0) 2
+
+other-is : (b : List ℕ) (i : ℕ) (h : Here b i) → other b i ≡ (not (sameKind (h .own .kind) Choice) || ltb (size (h .kids)) 2)
+other-is b i h = let f = fields-at b i h in rw (f .kind, f .count, kind-choice (h .own .kind)) refl
+
+other-shared : (i : ℕ) (n : Node) (f g : Forest) → (not (sameKind (n .kind) Choice) || ltb (size f) 2) ≡ true → 0 ≡ sharedAt i (node n f ▸ g)
+unfolding sharedAt shares
+other-shared i n f g e = rw (no-fit (sameKind (n .kind) Choice) (size f) (closed (secondOf (headOf f)) 0) (allPairs (secondOf (headOf f)) f) e) refl
+
+pub no-choice : (b : List ℕ) → Simplifiable b → (i : ℕ) → i < recordCount b → other b i ≡ true → 0 ≡ sharedAt i (treesAt b i)
+no-choice b s i l e =
+    let h = here-at b s i l in
+    rw (h .here) (other-shared i (h .own) (h .kids) (h .later) (sym (other-is b i h) ∙ e))
+
+-- a choice of at least two children, of which the first stands at record i + 1
+pub record ChoiceAt (b : List ℕ) (i : ℕ) : Type 0 where
+  pub others : Forest
+  pub inside : i + 1 < recordCount b
+  pub are : children (subtree b i) ≡ subtree b (i + 1) ▸ others
+  pub shared : sharedAt i (treesAt b i) ≡ cond (closed (secondOf (subtree b (i + 1))) 0 and allPairs (secondOf (subtree b (i + 1))) (children (subtree b i)))
+      (i + 2 + records (firstOf (subtree b (i + 1)))) 0
+
+choice-shared : (i : ℕ) (n : Node) (t : Tree) (f g : Forest) → sameKind (n .kind) Choice ≡ true → leb 2 (size (t ▸ f)) ≡ true
+    → sharedAt i (node n (t ▸ f) ▸ g) ≡ cond (closed (secondOf t) 0 and allPairs (secondOf t) (t ▸ f)) (i + 2 + records (firstOf t)) 0
+unfolding sharedAt shares headOf _and_
+choice-shared i n t f g k l = rw (k, l) refl
+
+pub choice-at : (b extents : List ℕ) → Extents b extents → (i : ℕ) → i < recordCount b → other b i ≡ false → ChoiceAt b i
+unfolding children
+choice-at b extents s i l e =
+    let h = here-at b (s .simplifiable) i l in
+    let (k, two) = some-fit (sameKind (h .own .kind) Choice) (size (h .kids)) (sym (other-is b i h) ∙ e) in
+    let n = next-at b extents s (i + 1) (h .kids) (h .later) (rw add-one (h .next)) (omega arith) in
+    let kids : children (subtree b i) ≡ h .kids = ap children (subtree-is b i h) in
+    let many : leb 2 (size (subtree b (i + 1) ▸ n .others)) ≡ true = ap (λ f. leb 2 (size f)) (sym (n .are)) ∙ le-leb 2 (size (h .kids)) two in
+    record {
+      others = n .others;
+      inside = n .inside;
+      are = kids ∙ n .are;
+      shared = ap (sharedAt i) (h .here ∙ ap (λ f. node (h .own) f ▸ h .later) (n .are)) ∙ choice-shared i (h .own) (subtree b (i + 1)) (n .others) (h .later) k many
+      ∙ ap (λ f. cond (closed (secondOf (subtree b (i + 1))) 0 and allPairs (secondOf (subtree b (i + 1))) f) (i + 2 + records (firstOf (subtree b (i + 1)))) 0) (sym (kids ∙ n .are));
+    }
+
+first-other : (x t : Tree) (f : Forest) → isPair t ≡ false → allPairs x (t ▸ f) ≡ false
+unfolding allPairs _and_
+first-other x t f e = rw e refl
+
+pub first-no-pair : {b : List ℕ} {i : ℕ} (x : ChoiceAt b i) (r : Bool) → r ≡ isPair (subtree b (i + 1)) → not r ≡ true → 0 ≡ sharedAt i (treesAt b i)
+first-no-pair {b} {i} x r e n =
+    let t = subtree b (i + 1) in
+    let none : allPairs (secondOf t) (children (subtree b i)) ≡ false = ap (allPairs (secondOf t)) (x .are) ∙ first-other (secondOf t) t (x .others) (sym e ∙ not-true r n) in
+    sym (x .shared ∙ rw (none, and-false (closed (secondOf t) 0)) refl)
+
+none-or-zero : (n : ℕ) → leb n 0 ≡ eqb n 0
+none-or-zero zero = refl
+none-or-zero (suc n) = lt-leb (suc n) 0 (omega arith) ∙ sym (ne-eqb (suc n) 0 (λ e. omega arith))
+
+subtree-sound : (b : List ℕ) → Simplifiable b → (i : ℕ) → i < recordCount b → Sound (subtree b i)
+subtree-sound b s i l = let h = here-at b s i l in rw (subtree-is b i h) (h .sound)
+
+-- by what is kept of the second child
+module _ (b extents marks : List ℕ) (s : Surveyed b extents marks) (i : ℕ) (x : ChoiceAt b i) (w : PairAt b extents (i + 1)) where
+  abbrev pub second : ℕ
+  second = i + 1 + 1 + getD extents (i + 1 + 1) 0
+
+  shared-by : sharedAt i (treesAt b i) ≡ cond (eqb (getD marks (marksEach * second + 2) 0) 0 and allPairs (subtree b second) (children (subtree b i))) second 0
+  shared-by =
+      let t = subtree b (i + 1) in
+      let r : getD marks (marksEach * second + 2) 0 ≡ reach (subtree b second) = s .each second (w .place) .reach in
+      let c : closed (subtree b second) 0 ≡ eqb (getD marks (marksEach * second + 2) 0) 0 = closed-at (subtree b second) (subtree-sound b (s .sizes .simplifiable) second (w .place)) ∙ none-or-zero (reach (subtree b second)) ∙ ap (λ n. eqb n 0) (sym r) in
+      let p : i + 2 + records (firstOf t) ≡ second = omega (arith, w .size) in
+      x .shared ∙ rw (← w .stand, c, p) refl
+
+  pub second-open : (getD marks (marksEach * second + 2) 0 ≡ 0 → ⊥) → 0 ≡ sharedAt i (treesAt b i)
+  unfolding _and_
+  second-open e = sym (shared-by ∙ rw (ne-eqb (getD marks (marksEach * second + 2) 0) 0 e) refl)
+
+  pub second-by : (r : Bool) → getD marks (marksEach * second + 2) 0 ≡ 0 → r ≡ allPairs (subtree b second) (children (subtree b i)) → cond r second 0 ≡ sharedAt i (treesAt b i)
+  unfolding _and_
+  second-by r e f = sym (shared-by ∙ rw (eq-eqb (getD marks (marksEach * second + 2) 0) 0 e, ← f) refl)
+
+-- ---- the first children copied
+
+pub record Copying (b : List ℕ) (p n at : ℕ) (o : List ℕ) (q m to : ℕ) (out : List ℕ) : Type 0 where
+  pub row : Forest
+  pub later : Forest
+  pub stand : treesAt b q ≡ row ⧺ later
+  pub count : size row ≡ m
+  pub pairs : T (pairs row)
+  pub long : length out ≡ length o
+  pub room : recordLength * (to + recordsIn (firsts row)) ≤ length out
+  pub total : to + recordsIn (firsts row) ≡ at + recordsIn (firstsAt b p n)
+  pub bytes : front to out ++ encodes (firsts row) ≡ front at o ++ encodes (firstsAt b p n)
+
+pub firsts-are : (b : List ℕ) (p n : ℕ) (f g : Forest) → treesAt b p ≡ f ⧺ g → size f ≡ n → firstsAt b p n ≡ firsts f
+firsts-are b p n f g e c = rw (e, ← c, first-⧺ f g) refl
+
+pub copying-none : (b : List ℕ) (p n at : ℕ) (o : List ℕ) → PairsAt b p n → recordLength * (at + recordsIn (firstsAt b p n)) ≤ length o → Copying b p n at o p n at o
+copying-none b p n at o h l =
+    let e = firsts-are b p n (h .row) (h .later) (h .stand) (h .count) in
+    record {
+      row = h .row;
+      later = h .later;
+      stand = h .stand;
+      count = h .count;
+      pairs = h .pairs;
+      long = refl;
+      room = rw (← e) l;
+      total = ap (λ f. at + recordsIn f) (sym e);
+      bytes = ap (λ f. front at o ++ encodes f) (sym e);
+    }
+
+-- the pair at record q, its children, and where the next one stands
+pub record TurnAt (b extents : List ℕ) (q : ℕ) (row later : Forest) : Type 0 where
+  pub next : NextAt b extents q row later
+  pub pair : PairAt b extents q
+  pub rest : T (pairs (next .others))
+
+first-pair : (t : Tree) (f : Forest) → T (pairs (t ▸ f)) → T (isPair t) × T (pairs f)
+unfolding pairs
+first-pair t f h = both _ _ h
+
+module _ (b extents : List ℕ) (s : Extents b extents) (p n at : ℕ) (o : List ℕ) (q m to : ℕ) (out : List ℕ) (h : Copying b p n at o q m to out) (l : 0 < m) where
+  pub copying-turn : TurnAt b extents q (h .row) (h .later)
+  copying-turn =
+      let w = next-at b extents s q (h .row) (h .later) (h .stand) (omega (arith, h .count)) in
+      let (x, y) = first-pair (subtree b q) (w .others) (subst (λ f. T (pairs f)) (w .are) (h .pairs)) in
+      record { next = w; pair = pair-at b extents s q (w .inside) (T-is _ x); rest = y }
+
+  firsts-row : firsts (h .row) ≡ firstOf (subtree b q) ▸ firsts (copying-turn .next .others)
+  unfolding firsts
+  firsts-row = ap firsts (copying-turn .next .are)
+
+  row-records : recordsIn (firsts (h .row)) ≡ getD extents (q + 1) 0 + recordsIn (firsts (copying-turn .next .others))
+  unfolding recordsIn
+  row-records = ap recordsIn firsts-row ∙ ap (λ k. k + recordsIn (firsts (copying-turn .next .others))) (sym (copying-turn .pair .size))
+
+  row-bytes : encodes (firsts (h .row)) ≡ slice b (q + 1) (getD extents (q + 1) 0) ++ encodes (firsts (copying-turn .next .others))
+  unfolding encodes recordsIn _⧺_
+  row-bytes =
+      let w = copying-turn .pair in
+      let t = firstOf (subtree b q) in
+      let past : recordsIn (t ▸ nil) ≡ getD extents (q + 1) 0 = omega (arith, w .size) in
+      let e : slice b (q + 1) (getD extents (q + 1) 0) ≡ encode t = rw (← past) (bytes-at b (s .simplifiable) (q + 1) (t ▸ nil) (secondOf (subtree b q) ▸ w .later) (w .row) ∙ append-nil (encode t)) in
+      ap encodes firsts-row ∙ ap (λ k. k ++ encodes (firsts (copying-turn .next .others))) (sym e)
+
+  pub copying-room : (recordLength * (q + 1 + getD extents (q + 1) 0) ≤ length b) × (recordLength * (to + getD extents (q + 1) 0) ≤ length out)
+  copying-room = omega (arith, copying-turn .pair .place, length-is b (s .simplifiable), h .room, row-records)
+
+  pub copying-next : (r : ℕ) (new : List ℕ) → length new ≡ length out → r ≡ to + getD extents (q + 1) 0 → front r new ≡ front to out ++ slice b (q + 1) (getD extents (q + 1) 0)
+      → Copying b p n at o (q + getD extents q 0) (m - 1) r new
+  unfolding size
+  copying-next r new same e w =
+      let c : size (h .row) ≡ suc (size (copying-turn .next .others)) = ap size (copying-turn .next .are) in
+      record {
+        row = copying-turn .next .others;
+        later = h .later;
+        stand = copying-turn .next .next;
+        count = omega (arith, h .count);
+        pairs = copying-turn .rest;
+        long = same ∙ h .long;
+        room = omega (arith, h .room, row-records);
+        total = omega (arith, h .total, row-records);
+        bytes = ap (λ k. k ++ encodes (firsts (copying-turn .next .others))) w ∙ append-assoc (front to out) _ _ ∙ ap (λ k. front to out ++ k) (sym row-bytes) ∙ h .bytes;
+      }
+
+pub copying-all : (b : List ℕ) (p n at : ℕ) (o : List ℕ) (q m to : ℕ) (out : List ℕ) → Copying b p n at o q m to out → m ≤ 0
+    → (to ≡ at + recordsIn (firstsAt b p n)) × (front to out ≡ front at o ++ encodes (firstsAt b p n))
+unfolding firsts recordsIn encodes
+copying-all b p n at o q m to out h l =
+    let e = no-more (h .row) (omega (arith, h .count)) in
+    let z : recordsIn (firsts (h .row)) ≡ 0 = ap (λ f. recordsIn (firsts f)) e in
+    let y : encodes (firsts (h .row)) ≡ [] = ap (λ f. encodes (firsts f)) e in
+    (omega (arith, h .total), sym (append-nil (front to out)) ∙ ap (λ k. front to out ++ k) (sym y) ∙ h .bytes)
