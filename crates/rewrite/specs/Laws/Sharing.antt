@@ -22,7 +22,7 @@ use Rattle.table.specs.Numbers.{recordLength}
 use Rattle.table.specs.Questions.{listed}
 use Rattle.table.specs.Table.{childByte, encode, encodes, firstNode, firstOnes, kindByte, loopByte, recordBytes, recordCount, top}
 use Rattle.table.specs.Trees.{Forest, Tree, nil, node, _▸_, _⧺_, records, recordsIn, size}
-use Rattle.table.specs.Laws.RoundTrip.{WritesLimit, children-bytes, first-⧺, length-encode}
+use Rattle.table.specs.Laws.RoundTrip.{WritesLimit, children-bytes, first-⧺, head-bytes, length-encode}
 use Rattle.table.specs.Laws.Reading.{part-from, part-long, partAt}
 use Rattle.table.specs.Laws.Trees.{some-records}
 use Rattle.subtrees.specs.Facts.{Extents, Surveyed, marksEach, reach}
@@ -373,7 +373,7 @@ choice-at b extents s i l e =
       inside = n .inside;
       are = kids ∙ n .are;
       shared = ap (sharedAt i) (h .here ∙ ap (λ f. node (h .own) f ▸ h .later) (n .are)) ∙ choice-shared i (h .own) (subtree b (i + 1)) (n .others) (h .later) k many
-      ∙ ap (λ f. cond (closed (secondOf (subtree b (i + 1))) 0 and allPairs (secondOf (subtree b (i + 1))) f) (i + 2 + records (firstOf (subtree b (i + 1)))) 0) (sym (kids ∙ n .are));
+          ∙ ap (λ f. cond (closed (secondOf (subtree b (i + 1))) 0 and allPairs (secondOf (subtree b (i + 1))) f) (i + 2 + records (firstOf (subtree b (i + 1)))) 0) (sym (kids ∙ n .are));
     }
 
 first-other : (x t : Tree) (f : Forest) → isPair t ≡ false → allPairs x (t ▸ f) ≡ false
@@ -410,9 +410,15 @@ module _ (b extents marks : List ℕ) (s : Surveyed b extents marks) (i : ℕ) (
   unfolding _and_
   second-open e = sym (shared-by ∙ rw (ne-eqb (getD marks (marksEach * second + 2) 0) 0 e) refl)
 
-  pub second-by : (r : Bool) → getD marks (marksEach * second + 2) 0 ≡ 0 → r ≡ allPairs (subtree b second) (children (subtree b i)) → cond r second 0 ≡ sharedAt i (treesAt b i)
+  second-by : (r : Bool) → getD marks (marksEach * second + 2) 0 ≡ 0 → r ≡ allPairs (subtree b second) (children (subtree b i)) → cond r second 0 ≡ sharedAt i (treesAt b i)
   unfolding _and_
   second-by r e f = sym (shared-by ∙ rw (eq-eqb (getD marks (marksEach * second + 2) 0) 0 e, ← f) refl)
+
+  pub second-shared : (r : Bool) → getD marks (marksEach * second + 2) 0 ≡ 0 → r ≡ allPairs (subtree b second) (children (subtree b i)) → r ≡ true → second ≡ sharedAt i (treesAt b i)
+  second-shared r e f t = ap (λ x. cond x second 0) (sym t) ∙ second-by r e f
+
+  pub second-other : (r : Bool) → getD marks (marksEach * second + 2) 0 ≡ 0 → r ≡ allPairs (subtree b second) (children (subtree b i)) → r ≡ false → 0 ≡ sharedAt i (treesAt b i)
+  second-other r e f t = ap (λ x. cond x second 0) (sym t) ∙ second-by r e f
 
 -- ---- the first children copied
 
@@ -507,3 +513,18 @@ copying-all b p n at o q m to out h l =
     let z : recordsIn (firsts (h .row)) ≡ 0 = ap (λ f. recordsIn (firsts f)) e in
     let y : encodes (firsts (h .row)) ≡ [] = ap (λ f. encodes (firsts f)) e in
     (omega (arith, h .total), sym (append-nil (front to out)) ∙ ap (λ k. front to out ++ k) (sym y) ∙ h .bytes)
+
+-- ---- the two records on top
+
+pub node-at : (b : List ℕ) (i : ℕ) (h : Here b i) → firstNode (partAt b i) ≡ h .own
+node-at b i h = ap firstNode (part-from b (recordLength * i) ∙ h .bytes) ∙ head-bytes (h .own) (size (h .kids)) _ (own-writes b i h)
+
+pub tops-written : (b : List ℕ) → Simplifiable b → (i : ℕ) → i < recordCount b → (n : Node) (r q : ℕ) (new out : List ℕ) → n ≡ firstNode (partAt b i)
+    → r ≡ 0 + 1 → front r new ≡ recordBytes (nodeOf Sequence (n .limit)) 2
+    → q ≡ r + 1 → front q out ≡ front r new ++ recordBytes (nodeOf Choice Unlimited) (getD b (recordLength * i + 2) 0)
+    → (q ≡ 2) × (front q out ≡ topBytes (subtree b i))
+unfolding limitOf children
+tops-written b s i l n r q new out m e f g w =
+    let h = here-at b s i l in
+    let a : n .limit ≡ h .own .limit = ap (λ k. k .limit) (m ∙ node-at b i h) in
+    (omega arith, w ∙ rw (f, a, fields-at b i h .count, subtree-is b i h) refl)
