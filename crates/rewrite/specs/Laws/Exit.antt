@@ -108,13 +108,13 @@ idle-at b i s l =
 
 -- ---- what stands from a record to the table's end
 
+pub rest-bytes : (b : List ℕ) → Simplifiable b → (i : ℕ) → slice b i (recordCount b - i) ≡ encodes (treesAt b i)
+rest-bytes b s i = take-all (recordLength * (recordCount b - i)) (drop (recordLength * i) b) (rw length-drop (omega (arith, length-is b s))) ∙ sym (back-at b s i)
+
 -- copied to the front of a buffer, it is there
 pub rest-written : (b : List ℕ) → Simplifiable b → (i r : ℕ) (out : List ℕ) → r ≡ 0 + (recordCount b - i) → front r out ≡ slice b i (recordCount b - i)
     → (r ≡ recordsIn (treesAt b i)) × (front r out ≡ encodes (treesAt b i))
-rest-written b s i r out e w = (
-  omega (arith, records-at b s i),
-  w ∙ take-all (recordLength * (recordCount b - i)) (drop (recordLength * i) b) (rw (length-drop) (omega (arith, length-is b s))) ∙ sym (back-at b s i),
-)
+rest-written b s i r out e w = (omega (arith, records-at b s i), w ∙ rest-bytes b s i)
 
 -- ---- a loop's body and exit
 

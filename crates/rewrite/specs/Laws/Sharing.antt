@@ -33,7 +33,7 @@ use Rattle.subtrees.specs.Laws.Parts.{Here, back-at, bytes-at, few-records, her
 use Rattle.rewrite.specs.Nodes.{AtMost, Block, Choice, Kind, Limit, Loop, Node, Number, Plain, Sequence, Symbol, Unlimited}
 use Rattle.rewrite.specs.Sharing.{PairsAt, firstsAt, pairs, sameBytes, sharedAt, sharing, topBytes}
 use Rattle.rewrite.specs.Writing.{Wrote, front, nodeOf, ruleAt, slice}
-use Rattle.rewrite.specs.Laws.Exit.{Fields, Two, fields-at, own-writes, rest-written, subtree-is, two-are, wrote-none, wrote-some}
+use Rattle.rewrite.specs.Laws.Exit.{Fields, Two, fields-at, own-writes, rest-bytes, subtree-is, two-are, wrote-none, wrote-some}
 
 -- ---- bytes compared one by one
 
@@ -528,3 +528,182 @@ tops-written b s i l n r q new out m e f g w =
     let h = here-at b s i l in
     let a : n .limit ≡ h .own .limit = ap (λ k. k .limit) (m ∙ node-at b i h) in
     (omega arith, w ∙ rw (f, a, fields-at b i h .count, subtree-is b i h) refl)
+
+-- ---- the whole rewrite
+
+firsts-size : (f : Forest) → size (firsts f) ≡ size f
+unfolding firsts size
+firsts-size nil = refl
+firsts-size (t ▸ f) = ap suc (firsts-size f)
+
+pub all-are-pairs : (x : Tree) (f : Forest) → T (allPairs x f) → T (pairs f)
+unfolding allPairs pairs
+all-are-pairs x nil h = tt
+all-are-pairs x (t ▸ f) h = let (p, q) = both _ _ h in join-and _ _ (both _ _ p .0) (all-are-pairs x f q)
+
+pair-records : (t : Tree) → T (isPair t) → records t ≡ suc (records (firstOf t) + records (secondOf t))
+unfolding isPair records recordsIn firstOf secondOf headOf tailOf children
+pair-records (node n nil) h = absurd h
+pair-records (node n (a ▸ nil)) h = absurd h
+pair-records (node n (a ▸ x ▸ nil)) h = omega arith
+pair-records (node n (a ▸ x ▸ y ▸ f)) h = absurd h
+
+firsts-records : (f : Forest) → T (pairs f) → size f + recordsIn (firsts f) ≤ recordsIn f
+unfolding pairs size recordsIn firsts
+firsts-records nil h = omega arith
+firsts-records (t ▸ f) h = let (p, q) = both _ _ h in omega (arith, pair-records t p, firsts-records f q)
+
+shared-records : (f : Forest) → T (pairs f) → 2 ≤ size f → 2 + recordsIn (firsts f) + records (secondOf (headOf f)) ≤ recordsIn f
+unfolding pairs size recordsIn firsts headOf
+shared-records nil h l = absurd (omega arith)
+shared-records (t ▸ f) h l = let (p, q) = both _ _ h in omega (arith, pair-records t p, firsts-records f q)
+
+-- rule 8 fits the node at record i, and x is the record of the shared child
+pub record FitsAt (b extents : List ℕ) (i x : ℕ) : Type 0 where
+  pub simplifiable : Simplifiable b
+  pub at : i < recordCount b
+  pub own : Node
+  pub kids : Forest
+  pub later : Forest
+  pub node : subtree b i ≡ node own kids
+  pub next : treesAt b (i + 1) ≡ kids ⧺ later
+  pub becomes : ruleAt rule8 (treesAt b i) ≡ some (sharedOut (own .limit) kids ▸ later)
+  pub pairs : T (pairs kids)
+  pub inside : x < recordCount b
+  pub sized : x < length extents
+  pub size : getD extents x 0 ≡ records (secondOf (headOf kids))
+  pub stand : subtree b x ≡ secondOf (headOf kids)
+  pub inner : x + getD extents x 0 ≤ recordCount b
+  pub within : i + getD extents i 0 ≤ recordCount b
+  pub from : treesAt b (i + getD extents i 0) ≡ later
+  pub small : 2 + recordsIn (firsts kids) + getD extents x 0 + (recordCount b - (i + getD extents i 0)) ≤ recordCount b
+
+abbrev fit : Node → Forest → Bool
+fit n f = sameKind (n .kind) Choice and shares f
+
+fit-false : (i x : ℕ) (n : Node) (f g : Forest) (out : List ℕ) → x ≡ sharedAt i (node n f ▸ g) → x ≡ 0 → Wrote (ruleAt rule8 (node n f ▸ g)) 0 out
+unfolding sharedAt Wrote ruleAt rule8 when also
+fit-false i x n f g out e z = go (fit n f) e
+  where
+    go : (q : Bool) → x ≡ cond q (i + 2 + records (firstOf (headOf f))) 0 → Wrote (also (λ t. t ▸ g) (when q (sharedOut (n .limit) f))) 0 out
+    go true w = absurd (omega arith)
+    go false w = refl
+
+pub no-sharing : (b : List ℕ) → Simplifiable b → (i x : ℕ) (out : List ℕ) → i < recordCount b → x ≡ sharedAt i (treesAt b i) → x ≡ 0 → Wrote (ruleAt rule8 (treesAt b i)) 0 out
+no-sharing b s i x out l e z =
+    let h = here-at b s i l in
+    rw (h .here) (fit-false i x (h .own) (h .kids) (h .later) out (e ∙ ap (sharedAt i) (h .here)) z)
+
+fit-true : (i x : ℕ) (n : Node) (f g : Forest) → x ≡ sharedAt i (node n f ▸ g) → (x ≡ 0 → ⊥) → (fit n f ≡ true) × (x ≡ i + 2 + records (firstOf (headOf f)))
+unfolding sharedAt
+fit-true i x n f g e z = go (fit n f) e
+  where
+    go : (q : Bool) → x ≡ cond q (i + 2 + records (firstOf (headOf f))) 0 → (q ≡ true) × (x ≡ i + 2 + records (firstOf (headOf f)))
+    go true w = (refl, w)
+    go false w = absurd (z w)
+
+fit-becomes : (n : Node) (f g : Forest) → fit n f ≡ true → ruleAt rule8 (node n f ▸ g) ≡ some (sharedOut (n .limit) f ▸ g)
+unfolding ruleAt rule8 when also
+fit-becomes n f g e = rw e refl
+
+fit-parts : (n : Node) (f : Forest) → fit n f ≡ true → (2 ≤ size f) × T (allPairs (secondOf (headOf f)) f)
+unfolding shares
+fit-parts n f e =
+    let (k, s) = both (sameKind (n .kind) Choice) (shares f) (is-T _ e) in
+    let (p, q) = both _ _ s in
+    (leb→le 2 (size f) (both _ _ p .0), q)
+
+module _ (b extents : List ℕ) (s : Extents b extents) (i x : ℕ) (l : i < recordCount b) where
+  sim : Simplifiable b
+  sim = s .simplifiable
+
+  fits-from : (h : Here b i) → fit (h .own) (h .kids) ≡ true → x ≡ i + 2 + records (firstOf (headOf (h .kids))) → NextAt b extents (i + 1) (h .kids) (h .later) → FitsAt b extents i x
+  unfolding headOf recordsIn _⧺_ records size
+  fits-from h e p n =
+      let t = subtree b (i + 1) in
+      let (two, all) = fit-parts (h .own) (h .kids) e in
+      let ps : T (pairs (h .kids)) = all-are-pairs _ (h .kids) all in
+      let ps₁ : T (pairs (t ▸ n .others)) = subst (λ f. T (pairs f)) (n .are) ps in
+      let (one, rest) = first-pair t (n .others) ps₁ in
+      let w = pair-at b extents s (i + 1) (n .inside) (T-is _ one) in
+      let head : headOf (h .kids) ≡ t = ap headOf (n .are) in
+      let place : i + 1 + 1 + getD extents (i + 1 + 1) 0 ≡ x = omega (arith, w .size, ap (λ u. records (firstOf u)) head) in
+      let inside : x < recordCount b = rw (← place) (w .place) in
+      let stand : subtree b x ≡ secondOf (headOf (h .kids)) = ap (subtree b) (sym place) ∙ w .stand ∙ ap secondOf (sym head) in
+      let whole : subtree b i ≡ node (h .own) (h .kids) = subtree-is b i h in
+      let long : getD extents i 0 ≡ suc (recordsIn (h .kids)) = s .each i l ∙ ap records whole in
+      let past : recordsIn (node (h .own) (h .kids) ▸ nil) ≡ getD extents i 0 = omega arith in
+      let count = records-at b sim i in
+      let all : recordsIn (treesAt b i) ≡ suc (recordsIn (h .kids)) + recordsIn (h .later) = ap recordsIn (h .here) in
+      let size : getD extents x 0 ≡ records (secondOf (headOf (h .kids))) = s .each x inside ∙ ap records stand in
+      let few : 2 + recordsIn (firsts (h .kids)) + records (secondOf (headOf (h .kids))) ≤ recordsIn (h .kids) = shared-records (h .kids) ps two in
+      record {
+        simplifiable = sim;
+        at = l;
+        own = h .own;
+        kids = h .kids;
+        later = h .later;
+        node = whole;
+        next = rw add-one (h .next);
+        becomes = ap (ruleAt rule8) (h .here) ∙ fit-becomes (h .own) (h .kids) (h .later) e;
+        pairs = ps;
+        inside = inside;
+        sized = omega (arith, s .room);
+        size = size;
+        stand = stand;
+        inner = omega (arith, s .each x inside, subtree-within b sim x inside);
+        within = omega arith;
+        from = rw (← past) (skip-at b sim i (node (h .own) (h .kids) ▸ nil) (h .later) (h .here));
+        small = omega arith;
+      }
+
+  pub fits-at : x ≡ sharedAt i (treesAt b i) → (x ≡ 0 → ⊥) → FitsAt b extents i x
+  fits-at e z =
+      let h = here-at b sim i l in
+      let (f, p) = fit-true i x (h .own) (h .kids) (h .later) (e ∙ ap (sharedAt i) (h .here)) z in
+      fits-from h f p (next-at b extents s (i + 1) (h .kids) (h .later) (rw add-one (h .next)) (omega (arith, fit-parts (h .own) (h .kids) f .0)))
+
+module _ {b extents : List ℕ} {i x : ℕ} (w : FitsAt b extents i x) (c : ℕ) (e : c ≡ childByte (partAt b i)) where
+  count-is : size (w .kids) ≡ c
+  unfolding children
+  count-is =
+      let h = here-at b (w .simplifiable) i (w .at) in
+      ap (λ t. size (children t)) (sym (w .node) ∙ subtree-is b i h) ∙ sym (e ∙ count-at b i h)
+
+  pub fits-pairs : PairsAt b (i + 1) c
+  fits-pairs = record { row = w .kids; later = w .later; stand = w .next; count = count-is; pairs = w .pairs }
+
+  pub fits-firsts : firstsAt b (i + 1) c ≡ firsts (w .kids)
+  fits-firsts = firsts-are b (i + 1) c (w .kids) (w .later) (w .next) count-is
+
+shared-bytes : (l : Limit) (f g : Forest)
+    → encodes (sharedOut l f ▸ g) ≡ recordBytes (nodeOf Sequence l) 2 ++ (recordBytes (nodeOf Choice Unlimited) (size f) ++ (encodes (firsts f) ++ (encode (secondOf (headOf f)) ++ encodes g)))
+unfolding sharedOut encode encodes size
+shared-bytes l f g = rw (firsts-size f) (simp (append-assoc, append-nil))
+
+shared-count : (l : Limit) (f g : Forest) → recordsIn (sharedOut l f ▸ g) ≡ 2 + recordsIn (firsts f) + records (secondOf (headOf f)) + recordsIn g
+unfolding sharedOut records recordsIn
+shared-count l f g = omega arith
+
+pub sharing-written : {b extents : List ℕ} {i x : ℕ} (w : FitsAt b extents i x) (c : ℕ) → c ≡ childByte (partAt b i) → (p q r z : ℕ) (o₁ o₂ o₃ out : List ℕ)
+    → p ≡ 2 → front p o₁ ≡ topBytes (subtree b i)
+    → q ≡ p + recordsIn (firstsAt b (i + 1) c) → front q o₂ ≡ front p o₁ ++ encodes (firstsAt b (i + 1) c)
+    → r ≡ q + getD extents x 0 → front r o₃ ≡ front q o₂ ++ slice b x (getD extents x 0)
+    → let from = i + getD extents i 0 in z ≡ r + (recordCount b - from) → front z out ≡ front r o₃ ++ slice b from (recordCount b - from)
+    → Wrote (ruleAt rule8 (treesAt b i)) z out
+unfolding limitOf children
+sharing-written {b} {extents} {i} {x} w c e p q r z o₁ o₂ o₃ out a₁ b₁ a₂ b₂ a₃ b₃ a₄ b₄ =
+    let s = w .simplifiable in
+    let n = recordCount b - (i + getD extents i 0) in
+    let f = w .kids in
+    let g = w .later in
+    let l = w .own .limit in
+    let first : firstsAt b (i + 1) c ≡ firsts f = fits-firsts w c e in
+    let second : slice b x (getD extents x 0) ≡ encode (secondOf (headOf f)) = rw (w .size, ← w .stand) (subtree-bytes b s x (w .inside)) in
+    let last : slice b (i + getD extents i 0) n ≡ encodes g = rest-bytes b s (i + getD extents i 0) ∙ ap encodes (w .from) in
+    let tops : topBytes (subtree b i) ≡ recordBytes (nodeOf Sequence l) 2 ++ recordBytes (nodeOf Choice Unlimited) (size f) = ap topBytes (w .node) in
+    let left : recordsIn g ≡ n = ap recordsIn (sym (w .from)) ∙ records-at b s (i + getD extents i 0) in
+    wrote-some (sharedOut l f ▸ g) (ruleAt rule8 (treesAt b i)) z out (w .becomes) (
+      omega (arith, shared-count l f g, ap recordsIn first, w .size),
+      b₄ ∙ rw (b₃, b₂, b₁, first, second, last, tops, shared-bytes l f g) (simp append-assoc),
+    )

@@ -1,0 +1,132 @@
+use mathlib.Core.Path.{ap}
+use native.Mathlib.Omega.{arith}
+use borrow.Author.Needs.{needs}
+use Rattle.table.specs.Trees.{recordsIn}
+use Rattle.subtrees.specs.Laws.Parts.{few-records, length-is}
+use Rattle.rewrite.specs.Laws.Sharing.{FitsAt, fits-at, fits-firsts, fits-pairs, no-sharing, sharing-written}
+use Rattle.rewrite.proofs.rule8_at.Statement.{statement}
+use Rattle.rewrite.proofs.rule8_at.Tie as tie
+
+-- past the test, rule 8 fits
+found : (c : tie.Else1) → let a = c .before .before .before .before .before .before .args in FitsAt (a .table .now) (a .extents .now) (a .i) (c .before .shared-child .result)
+found c =
+    let start = c .before .before .before .before .before .before in
+    fits-at _ _ (start .pre .0 .sizes) _ _ (start .pre .1 .0) (c .before .shared-child .ensures) (c .if1 .left)
+
+shared-child-requires : tie.Need-shared-child-requires
+shared-child-requires c κs = search needs
+
+returns : tie.Need-returns
+returns c =
+    let start = c .before .before .before .before .before .before in
+    no-sharing _ (start .pre .0 .sizes .simplifiable) _ _ _ (start .pre .1 .0) (c .before .shared-child .ensures) (c .if1 .taken)
+
+mul-start : tie.Need-mul-start
+mul-start c = search needs
+
+sub-child-count : tie.Need-sub-child-count
+sub-child-count c = search needs
+
+part-child-count-start : tie.Need-part-child-count-start
+part-child-count-start c = search needs
+
+part-child-count-end : tie.Need-part-child-count-end
+part-child-count-end c = search needs
+
+child-count-requires : tie.Need-child-count-requires
+child-count-requires c κs = search needs
+
+put-tops-requires : tie.Need-put-tops-requires
+put-tops-requires c κs =
+    let fits = c .before .before .before in
+    let start = fits .before .before .before .before .before .before in
+    let x = found fits in
+    (x .simplifiable, (start .pre .1 .0, omega (arith, x .small, length-is _ (x .simplifiable), start .pre .1 .1)))
+
+add-copy-firsts : tie.Need-add-copy-firsts
+add-copy-firsts c = search needs
+
+copy-firsts-requires : tie.Need-copy-firsts-requires
+copy-firsts-requires c κs =
+    let tops = c .before .before .before in
+    let count = tops .before .before in
+    let fits = count .before .before in
+    let start = fits .before .before .before .before .before .before in
+    let x = found fits in
+    (start .pre .0 .sizes, (fits-pairs x _ (count .child-count .ensures .0), omega (arith, x .small, length-is _ (x .simplifiable), start .pre .1 .1, ap recordsIn (fits-firsts x _ (count .child-count .ensures .0)), tops .put-tops .ensures .0, tops .put-tops .kept)))
+
+mul-copy-records : tie.Need-mul-copy-records
+mul-copy-records c = let x = found (c .before .before .before .before .before .before .before .before .before .before) in omega (arith, x .inside, few-records _ (x .simplifiable))
+
+shared-slice-read-copy-records : tie.Need-shared-slice-read-copy-records
+shared-slice-read-copy-records c = found (c .before .before .before .before .before .before .before .before .before .before .before) .sized
+
+copy-records-requires : tie.Need-copy-records-requires
+copy-records-requires c κs =
+    let firsts = c .before .before .before .before in
+    let tops = firsts .before .before .before .before in
+    let count = tops .before .before in
+    let fits = count .before .before in
+    let start = fits .before .before .before .before .before .before in
+    let x = found fits in
+    omega (arith, x .small, x .inner, length-is _ (x .simplifiable), start .pre .1 .1, ap recordsIn (fits-firsts x _ (count .child-count .ensures .0)), tops .put-tops .ensures .0, tops .put-tops .kept, firsts .copy-firsts .ensures .0, firsts .copy-firsts .kept)
+
+mul-from : tie.Need-mul-from
+mul-from c = search needs
+
+shared-slice-read-from : tie.Need-shared-slice-read-from
+shared-slice-read-from c = search needs
+
+add-from : tie.Need-add-from
+add-from c = let x = found (c .before .before .before .before .before .before .before .before .before .before .before .before .before .before .before .before) in omega (arith, x .within, few-records _ (x .simplifiable))
+
+sub-n : tie.Need-sub-n
+sub-n c = found (c .before .before .before .before .before .before .before .before .before .before .before .before .before .before .before .before) .within
+
+copy-records-requires-2 : tie.Need-copy-records-requires-2
+copy-records-requires-2 c κs =
+    let copied = c .before .before .before .before in
+    let firsts = copied .before .before .before .before .before in
+    let tops = firsts .before .before .before .before in
+    let count = tops .before .before in
+    let fits = count .before .before in
+    let start = fits .before .before .before .before .before .before in
+    let x = found fits in
+    omega (arith, x .small, x .within, length-is _ (x .simplifiable), start .pre .1 .1, ap recordsIn (fits-firsts x _ (count .child-count .ensures .0)), tops .put-tops .ensures .0, tops .put-tops .kept, firsts .copy-firsts .ensures .0, firsts .copy-firsts .kept, copied .copy-records .ensures .0, copied .copy-records .kept)
+
+same-length : tie.Need-same-length
+same-length c = search needs
+
+returns-2 : tie.Need-returns-2
+returns-2 c =
+    let last = c .before .before in
+    let copied = last .before .before .before .before .before in
+    let firsts = copied .before .before .before .before .before in
+    let tops = firsts .before .before .before .before in
+    let count = tops .before .before in
+    sharing-written (found (count .before .before)) _ (count .child-count .ensures .0) _ _ _ _ _ _ _ _ (tops .put-tops .ensures .0) (tops .put-tops .ensures .1) (firsts .copy-firsts .ensures .0) (firsts .copy-firsts .ensures .1) (copied .copy-records .ensures .0) (copied .copy-records .ensures .1) (last .copy-records2 .ensures .0) (last .copy-records2 .ensures .1)
+
+pub rule8-at-spec : {M : Type 1} → statement M
+rule8-at-spec =
+    tie.close
+    (tie.spec
+    shared-child-requires
+    returns
+    mul-start
+    sub-child-count
+    part-child-count-start
+    part-child-count-end
+    child-count-requires
+    put-tops-requires
+    add-copy-firsts
+    copy-firsts-requires
+    mul-copy-records
+    shared-slice-read-copy-records
+    copy-records-requires
+    mul-from
+    shared-slice-read-from
+    add-from
+    sub-n
+    copy-records-requires-2
+    same-length
+    returns-2)
