@@ -1,3 +1,4 @@
+-- The invariant: the children from record p on are left to be looked at (`Shared`). The measure: how many they are.
 use native.Mathlib.Omega.{arith}
 use borrow.Author.Needs.{needs}
 use Rattle.subtrees.specs.Laws.Parts.{few-records}

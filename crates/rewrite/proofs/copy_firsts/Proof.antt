@@ -1,3 +1,4 @@
+-- The invariant: what is written, and then the first children of the pairs that are left, come to all (`Copying`). The measure: the pairs left.
 use native.Mathlib.Omega.{arith}
 use borrow.Author.Needs.{needs}
 use Rattle.subtrees.specs.Laws.Parts.{few-records}

@@ -1,4 +1,4 @@
-use mathlib.Core.Path.{_∙_}
+-- The bytes of the record are what the definition tests.
 use borrow.Author.Needs.{needs}
 use Rattle.rewrite.specs.Laws.Exit.{idle-at}
 use Rattle.rewrite.proofs.is_idle.Statement.{statement}

@@ -1,4 +1,4 @@
-use native.Mathlib.Omega.{arith}
+-- The bytes of the record are what the definition tests.
 use borrow.Author.Needs.{needs}
 use Rattle.rewrite.specs.Laws.Sharing.{pair-test}
 use Rattle.rewrite.proofs.is_pair.Statement.{statement}

@@ -1,3 +1,4 @@
+-- A pair's second child stands past its first (`PairAt`).
 use mathlib.Core.Path.{sym, _∙_}
 use native.Mathlib.Omega.{arith}
 use borrow.Author.Needs.{needs}

@@ -1,4 +1,4 @@
-use native.Mathlib.Omega.{arith}
+-- The limit and the number of children are read from the node's own record.
 use borrow.Author.Needs.{needs}
 use Rattle.rewrite.specs.Laws.Sharing.{tops-written}
 use Rattle.rewrite.proofs.put_tops.Statement.{statement}

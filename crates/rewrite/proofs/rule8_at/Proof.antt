@@ -1,6 +1,10 @@
-use mathlib.Core.Path.{ap}
+-- Past the test rule 8 fits (`FitsAt`); what is written is the definition's bytes, part by part.
+use mathlib.Core.Path.{_≡_, ap}
+use Prim.Native.Nat.{_+_}
 use native.Mathlib.Omega.{arith}
+use lib.ListN.{getD}
 use borrow.Author.Needs.{needs}
+use Rattle.simplify.specs.Rules.{firsts}
 use Rattle.table.specs.Trees.{recordsIn}
 use Rattle.subtrees.specs.Laws.Parts.{few-records, length-is}
 use Rattle.rewrite.specs.Laws.Sharing.{FitsAt, fits-at, fits-firsts, fits-pairs, no-sharing, sharing-written}
@@ -12,6 +16,17 @@ found : (c : tie.Else1) → let a = c .before .before .before .before .before .b
 found c =
     let start = c .before .before .before .before .before .before in
     fits-at _ _ (start .pre .0 .sizes) _ _ (start .pre .1 .0) (c .before .shared-child .ensures) (c .if1 .left)
+
+-- and the record that each copy reaches
+firsts-end : (c : tie.After-copy-firsts) → c .copy-firsts .result ≡ 2 + recordsIn (firsts (found (c .before .before .before .before .before .before .before .before) .kids))
+firsts-end c =
+    let tops = c .before .before .before .before in
+    let count = tops .before .before in
+    omega (arith, c .copy-firsts .ensures .0, tops .put-tops .ensures .0, ap recordsIn (fits-firsts (found (count .before .before)) _ (count .child-count .ensures .0)))
+
+second-end : (c : tie.After-copy-records) → let f = c .before .before .before .before .before .before .before .before .before .before .before .before .before in
+    c .copy-records .result ≡ 2 + recordsIn (firsts (found f .kids)) + getD (f .before .before .before .before .before .before .args .extents .now) (f .before .shared-child .result) 0
+second-end c = omega (arith, c .copy-records .ensures .0, firsts-end (c .before .before .before .before .before))
 
 shared-child-requires : tie.Need-shared-child-requires
 shared-child-requires c κs = search needs
@@ -53,7 +68,13 @@ copy-firsts-requires c κs =
     let fits = count .before .before in
     let start = fits .before .before .before .before .before .before in
     let x = found fits in
-    (start .pre .0 .sizes, (fits-pairs x _ (count .child-count .ensures .0), omega (arith, x .small, length-is _ (x .simplifiable), start .pre .1 .1, ap recordsIn (fits-firsts x _ (count .child-count .ensures .0)), tops .put-tops .ensures .0, tops .put-tops .kept)))
+    let total = ap recordsIn (fits-firsts x _ (count .child-count .ensures .0)) in (
+      start .pre .0 .sizes,
+      (
+        fits-pairs x _ (count .child-count .ensures .0),
+        omega (arith, x .small, length-is _ (x .simplifiable), start .pre .1 .1, total, tops .put-tops .ensures .0, tops .put-tops .kept),
+      ),
+    )
 
 mul-copy-records : tie.Need-mul-copy-records
 mul-copy-records c = let x = found (c .before .before .before .before .before .before .before .before .before .before) in omega (arith, x .inside, few-records _ (x .simplifiable))
@@ -65,11 +86,10 @@ copy-records-requires : tie.Need-copy-records-requires
 copy-records-requires c κs =
     let firsts = c .before .before .before .before in
     let tops = firsts .before .before .before .before in
-    let count = tops .before .before in
-    let fits = count .before .before in
+    let fits = tops .before .before .before .before in
     let start = fits .before .before .before .before .before .before in
     let x = found fits in
-    omega (arith, x .small, x .inner, length-is _ (x .simplifiable), start .pre .1 .1, ap recordsIn (fits-firsts x _ (count .child-count .ensures .0)), tops .put-tops .ensures .0, tops .put-tops .kept, firsts .copy-firsts .ensures .0, firsts .copy-firsts .kept)
+    omega (arith, x .small, x .inner, length-is _ (x .simplifiable), start .pre .1 .1, firsts-end firsts, tops .put-tops .kept, firsts .copy-firsts .kept)
 
 mul-from : tie.Need-mul-from
 mul-from c = search needs
@@ -88,11 +108,10 @@ copy-records-requires-2 c κs =
     let copied = c .before .before .before .before in
     let firsts = copied .before .before .before .before .before in
     let tops = firsts .before .before .before .before in
-    let count = tops .before .before in
-    let fits = count .before .before in
+    let fits = tops .before .before .before .before in
     let start = fits .before .before .before .before .before .before in
     let x = found fits in
-    omega (arith, x .small, x .within, length-is _ (x .simplifiable), start .pre .1 .1, ap recordsIn (fits-firsts x _ (count .child-count .ensures .0)), tops .put-tops .ensures .0, tops .put-tops .kept, firsts .copy-firsts .ensures .0, firsts .copy-firsts .kept, copied .copy-records .ensures .0, copied .copy-records .kept)
+    omega (arith, x .small, x .within, length-is _ (x .simplifiable), start .pre .1 .1, second-end copied, tops .put-tops .kept, firsts .copy-firsts .kept, copied .copy-records .kept)
 
 same-length : tie.Need-same-length
 same-length c = search needs
@@ -104,7 +123,9 @@ returns-2 c =
     let firsts = copied .before .before .before .before .before in
     let tops = firsts .before .before .before .before in
     let count = tops .before .before in
-    sharing-written (found (count .before .before)) _ (count .child-count .ensures .0) _ _ _ _ _ _ _ _ (tops .put-tops .ensures .0) (tops .put-tops .ensures .1) (firsts .copy-firsts .ensures .0) (firsts .copy-firsts .ensures .1) (copied .copy-records .ensures .0) (copied .copy-records .ensures .1) (last .copy-records2 .ensures .0) (last .copy-records2 .ensures .1)
+    sharing-written (found (count .before .before)) _ (count .child-count .ensures .0) _ _ _ _ _ _ _ _
+    (tops .put-tops .ensures .0) (tops .put-tops .ensures .1) (firsts .copy-firsts .ensures .0) (firsts .copy-firsts .ensures .1)
+    (copied .copy-records .ensures .0) (copied .copy-records .ensures .1) (last .copy-records2 .ensures .0) (last .copy-records2 .ensures .1)
 
 pub rule8-at-spec : {M : Type 1} → statement M
 rule8-at-spec =

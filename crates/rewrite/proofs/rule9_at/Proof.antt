@@ -1,3 +1,4 @@
+-- A loop that fits has a body and an exit (`ExitAt`); the exit and what follows it reach to the table's end.
 use mathlib.Core.Path.{sym, _∙_}
 use native.Mathlib.Omega.{arith}
 use borrow.Author.Needs.{needs}

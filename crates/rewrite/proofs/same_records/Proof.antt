@@ -1,5 +1,5 @@
+-- The invariant: what is left of the comparison after k bytes (`Compared`). The measure: the bytes left.
 use Prim.Native.Nat.{_-_}
-use native.Mathlib.Omega.{arith}
 use borrow.Author.Needs.{needs}
 use Rattle.rewrite.specs.Laws.Sharing.{Compared, all-compared, byte-other, byte-same, none-compared}
 use Rattle.rewrite.proofs.same_records.Statement.{statement}

@@ -1,4 +1,4 @@
-use native.Mathlib.Omega.{arith}
+-- As many records and the same bytes: the same tree.
 use borrow.Author.Needs.{needs}
 use Rattle.rewrite.specs.Laws.Sharing.{other-sizes, same-bytes, same-room}
 use Rattle.rewrite.proofs.same_subtrees.Statement.{statement}

@@ -1,3 +1,4 @@
+-- Each test is one of the definition's: a choice of at least two (`ChoiceAt`), a pair first (`PairAt`), a closed second child, the same in all.
 use mathlib.Core.Path.{sym, _∙_}
 use Prim.Native.Nat.{_+_}
 use native.Mathlib.Omega.{arith}

@@ -1,14 +1,14 @@
 -- A loop that becomes its exit: what its record says, and where body and exit stand.
 use mathlib.Core.Path.{_≡_, refl, ap, sym, subst, _∙_}
-use mathlib.Core.Bool.{Bool, true, false, cond, not, _&&_, _||_}
+use mathlib.Core.Bool.{Bool, true, false, not, _&&_, _||_}
 use mathlib.Core.Option.{Option, none, some}
 use mathlib.Core.List.{List, _++_}
-use Prim.Native.Nat.{ℕ, zero, suc, _+_, _*_, _-_, _<_, _≤_}
+use Prim.Native.Nat.{ℕ, _+_, _*_, _-_, _<_, _≤_}
 use native.Mathlib.Nat.{add-zero}
 use native.Mathlib.Numerals.{add-one}
 use native.Mathlib.Omega.{arith}
 use lib.Dec.{T, eqb, eqb→eq}
-use lib.ListN.{drop, getD, length, length-drop, take}
+use lib.ListN.{drop, getD, length, length-drop}
 use lib.Seq.{drop-drop, getD-drop, take-all}
 use borrow.Author.Tests.{ne-eqb, not-true}
 use Rattle.booleans.specs.Laws.{both, is-T}
@@ -27,10 +27,10 @@ use Rattle.table.specs.Trees.{Forest, Tree, nil, node, _▸_, _⧺_, records, r
 use Rattle.table.specs.Laws.Trees.{some-records}
 use Rattle.table.specs.Laws.NotRefused.{tree-writes}
 use Rattle.table.specs.Laws.RoundTrip.{Writes, WritesLimit, WritesNode, kind-value}
-use Rattle.subtrees.specs.Facts.{Extents, MarkedAt, Surveyed, marksEach}
+use Rattle.subtrees.specs.Facts.{Surveyed, marksEach}
 use Rattle.subtrees.specs.Parts.{Simplifiable, subtree, treesAt}
 use Rattle.subtrees.specs.Laws.Parts.{Here, back-at, here-at, length-is, records-at, skip-at}
-use Rattle.rewrite.specs.Nodes.{AtMost, Block, Choice, Kind, Limit, Loop, Node, Number, Plain, Sequence, Symbol, Unlimited}
+use Rattle.rewrite.specs.Nodes.{AtMost, Block, Choice, Kind, Limit, Loop, Node, Plain, Sequence, Symbol, Unlimited}
 use Rattle.rewrite.specs.Sharing.{idle}
 use Rattle.rewrite.specs.Writing.{Wrote, front, ruleAt, slice}
 

@@ -2,14 +2,13 @@
 use mathlib.Core.Path.{_≡_, refl, ap, ap₂, sym, subst, _∙_}
 use mathlib.Core.Bool.{Bool, true, false, not, cond, _&&_, _||_}
 use mathlib.Core.List.{List, [], _∷_, _++_, append-assoc, append-nil}
-use mathlib.Core.Option.{Option, none, some}
+use mathlib.Core.Option.{none, some}
 use Prim.Native.Nat.{ℕ, zero, suc, _+_, _*_, _-_, _<_, _≤_}
-use native.Mathlib.Nat.{zero-add}
 use native.Mathlib.Numerals.{add-one}
 use native.Mathlib.Omega.{arith}
 use lib.Dec.{T, eqb, eqb→eq, eqb-refl, leb, leb→le, ltb}
-use lib.ListN.{drop, getD, length, length-drop, length-take, take}
-use lib.Seq.{drop-cons, drop-length, getD-drop, getD-take, take-all}
+use lib.ListN.{drop, getD, length, length-drop, length-take}
+use lib.Seq.{drop-cons, getD-drop, getD-take}
 use borrow.Author.Tests.{eq-eqb, le-leb, lt-leb, ltb-false, ltb-true, ne-eqb, not-false, not-true}
 use Rattle.booleans.specs.Laws.{T-is, both, is-T, join-and, same-test}
 use Rattle.booleans.specs.Tests.{_and_}
@@ -17,23 +16,23 @@ use Rattle.evaluate.specs.Closed.{closed, isUnlimited}
 use Rattle.simplify.specs.Rules.{allPairs, children, firstOf, firsts, headOf, isPair, limitOf, rule8, secondOf, sharedOut, shares, tailOf, when}
 use Rattle.simplify.specs.Same.{same, sameKind}
 use Rattle.simplify.specs.Steps.{also}
-use Rattle.simplify.specs.Laws.Same.{bytes-same, kind-is, same-is, self}
+use Rattle.simplify.specs.Laws.Same.{bytes-same, same-is}
 use Rattle.table.specs.Numbers.{recordLength}
 use Rattle.table.specs.Questions.{listed}
-use Rattle.table.specs.Table.{childByte, encode, encodes, firstNode, firstOnes, kindByte, loopByte, recordBytes, recordCount, top}
+use Rattle.table.specs.Table.{childByte, encode, encodes, firstNode, kindByte, loopByte, recordBytes, recordCount, top}
 use Rattle.table.specs.Trees.{Forest, Tree, nil, node, _▸_, _⧺_, records, recordsIn, size}
-use Rattle.table.specs.Laws.RoundTrip.{WritesLimit, children-bytes, first-⧺, head-bytes, length-encode}
-use Rattle.table.specs.Laws.Reading.{part-from, part-long, partAt}
+use Rattle.table.specs.Laws.RoundTrip.{WritesLimit, children-bytes, first-⧺, head-bytes}
+use Rattle.table.specs.Laws.Reading.{part-from, partAt}
 use Rattle.table.specs.Laws.Trees.{some-records}
 use Rattle.subtrees.specs.Facts.{Extents, Surveyed, marksEach, reach}
 use Rattle.subtrees.specs.Parts.{Simplifiable, subtree, treesAt}
 use Rattle.subtrees.specs.Laws.Facts.{closed-at}
 use Rattle.subtrees.specs.Laws.Forests.{Sound}
-use Rattle.subtrees.specs.Laws.Parts.{Here, back-at, bytes-at, few-records, here-at, length-is, records-at, skip-at}
-use Rattle.rewrite.specs.Nodes.{AtMost, Block, Choice, Kind, Limit, Loop, Node, Number, Plain, Sequence, Symbol, Unlimited}
+use Rattle.subtrees.specs.Laws.Parts.{Here, bytes-at, here-at, length-is, records-at, skip-at}
+use Rattle.rewrite.specs.Nodes.{AtMost, Block, Choice, Kind, Limit, Loop, Node, Sequence, Unlimited}
 use Rattle.rewrite.specs.Sharing.{PairsAt, firstsAt, pairs, sameBytes, sharedAt, sharing, topBytes}
 use Rattle.rewrite.specs.Writing.{Wrote, front, nodeOf, ruleAt, slice}
-use Rattle.rewrite.specs.Laws.Exit.{Fields, Two, fields-at, own-writes, rest-bytes, subtree-is, two-are, wrote-none, wrote-some}
+use Rattle.rewrite.specs.Laws.Exit.{Two, fields-at, own-writes, rest-bytes, subtree-is, two-are, wrote-some}
 
 -- ---- bytes compared one by one
 
