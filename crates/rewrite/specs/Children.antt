@@ -1,8 +1,12 @@
 -- A node's children by a test: the first that passes it, and how many records stand before it.
+use mathlib.Core.Path.{_≡_}
 use mathlib.Core.Bool.{Bool, cond, false, _||_}
-use Prim.Native.Nat.{ℕ, _+_}
+use mathlib.Core.List.{List, _++_}
+use Prim.Native.Nat.{ℕ, _+_, _-_}
+use Rattle.table.specs.Table.{recordCount}
 use Rattle.table.specs.Trees.{Forest, Tree, nil, node, _▸_, _⧺_, records}
 use Rattle.simplify.specs.Rules.{bare, children, gives, isZero}
+use Rattle.rewrite.specs.Writing.{front, slice}
 use Rattle.rewrite.specs.declared.Wanted.{Wanted}
 
 -- what is looked for: a child that gives way to its children (rule 2), by the node's kind and number of children; an unlimited plain block of time 0
@@ -29,3 +33,8 @@ dissolve p (t ▸ f) = cond (p t) (children t ⧺ f) (t ▸ dissolve p f)
 unfoldable pub childAt : (Tree → Bool) → ℕ → Forest → ℕ
 childAt p i nil = 0
 childAt p i (node n f ▸ g) = cond (any p f) (i + 1 + offset p f) 0
+
+-- r records at the front of a buffer: a new record for record i of a table, and the table's others from there on without record p
+pub record Left (b : List ℕ) (i p : ℕ) (top : List ℕ) (r : ℕ) (out : List ℕ) : Type 0 where
+  pub many : r ≡ recordCount b - (i + 1)
+  pub is : front r out ≡ top ++ slice b (i + 1) (p - (i + 1)) ++ slice b (p + 1) (recordCount b - (p + 1))

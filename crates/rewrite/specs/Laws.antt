@@ -4,3 +4,4 @@ pub mod Children
 pub mod Exit
 pub mod Settled
 pub mod Sharing
+pub mod Dissolving

@@ -15,7 +15,7 @@ ghost use Rattle.subtrees.specs.Facts.{Extents, Surveyed};
 ghost use Rattle.subtrees.specs.Parts.{Simplifiable, subtree, treesAt};
 ghost use Rattle.rewrite.specs.Writing.{Wrote, front, nodeOf, ruleAt, slice};
 ghost use Rattle.rewrite.specs.Settled.{beforeAt, blockAt};
-ghost use Rattle.rewrite.specs.Children.{childAt, wanted};
+ghost use Rattle.rewrite.specs.Children.{Left, childAt, wanted};
 ghost use Rattle.rewrite.specs.Sharing.{PairsAt, firstsAt, idle, sameBytes, sharedAt, sharing, topBytes};
 use lists::List;
 use subtrees::MARKS;
@@ -263,6 +263,20 @@ fn first_child(table: &[u8], extents: &[usize], i: usize, which: Wanted) -> usiz
     0
 }
 
+// What the table becomes from record i on where the child at record p gives way to its own children: the node's record, with another number of
+// children, and the others without record p. Answers how many records that is.
+fn dissolve_at(table: &[u8], i: usize, p: usize, kind: Kind, limit: Limit, count: u8, out: &mut [u8]) -> usize
+    requires { ⌜ (i < p) × (p < recordCount (now table)) × (length (now table) ≤ length (now out)) ⌝ }
+    ensures { λ r. ⌜ Left (now (table .entry)) i p (recordBytes (nodeOf kind limit) count) r (now (out .exit)) ⌝ }
+{
+    let records = table.len() / RECORD_LENGTH;
+    let first = i + 1;
+    let after = p + 1;
+    let next = put_node(out, 0, kind, limit, count);
+    let end = copy_records(table, first, p - first, out, next);
+    copy_records(table, after, records - after, out, end)
+}
+
 // ---- Rules: each writes what the table becomes from record i on, and answers how many records that is; 0 where the rule does not fit
 
 // 2. The first unlimited child of the same kind gives way to its children.
@@ -270,7 +284,22 @@ pub fn rule2_at(table: &[u8], extents: &[usize], i: usize, out: &mut [u8]) -> us
     requires { ⌜ Extents (now table) (now extents) ⌝ ∗ ⌜ i < recordCount (now table) ⌝ ∗ ⌜ length (now table) ≤ length (now out) ⌝ }
     ensures { λ r. ⌜ Wrote (ruleAt rule2 (treesAt (now (table .entry)) i)) r (now (out .exit)) ⌝ }
 {
-    0
+    let start = RECORD_LENGTH * i;
+    let node = table::read_node(&table[start..]);
+    let kind = node.kind;
+    let limit = node.limit;
+    if !is_sum(kind) {
+        return 0;
+    }
+    let count = table::child_count(&table[start..]);
+    let p = first_child(table, extents, i, Wanted::GivesWay(kind, count));
+    if p == 0 {
+        return 0;
+    }
+    let at = RECORD_LENGTH * p;
+    let more = table::child_count(&table[at..]);
+    let all = ((count + more - 1) % 256) as u8;
+    dissolve_at(table, i, p, kind, limit, all, out)
 }
 
 // 3. A sequence or choice of one child becomes the child, if at most one of the two has a limit.
@@ -286,7 +315,23 @@ pub fn rule5_at(table: &[u8], extents: &[usize], i: usize, out: &mut [u8]) -> us
     requires { ⌜ Extents (now table) (now extents) ⌝ ∗ ⌜ i < recordCount (now table) ⌝ ∗ ⌜ length (now table) ≤ length (now out) ⌝ }
     ensures { λ r. ⌜ Wrote (ruleAt rule5 (treesAt (now (table .entry)) i)) r (now (out .exit)) ⌝ }
 {
-    0
+    let start = RECORD_LENGTH * i;
+    let node = table::read_node(&table[start..]);
+    let kind = node.kind;
+    let limit = node.limit;
+    if !is_sum(kind) {
+        return 0;
+    }
+    let count = table::child_count(&table[start..]);
+    if count < 2 {
+        return 0;
+    }
+    let p = first_child(table, extents, i, Wanted::Zero);
+    if p == 0 {
+        return 0;
+    }
+    let fewer = ((count - 1) % 256) as u8;
+    dissolve_at(table, i, p, kind, limit, fewer, out)
 }
 
 // 6. In a sequence, two or more unlimited plain blocks become one of their sum, as first child.

@@ -1,0 +1,63 @@
+-- The node's record, and the two runs of records that are copied, one after another.
+use mathlib.Core.Path.{ap, _∙_}
+use mathlib.Core.List.{List, _++_}
+use Prim.Native.Nat.{ℕ, _+_, _-_}
+use native.Mathlib.Omega.{arith}
+use Rattle.table.specs.Table.{recordCount}
+use Rattle.rewrite.specs.Writing.{slice}
+use borrow.Author.Needs.{needs}
+use Rattle.rewrite.proofs.dissolve_at.Statement.{statement}
+use Rattle.rewrite.proofs.dissolve_at.Tie as tie
+
+add-first : tie.Need-add-first
+add-first c = search needs
+
+add-after : tie.Need-add-after
+add-after c = search needs
+
+put-node-requires : tie.Need-put-node-requires
+put-node-requires c κs = search needs
+
+sub-copy-records : tie.Need-sub-copy-records
+sub-copy-records c = search needs
+
+copy-records-requires : tie.Need-copy-records-requires
+copy-records-requires c κs = search needs
+
+sub-copy-records-2 : tie.Need-sub-copy-records-2
+sub-copy-records-2 c = search needs
+
+copy-records-requires-2 : tie.Need-copy-records-requires-2
+copy-records-requires-2 c κs = search needs
+
+same-length : tie.Need-same-length
+same-length c = search needs
+
+returns : tie.Need-returns
+returns c =
+    let last = c .before .before in
+    let mid = last .before .before .before .before in
+    let put = mid .before .before .before .before in
+    let a = put .before .before .before .before .args in
+    let b = a .table .now in
+    record {
+      many = omega arith;
+      is =
+        last .copy-records2 .ensures .1
+        ∙ ap (λ (x : List ℕ). x ++ slice b (a .p + 1) (recordCount b - (a .p + 1)))
+          (mid .copy-records .ensures .1 ∙ ap (λ (x : List ℕ). x ++ slice b (a .i + 1) (a .p - (a .i + 1))) (put .put-node .ensures .1));
+    }
+
+pub dissolve-at-spec : {M : Type 1} → statement M
+dissolve-at-spec =
+    tie.close
+    (tie.spec
+    add-first
+    add-after
+    put-node-requires
+    sub-copy-records
+    copy-records-requires
+    sub-copy-records-2
+    copy-records-requires-2
+    same-length
+    returns)
