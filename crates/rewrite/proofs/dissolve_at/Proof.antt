@@ -1,10 +1,7 @@
 -- The node's record, and the two runs of records that are copied, one after another.
-use mathlib.Core.Path.{ap, _∙_}
-use mathlib.Core.List.{List, _++_}
-use Prim.Native.Nat.{ℕ, _+_, _-_}
-use native.Mathlib.Omega.{arith}
-use Rattle.table.specs.Table.{recordCount}
-use Rattle.rewrite.specs.Writing.{slice}
+use Rattle.table.specs.Table.{recordBytes}
+use Rattle.rewrite.specs.Writing.{nodeOf}
+use Rattle.rewrite.specs.Laws.Dissolving.{left-of}
 use borrow.Author.Needs.{needs}
 use Rattle.rewrite.proofs.dissolve_at.Statement.{statement}
 use Rattle.rewrite.proofs.dissolve_at.Tie as tie
@@ -38,15 +35,12 @@ returns c =
     let last = c .before .before in
     let mid = last .before .before .before .before in
     let put = mid .before .before .before .before in
-    let a = put .before .before .before .before .args in
-    let b = a .table .now in
-    record {
-      many = omega arith;
-      is =
-        last .copy-records2 .ensures .1
-        ∙ ap (λ (x : List ℕ). x ++ slice b (a .p + 1) (recordCount b - (a .p + 1)))
-          (mid .copy-records .ensures .1 ∙ ap (λ (x : List ℕ). x ++ slice b (a .i + 1) (a .p - (a .i + 1))) (put .put-node .ensures .1));
-    }
+    let start = put .before .before .before .before in
+    let (x, y) = last .copy-records2 .ensures in
+    let (z, w) = mid .copy-records .ensures in
+    let (u, v) = put .put-node .ensures in
+    let a = start .args in
+    left-of (a .table .now) (a .i) (a .p) (recordBytes (nodeOf (a .kind) (a .limit)) (a .count)) (start .pre .0) (start .pre .1) u z x v w y
 
 pub dissolve-at-spec : {M : Type 1} → statement M
 dissolve-at-spec =

@@ -1,28 +1,31 @@
 -- A child that gives way to its own children, in trees and in records.
 use mathlib.Core.Path.{_≡_, refl, ap, ap₂, sym, _∙_, subst}
-use mathlib.Core.Bool.{Bool, true, false, cond, _||_}
+use mathlib.Core.Bool.{Bool, true, false, cond, not, _||_}
 use mathlib.Core.List.{List, _++_, append-assoc}
 use mathlib.Core.Option.{Option, none, some}
-use Prim.Native.Nat.{ℕ, suc, zero, _+_, _*_, _-_, _<_, _≤_}
+use Prim.Native.Nat.{ℕ, suc, zero, _+_, _*_, _-_, _%_, _<_, _≤_}
 use native.Mathlib.Numerals.{add-one}
 use native.Mathlib.Omega.{arith}
-use lib.Dec.{T, leb, leb→le}
+use lib.Dec.{T, leb, leb→le, le→leb}
 use lib.ListN.{drop, length, length-drop, take}
 use lib.Seq.{take-all}
+use borrow.Author.Tests.{lt-leb, not-false, not-true}
 use Rattle.booleans.specs.Tests.{_and_}
-use Rattle.booleans.specs.Laws.{both, is-T}
+use Rattle.booleans.specs.Laws.{T-is, both, is-T}
 use Rattle.table.specs.Numbers.{mostChildren, recordLength}
-use Rattle.table.specs.Table.{childByte, encode, encodes, recordBytes, recordCount, top}
+use Rattle.table.specs.Table.{childByte, encode, encodes, firstNode, recordBytes, recordCount, top}
 use Rattle.table.specs.Trees.{Forest, Tree, nil, node, _▸_, _⧺_, records, recordsIn, size}
 use Rattle.table.specs.Laws.Reading.{partAt}
-use Rattle.simplify.specs.Rules.{anyGives, anyZero, bare, children, giveWay, gives, isZero, without}
+use Rattle.simplify.specs.Rules.{anyGives, anyZero, bare, children, giveWay, gives, isSum, isZero, rule2, rule5, when, without}
+use Rattle.simplify.specs.Steps.{also}
 use Rattle.subtrees.specs.Parts.{Simplifiable, treesAt}
 use Rattle.subtrees.specs.Laws.Forests.{below, encodes-⧺, records-⧺}
 use Rattle.subtrees.specs.Laws.Parts.{Here, back-at, bytes-at, here-at, length-is, records-at, skip-at}
 use Rattle.rewrite.specs.Nodes.{Kind, Node}
-use Rattle.rewrite.specs.Children.{Left, any, childAt, dissolve, offset}
-use Rattle.rewrite.specs.Writing.{Wrote, front, slice}
-use Rattle.rewrite.specs.Laws.Children.{count-at}
+use Rattle.rewrite.specs.Children.{Left, any, childAt, dissolve, offset, wanted}
+use Rattle.rewrite.specs.declared.Wanted.{Wanted}
+use Rattle.rewrite.specs.Writing.{Wrote, front, nodeOf, ruleAt, slice}
+use Rattle.rewrite.specs.Laws.Children.{count-at, node-at}
 
 -- ---- the first tree of a row that passes a test
 
@@ -93,6 +96,12 @@ module _ (q : Tree → Bool) (f : Forest) (w : Found q f) where
       (arith, records-of (w .found), records-⧺ (w .before) (children (w .found) ⧺ w .after), records-⧺ (children (w .found)) (w .after), records-⧺ (w .before) (w .found ▸ w .after)))
 
 -- ---- in a table's records
+
+-- what is put first, and the two runs that are copied after it
+pub left-of : (b : List ℕ) (i p : ℕ) (top : List ℕ) {x y out : List ℕ} {n m r : ℕ} → i < p → p < recordCount b → n ≡ 1 → m ≡ n + (p - (i + 1))
+    → r ≡ m + (recordCount b - (p + 1)) → x ≡ top → y ≡ x ++ slice b (i + 1) (p - (i + 1)) → front r out ≡ y ++ slice b (p + 1) (recordCount b - (p + 1))
+    → Left b i p top r out
+left-of b i p top l k d e f t u v = record { many = omega arith; is = v ∙ rw (u, t) refl }
 
 pub row-bytes : (n : Node) (f g : Forest) → encodes (node n f ▸ g) ≡ recordBytes n (size f) ++ encodes (f ⧺ g)
 unfolding encode encodes
@@ -189,3 +198,170 @@ module _ (b : List ℕ) (s : Simplifiable b) (i : ℕ) (h : Here b i) (q : Tree 
         (before, bytes-at b s (i + 1) (w .before) (w .found ▸ (w .after ⧺ h .later)) (from-part w), rest-slice b s (p + 1), after-child p c, count)
         (sym (gone-bytes q (h .kids) w (h .own) (h .later))),
       )
+
+-- ---- rules 2 and 5
+
+and-off : (x : Bool) → (x and false) ≡ false
+unfolding _and_
+and-off true = refl
+and-off false = refl
+
+giving-any : (k : Kind) (c : ℕ) (f : Forest) → anyGives k c f ≡ any (gives k c) f
+unfolding anyGives any
+giving-any k c nil = refl
+giving-any k c (t ▸ f) = ap (λ (x : Bool). gives k c t || x) (giving-any k c f)
+
+giving : (k : Kind) (c : ℕ) (f : Forest) → giveWay k c f ≡ dissolve (gives k c) f
+unfolding giveWay dissolve
+giving k c nil = refl
+giving k c (t ▸ f) = ap (λ (g : Forest). cond (gives k c t) (children t ⧺ f) (t ▸ g)) (giving k c f)
+
+zero-any : (f : Forest) → anyZero f ≡ any isZero f
+unfolding anyZero any
+zero-any nil = refl
+zero-any (t ▸ f) = ap (λ (x : Bool). isZero t || x) (zero-any f)
+
+bare-children : (t : Tree) → T (bare t) → children t ≡ nil
+unfolding bare children
+bare-children (node n nil) h = refl
+bare-children (node n (t ▸ f)) h = absurd h
+
+zero-children : (t : Tree) → isZero t ≡ true → children t ≡ nil
+unfolding isZero
+zero-children t e = bare-children t (both _ _ (is-T _ e) .0)
+
+zero-goes : (t : Tree) (f : Forest) (x : Bool) → isZero t ≡ x → cond x f (t ▸ without f) ≡ cond x (children t ⧺ f) (t ▸ without f)
+unfolding _⧺_
+zero-goes t f true e = rw (zero-children t e) refl
+zero-goes t f false e = refl
+
+pub zeroing : (f : Forest) → without f ≡ dissolve isZero f
+unfolding without dissolve
+zeroing nil = refl
+zeroing (t ▸ f) = zero-goes t f (isZero t) refl ∙ ap (λ (g : Forest). cond (isZero t) (children t ⧺ f) (t ▸ g)) (zeroing f)
+
+pub rule2-no-sum : (n : Node) (f : Forest) → isSum (n .kind) ≡ false → rule2 n f ≡ none
+unfolding rule2 when _and_
+rule2-no-sum n f e = rw e refl
+
+rule2-none : (n : Node) (f : Forest) → any (gives (n .kind) (size f)) f ≡ false → rule2 n f ≡ none
+unfolding rule2 when
+rule2-none n f e = rw (giving-any, e, and-off) refl
+
+rule2-some : (n : Node) (f : Forest) → isSum (n .kind) ≡ true → any (gives (n .kind) (size f)) f ≡ true
+    → rule2 n f ≡ some (node n (dissolve (gives (n .kind) (size f)) f))
+unfolding rule2 when _and_
+rule2-some n f e d = rw (giving-any, e, d, giving) refl
+
+pub rule5-no-sum : (n : Node) (f : Forest) → isSum (n .kind) ≡ false → rule5 n f ≡ none
+unfolding rule5 when _and_
+rule5-no-sum n f e = rw e refl
+
+rule5-few : (n : Node) (f : Forest) → size f < 2 → rule5 n f ≡ none
+unfolding rule5 when
+rule5-few n f l = rw (lt-leb 2 (size f) l, and-off) (unfold _and_ in refl)
+
+rule5-none : (n : Node) (f : Forest) → any isZero f ≡ false → rule5 n f ≡ none
+unfolding rule5 when
+rule5-none n f e = rw (zero-any, e, and-off) refl
+
+rule5-some : (n : Node) (f : Forest) → isSum (n .kind) ≡ true → 2 ≤ size f → any isZero f ≡ true → rule5 n f ≡ some (node n (dissolve isZero f))
+unfolding rule5 when _and_
+rule5-some n f e l d = rw (zero-any, e, d, zeroing, T-is (leb 2 (size f)) (le→leb 2 (size f) l)) refl
+
+pub wrote-as : {o p : Option Forest} (r : ℕ) (out : List ℕ) → o ≡ p → Wrote p r out → Wrote o r out
+wrote-as r out e w = subst (λ (x : Option Forest). Wrote x r out) (sym e) w
+
+gives-fits : (k : Kind) (c : ℕ) (t : Tree) → gives k c t ≡ true → c + size (children t) ≤ suc mostChildren
+unfolding gives children
+gives-fits k c (node n f) e = leb→le _ _ (both _ _ (is-T _ e) .1)
+
+pub wrote-none : (o : Option Forest) (out : List ℕ) → o ≡ none → Wrote o 0 out
+unfolding Wrote
+wrote-none o out e = subst (λ (x : Option Forest). Wrote x 0 out) (sym e) refl
+
+module _ (b : List ℕ) (s : Simplifiable b) (i : ℕ) (l : i < recordCount b) where
+  abbrev it : Here b i
+  it = here-at b s i l
+
+  pub rule-at : (rule : Node → Forest → Option Tree) (o : Option Tree) → rule (it .own) (it .kids) ≡ o
+      → ruleAt rule (treesAt b i) ≡ also (λ (t : Tree). t ▸ it .later) o
+  unfolding ruleAt
+  rule-at rule o e = ap (ruleAt rule) (it .here) ∙ ap (also (λ (t : Tree). t ▸ it .later)) e
+
+  pub unfit-at : (rule : Node → Forest → Option Tree) (out : List ℕ) → rule (it .own) (it .kids) ≡ none → Wrote (ruleAt rule (treesAt b i)) 0 out
+  unfolding also
+  unfit-at rule out e = wrote-none _ out (rule-at rule none e)
+
+  -- a node that is no sequence and no choice
+  pub no-sum : (rule : Node → Forest → Option Tree) (out : List ℕ) {n : Node} {x : Bool} → ((n : Node) (f : Forest) → isSum (n .kind) ≡ false → rule n f ≡ none)
+      → n ≡ firstNode (partAt b i) → x ≡ isSum (n .kind) → not x ≡ true → Wrote (ruleAt rule (treesAt b i)) 0 out
+  no-sum rule out {n} {x} k e d t =
+      unfit-at rule out (k (it .own) (it .kids) (ap (λ (m : Node). isSum (m .kind)) (sym (e ∙ node-at b i it)) ∙ sym d ∙ not-true x t))
+
+  abbrev giving-test : Tree → Bool
+  giving-test = gives (it .own .kind) (size (it .kids))
+
+  is-sum-at : {n : Node} {x : Bool} → n ≡ firstNode (partAt b i) → x ≡ isSum (n .kind) → not x ≡ false → isSum (it .own .kind) ≡ true
+  is-sum-at {n} {x} e d t = ap (λ (m : Node). isSum (m .kind)) (sym (e ∙ node-at b i it)) ∙ sym d ∙ not-false x t
+
+  giving-at : {n : Node} {c p : ℕ} → n ≡ firstNode (partAt b i) → c ≡ childByte (partAt b i) → p ≡ childAt (wanted (Wanted.GivesWay (n .kind) c)) i (treesAt b i)
+      → p ≡ childAt giving-test i (treesAt b i)
+  unfolding wanted
+  giving-at e d k = k ∙ ap₂ (λ (m : Node) (x : ℕ). childAt (gives (m .kind) x) i (treesAt b i)) (e ∙ node-at b i it) (d ∙ count-at b i it)
+
+  pub none-gives : (out : List ℕ) {n : Node} {c p : ℕ} → n ≡ firstNode (partAt b i) → c ≡ childByte (partAt b i)
+      → p ≡ childAt (wanted (Wanted.GivesWay (n .kind) c)) i (treesAt b i) → p ≡ 0 → Wrote (ruleAt rule2 (treesAt b i)) 0 out
+  none-gives out e d k z =
+      unfit-at rule2 out (rule2-none (it .own) (it .kids) (child-none b s i it giving-test _ (giving-at e d k) z))
+
+  pub giver : {n : Node} {c p : ℕ} → n ≡ firstNode (partAt b i) → c ≡ childByte (partAt b i) → p ≡ childAt (wanted (Wanted.GivesWay (n .kind) c)) i (treesAt b i)
+      → (p ≡ 0 → ⊥) → (any giving-test (it .kids) ≡ true) × Child b s i it giving-test p
+  giver e d k z = child-of b s i it giving-test _ (giving-at e d k) z
+
+  pub gave-way : (out : List ℕ) {n : Node} {c p m r : ℕ} {x : Bool} → n ≡ firstNode (partAt b i) → x ≡ isSum (n .kind) → not x ≡ false
+      → c ≡ childByte (partAt b i) → p ≡ childAt (wanted (Wanted.GivesWay (n .kind) c)) i (treesAt b i) → (p ≡ 0 → ⊥) → m ≡ childByte (partAt b p)
+      → Left b i p (recordBytes n ((c + m - 1) % 256)) r out → Wrote (ruleAt rule2 (treesAt b i)) r out
+  unfolding also
+  gave-way out {n} {c} {p} {m} {r} e dx tx d k z dm w =
+      let (a, g) = giver e d k z in
+      let few = gives-fits _ _ (g .part .found) (g .part .passes) in
+      let one = gone-size giving-test (it .kids) (g .part) in
+      let ec : c ≡ size (it .kids) = d ∙ count-at b i it in
+      let em : m ≡ size (children (g .part .found)) = dm ∙ child-size b s i it giving-test p g in
+      let count : (c + m - 1) % 256 + 1 ≡ size (it .kids) + size (children (g .part .found)) = omega arith in
+      let left = subst (λ (y : Node). Left b i p (recordBytes y ((c + m - 1) % 256)) r out) (e ∙ node-at b i it) w in
+      wrote-as
+      r
+      out
+      (rule-at rule2 _ (rule2-some (it .own) (it .kids) (is-sum-at e dx tx) a))
+      (dissolved b s i it giving-test p g ((c + m - 1) % 256) r out count left)
+
+  zero-row : {p : ℕ} → p ≡ childAt (wanted Wanted.Zero) i (treesAt b i) → p ≡ childAt isZero i (treesAt b i)
+  unfolding wanted
+  zero-row k = k
+
+  pub few-zero : (out : List ℕ) {c : ℕ} → c ≡ childByte (partAt b i) → c < 2 → Wrote (ruleAt rule5 (treesAt b i)) 0 out
+  few-zero out d l = unfit-at rule5 out (rule5-few (it .own) (it .kids) (omega (arith, count-at b i it)))
+
+  pub none-zero : (out : List ℕ) {p : ℕ} → p ≡ childAt (wanted Wanted.Zero) i (treesAt b i) → p ≡ 0 → Wrote (ruleAt rule5 (treesAt b i)) 0 out
+  none-zero out k z = unfit-at rule5 out (rule5-none (it .own) (it .kids) (child-none b s i it isZero _ (zero-row k) z))
+
+  pub zero-child : {p : ℕ} → p ≡ childAt (wanted Wanted.Zero) i (treesAt b i) → (p ≡ 0 → ⊥) → (any isZero (it .kids) ≡ true) × Child b s i it isZero p
+  zero-child k z = child-of b s i it isZero _ (zero-row k) z
+
+  pub zero-gone : (out : List ℕ) {n : Node} {c p r : ℕ} {x : Bool} → n ≡ firstNode (partAt b i) → x ≡ isSum (n .kind) → not x ≡ false
+      → c ≡ childByte (partAt b i) → c < 256 → 2 ≤ c → p ≡ childAt (wanted Wanted.Zero) i (treesAt b i) → (p ≡ 0 → ⊥)
+      → Left b i p (recordBytes n ((c - 1) % 256)) r out → Wrote (ruleAt rule5 (treesAt b i)) r out
+  unfolding also size
+  zero-gone out {n} {c} {p} {r} e dx tx d few two k z w =
+      let (a, g) = zero-child k z in
+      let none = ap size (zero-children (g .part .found) (g .part .passes)) in
+      let ec : c ≡ size (it .kids) = d ∙ count-at b i it in
+      let count : (c - 1) % 256 + 1 ≡ size (it .kids) + size (children (g .part .found)) = omega arith in
+      let left = subst (λ (y : Node). Left b i p (recordBytes y ((c - 1) % 256)) r out) (e ∙ node-at b i it) w in
+      wrote-as
+      r
+      out
+      (rule-at rule5 _ (rule5-some (it .own) (it .kids) (is-sum-at e dx tx) (omega arith) a))
+      (dissolved b s i it isZero p g ((c - 1) % 256) r out count left)
