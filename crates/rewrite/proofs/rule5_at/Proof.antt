@@ -1,0 +1,142 @@
+-- The first unlimited plain block of time 0 is dissolved, and it has no children; where there is none, the rule does not fit.
+use native.Mathlib.Omega.{arith}
+use Rattle.simplify.specs.Rules.{rule5}
+use Rattle.rewrite.specs.Laws.Dissolving.{few-zero, no-sum, none-zero, rule5-no-sum, zero-child, zero-gone}
+use borrow.Author.Needs.{needs}
+use Rattle.rewrite.proofs.rule5_at.Statement.{statement}
+use Rattle.rewrite.proofs.rule5_at.Tie as tie
+
+mul-start : tie.Need-mul-start
+mul-start c = search needs
+
+sub-read-node : tie.Need-sub-read-node
+sub-read-node c = search needs
+
+part-read-node-start : tie.Need-part-read-node-start
+part-read-node-start c = search needs
+
+part-read-node-end : tie.Need-part-read-node-end
+part-read-node-end c = search needs
+
+read-node-requires : tie.Need-read-node-requires
+read-node-requires c κs = search needs
+
+is-sum-requires : tie.Need-is-sum-requires
+is-sum-requires c κs = search needs
+
+returns : tie.Need-returns
+returns c =
+    let sum = c .before in
+    let node = sum .before in
+    let start = node .before .before .before .before .before in
+    let a = start .args in
+    let (s, lm) = start .pre in
+    let l = lm .0 in
+    no-sum (a .table .now) (s .simplifiable) (a .i) l rule5 _ rule5-no-sum (node .read-node .ensures) (sum .is-sum .ensures) (c .if1 .taken)
+
+sub-child-count : tie.Need-sub-child-count
+sub-child-count c = search needs
+
+part-child-count-start : tie.Need-part-child-count-start
+part-child-count-start c = search needs
+
+part-child-count-end : tie.Need-part-child-count-end
+part-child-count-end c = search needs
+
+child-count-requires : tie.Need-child-count-requires
+child-count-requires c κs = search needs
+
+returns-2 : tie.Need-returns-2
+returns-2 c =
+    let count = c .before in
+    let start = count .before .before .before .before .before .before .before .before .before in
+    let a = start .args in
+    let (s, lm) = start .pre in
+    let l = lm .0 in
+    few-zero (a .table .now) (s .simplifiable) (a .i) l _ (count .child-count .ensures .0) (c .if2 .taken)
+
+first-child-requires : tie.Need-first-child-requires
+first-child-requires c κs = search needs
+
+returns-3 : tie.Need-returns-3
+returns-3 c =
+    let found = c .before in
+    let start = found .before .before .before .before .before .before .before .before .before .before .before in
+    let a = start .args in
+    let (s, lm) = start .pre in
+    let l = lm .0 in
+    none-zero (a .table .now) (s .simplifiable) (a .i) l _ (found .first-child .ensures) (c .if3 .taken)
+
+sub-fewer : tie.Need-sub-fewer
+sub-fewer c = search needs
+
+cast-fewer : tie.Need-cast-fewer
+cast-fewer c = search needs
+
+dissolve-at-requires : tie.Need-dissolve-at-requires
+dissolve-at-requires c κs =
+    let at = c .before in
+    let found = at .before in
+    let start = found .before .before .before .before .before .before .before .before .before .before .before in
+    let a = start .args in
+    let (s, lm) = start .pre in
+    let l = lm .0 in
+    let (_, g) = zero-child (a .table .now) (s .simplifiable) (a .i) l (found .first-child .ensures) (at .if3 .left) in
+    (omega (arith, g .place), g .inside, lm .1)
+
+same-length : tie.Need-same-length
+same-length c = search needs
+
+returns-4 : tie.Need-returns-4
+returns-4 c =
+    let done = c .before .before in
+    let at = done .before .before in
+    let found = at .before in
+    let two = found .before in
+    let count = two .before in
+    let sum = count .before .before .before in
+    let node = sum .before in
+    let start = node .before .before .before .before .before in
+    let a = start .args in
+    let (s, lm) = start .pre in
+    let l = lm .0 in
+    let (e, few) = count .child-count .ensures in
+    zero-gone
+    (a .table .now)
+    (s .simplifiable)
+    (a .i)
+    l
+    _
+    (node .read-node .ensures)
+    (sum .is-sum .ensures)
+    (count .before .before .if1 .left)
+    e
+    few
+    (two .if2 .left)
+    (found .first-child .ensures)
+    (at .if3 .left)
+    (done .dissolve-at .ensures)
+
+pub rule5-at-spec : {M : Type 1} → statement M
+rule5-at-spec =
+    tie.close
+    (tie.spec
+    mul-start
+    sub-read-node
+    part-read-node-start
+    part-read-node-end
+    read-node-requires
+    is-sum-requires
+    returns
+    sub-child-count
+    part-child-count-start
+    part-child-count-end
+    child-count-requires
+    returns-2
+    first-child-requires
+    returns-3
+    sub-fewer
+    cast-fewer
+    dissolve-at-requires
+    same-length
+    returns-4)
