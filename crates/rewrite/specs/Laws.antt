@@ -5,3 +5,4 @@ pub mod Exit
 pub mod Settled
 pub mod Sharing
 pub mod Dissolving
+pub mod Blocks

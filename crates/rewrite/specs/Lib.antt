@@ -4,5 +4,6 @@ pub mod Writing
 pub mod Children
 pub mod Settled
 pub mod Sharing
+pub mod Blocks
 -- What is proved of them.
 pub mod Laws

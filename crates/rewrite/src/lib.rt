@@ -2,14 +2,15 @@
 ghost use mathlib.Core.Path.{_≡_};
 ghost use mathlib.Core.Bool.{false};
 ghost use mathlib.Core.List.{_++_};
-ghost use Prim.Native.Nat.{_*_, _+_, _-_, _<_, _≤_, suc};
+ghost use Prim.Native.Nat.{_*_, _+_, _-_, _<_, _≤_, max, suc};
 ghost use lib.Dec.{leb};
+ghost use mathlib.Core.Option.{some};
 ghost use lib.ListN.{length};
-ghost use Rattle.table.specs.Numbers.{mostChildren, recordLength};
+ghost use Rattle.table.specs.Numbers.{mostChildren, mostTime, recordLength};
 ghost use Rattle.table.specs.Table.{encodes, flag, kindByte, limitNum, loopByte, raw, recordBytes, recordCount, valueNum};
 ghost use Rattle.evaluate.specs.Closed.{isUnlimited};
 ghost use Rattle.simplify.specs.Same.{same, sameKind};
-ghost use Rattle.simplify.specs.Rules.{allPairs, bare, children, gives, isBlock, isPair, isSum, isZero, rule2, rule3, rule4, rule5, rule6, rule7, rule8, rule9};
+ghost use Rattle.simplify.specs.Rules.{allPairs, bare, children, gives, isBlock, isPair, isSum, isZero, others, rule2, rule3, rule4, rule5, rule6, rule7, rule8, rule9, timeOfKind};
 ghost use Rattle.table.specs.Trees.{recordsIn};
 ghost use Rattle.subtrees.specs.Facts.{Extents, Surveyed};
 ghost use Rattle.subtrees.specs.Parts.{Simplifiable, subtree, treesAt};
@@ -19,6 +20,7 @@ ghost use Rattle.rewrite.specs.Children.{Left, childAt, wanted};
 ghost use Rattle.rewrite.specs.Sharing.{PairsAt, firstsAt, idle, sameBytes, sharedAt, sharing, topBytes};
 use lists::List;
 use subtrees::MARKS;
+ghost use Rattle.rewrite.specs.Blocks.{Parted, Standing, baresAt, keptRecords, merged, spanning, withChild};
 use table::Kind;
 use table::Limit;
 use table::MOST_DEPTH;
@@ -334,11 +336,154 @@ pub fn rule5_at(table: &[u8], extents: &[usize], i: usize, out: &mut [u8]) -> us
     dissolve_at(table, i, p, kind, limit, fewer, out)
 }
 
+// What a walk over a node's children finds of unlimited plain blocks: how many, the sum of their times and the largest.
+pub struct Bares {
+    pub count: usize,
+    pub total: u64,
+    pub largest: u64,
+}
+
+fn is_sequence(kind: Kind) -> bool
+    ensures { λ r. ⌜ r ≡ sameKind kind Kind.Sequence ⌝ }
+{
+    match kind {
+        Kind::Block(_) => false,
+        Kind::Sequence => true,
+        Kind::Choice => false,
+        Kind::Loop(_) => false,
+    }
+}
+
+fn is_choice(kind: Kind) -> bool
+    ensures { λ r. ⌜ r ≡ sameKind kind Kind.Choice ⌝ }
+{
+    match kind {
+        Kind::Block(_) => false,
+        Kind::Sequence => false,
+        Kind::Choice => true,
+        Kind::Loop(_) => false,
+    }
+}
+
+fn plain_time(kind: Kind) -> u64
+    ensures { λ r. ⌜ r ≡ timeOfKind kind ⌝ }
+{
+    match kind {
+        Kind::Block(time) => match time {
+            Number::Plain(x) => x,
+            Number::Symbol(_) => 0,
+        },
+        Kind::Sequence => 0,
+        Kind::Choice => 0,
+        Kind::Loop(_) => 0,
+    }
+}
+
+fn larger(x: u64, y: u64) -> u64
+    ensures { λ r. ⌜ r ≡ max x y ⌝ }
+{
+    if x < y { y } else { x }
+}
+
+// What was found so far, and the child at record p.
+fn with_child(found: Bares, table: &[u8], p: usize) -> Bares
+    requires { ⌜ Simplifiable (now table) ⌝ ∗ ⌜ p < recordCount (now table) ⌝ ∗ ⌜ (found .count < p) × (found .total ≤ mostTime * found .count) ⌝ }
+    ensures { λ r. ⌜ (r ≡ withChild found (subtree (now (table .entry)) p)) × (r .count ≤ p) × (r .total ≤ mostTime * r .count) ⌝ }
+{
+    if !is_bare(table, p) {
+        return found;
+    }
+    let start = RECORD_LENGTH * p;
+    let node = table::read_node(&table[start..]);
+    let kind = node.kind;
+    let time = plain_time(kind);
+    Bares {
+        count: found.count + 1,
+        total: found.total + time,
+        largest: larger(found.largest, time),
+    }
+}
+
+// The unlimited plain blocks among the children of the node at record i.
+fn bares_in(table: &[u8], extents: &[usize], i: usize) -> Bares
+    requires { ⌜ Extents (now table) (now extents) ⌝ ∗ ⌜ i < recordCount (now table) ⌝ }
+    ensures { λ r. ⌜ r ≡ baresAt (treesAt (now (table .entry)) i) ⌝ }
+{
+    let end = i + extents[i];
+    let mut p = i + 1;
+    let mut found = Bares {
+        count: 0,
+        total: 0,
+        largest: 0,
+    };
+    while p < end {
+        found = with_child(found, table, p);
+        p += extents[p];
+    }
+    found
+}
+
+// How many records of the tree at record p stay: none of an unlimited plain block.
+fn kept(table: &[u8], extents: &[usize], p: usize) -> usize
+    requires { ⌜ Extents (now table) (now extents) ⌝ ∗ ⌜ p < recordCount (now table) ⌝ }
+    ensures { λ r. ⌜ r ≡ keptRecords (subtree (now (table .entry)) p) ⌝ }
+{
+    if is_bare(table, p) {
+        return 0;
+    }
+    extents[p]
+}
+
+// Copies the trees from record `start` up to `end` that are no unlimited plain blocks to the buffer's record `at` and on; answers the record after them.
+fn copy_others(table: &[u8], extents: &[usize], start: usize, end: usize, out: &mut [u8], at: usize) -> usize
+    requires { ⌜ Extents (now table) (now extents) ⌝ ∗ ⌜ Standing (now table) start end ⌝ }
+    requires { ⌜ recordLength * (at + (end - start)) ≤ length (now out) ⌝ }
+    ensures { λ r. ⌜ (r ≡ at + recordsIn (others (spanning (treesAt (now (table .entry)) start) (end - start)))) × (front r (now (out .exit)) ≡ front at (now (out .entry)) ++ encodes (others (spanning (treesAt (now (table .entry)) start) (end - start)))) ⌝ }
+{
+    let mut p = start;
+    let mut to = at;
+    while p < end {
+        let n = kept(table, extents, p);
+        to = copy_records(table, p, n, out, to);
+        p += extents[p];
+    }
+    to
+}
+
+// Writes what the table becomes from record i on where the unlimited plain blocks among the node's children, none of which stands before record q, give way
+// to one at q of this time; answers how many records that is.
+fn merge_bares(table: &[u8], extents: &[usize], i: usize, q: usize, time: u64, bares: usize, out: &mut [u8]) -> usize
+    requires { ⌜ Extents (now table) (now extents) ⌝ ∗ ⌜ i < recordCount (now table) ⌝ ∗ ⌜ length (now table) ≤ length (now out) ⌝ }
+    requires { ⌜ Parted (now table) i q bares ⌝ }
+    ensures { λ r. ⌜ ((s : Parted (now (table .entry)) i q bares) → Wrote (some (merged time s)) r (now (out .exit))) ⌝ }
+{
+    let start = RECORD_LENGTH * i;
+    let node = table::read_node(&table[start..]);
+    let kind = node.kind;
+    let limit = node.limit;
+    let count = table::child_count(&table[start..]) - bares + 1;
+    let first = put_node(out, 0, kind, limit, (count % 256) as u8);
+    let block = copy_records(table, i + 1, q - i - 1, out, first);
+    let plain = Kind::Block(Number::Plain(time));
+    let second = put_node(out, block, plain, Limit::Unlimited, 0);
+    let end = i + extents[i];
+    let later = copy_others(table, extents, q, end, out, second);
+    copy_records(table, end, table.len() / RECORD_LENGTH - end, out, later)
+}
+
 // 6. In a sequence, two or more unlimited plain blocks become one of their sum, as first child.
 pub fn rule6_at(table: &[u8], extents: &[usize], i: usize, out: &mut [u8]) -> usize
     requires { ⌜ Extents (now table) (now extents) ⌝ ∗ ⌜ i < recordCount (now table) ⌝ ∗ ⌜ length (now table) ≤ length (now out) ⌝ }
     ensures { λ r. ⌜ Wrote (ruleAt rule6 (treesAt (now (table .entry)) i)) r (now (out .exit)) ⌝ }
 {
+    let start = RECORD_LENGTH * i;
+    let node = table::read_node(&table[start..]);
+    let kind = node.kind;
+    let found = bares_in(table, extents, i);
+    let count = found.count;
+    if is_sequence(kind) & (2 <= count) {
+        return merge_bares(table, extents, i, i + 1, found.total, count, out);
+    }
     0
 }
 
@@ -347,6 +492,15 @@ pub fn rule7_at(table: &[u8], extents: &[usize], i: usize, out: &mut [u8]) -> us
     requires { ⌜ Extents (now table) (now extents) ⌝ ∗ ⌜ i < recordCount (now table) ⌝ ∗ ⌜ length (now table) ≤ length (now out) ⌝ }
     ensures { λ r. ⌜ Wrote (ruleAt rule7 (treesAt (now (table .entry)) i)) r (now (out .exit)) ⌝ }
 {
+    let start = RECORD_LENGTH * i;
+    let node = table::read_node(&table[start..]);
+    let kind = node.kind;
+    let found = bares_in(table, extents, i);
+    let count = found.count;
+    if is_choice(kind) & (2 <= count) {
+        let first = first_child(table, extents, i, Wanted::Bare);
+        return merge_bares(table, extents, i, first, found.largest, count, out);
+    }
     0
 }
 

@@ -1,0 +1,299 @@
+-- Rules 6 and 7 on a table's bytes: the walk over a node's children.
+use mathlib.Core.Path.{_≡_, refl, ap, sym, _∙_, subst}
+use mathlib.Core.Bool.{Bool, cond, false, not, true}
+use mathlib.Core.List.{List, _++_, [], append-assoc, append-nil}
+use Prim.Native.Nat.{ℕ, zero, suc, _+_, _-_, _*_, _≤_, _<_, max}
+use native.Mathlib.Nat.{add-zero, suc-add}
+use native.Mathlib.Numerals.{add-one}
+use native.Mathlib.Omega.{arith}
+use lib.Dec.{T, leb→le}
+use lib.ListN.{drop, getD, length, take}
+use lib.Seq.{take-at}
+use borrow.Author.Tests.{not-false, not-true}
+use Rattle.booleans.specs.Laws.{both, by-cond, by-conds}
+use Rattle.table.specs.Numbers.{mostTime, recordLength}
+use Rattle.table.specs.Questions.{kindInRange, listed, timeInRange}
+use Rattle.table.specs.Table.{childByte, encode, encodes, firstNode, forest, recordBytes, recordCount, top}
+use Rattle.table.specs.Trees.{Forest, Tree, nil, node, _▸_, _⧺_, records, recordsIn, size}
+use Rattle.table.specs.Laws.Reading.{next-count, part-from, partAt}
+use Rattle.table.specs.Laws.RoundTrip.{children-bytes, length-encode}
+use Rattle.table.specs.Laws.Trees.{some-records}
+use Rattle.simplify.specs.Rules.{bare, bares, largest, others, timeOf, timeOfKind, total}
+use Rattle.subtrees.specs.Facts.{Extents}
+use Rattle.subtrees.specs.Parts.{Simplifiable, subtree, treesAt}
+use Rattle.subtrees.specs.Laws.Forests.{below, records-⧺}
+use Rattle.subtrees.specs.Laws.Parts.{back-at, here-at, records-at, skip-at}
+use Rattle.rewrite.specs.Blocks.{Standing, baresAt, keptRecords, noBares, spanning, withChild}
+use Rattle.rewrite.specs.Nodes.{Block, Choice, Kind, Loop, Node, Plain, Sequence, Symbol, Unlimited}
+use Rattle.rewrite.specs.Writing.{front, slice}
+use Rattle.rewrite.specs.declared.Bares.{Bares}
+
+-- ---- what stands at a record
+
+unfoldable firstOwn : Forest → Node
+firstOwn nil = record { kind = Sequence; limit = Unlimited }
+firstOwn (node n f ▸ g) = n
+
+pub own-is : (b : List ℕ) (i : ℕ) (n : Node) (f g : Forest) → i < recordCount b → treesAt b i ≡ node n f ▸ g → firstNode (partAt b i) ≡ n
+unfolding treesAt forest firstOwn
+own-is b i n f g l e =
+    let o : firstOwn (treesAt b i) ≡ firstNode (drop (recordLength * i) b) = rw (next-count (recordCount b) i l) refl in
+    rw part-from (sym o ∙ ap firstOwn e)
+
+row-children : (n : Node) (f g : Forest) → childByte (encodes (node n f ▸ g)) ≡ size f
+unfolding encode encodes
+row-children n f g = rw append-assoc (children-bytes n (size f) _)
+
+pub children-are : (b : List ℕ) (s : Simplifiable b) (i : ℕ) (n : Node) (f g : Forest) → treesAt b i ≡ node n f ▸ g → childByte (partAt b i) ≡ size f
+children-are b s i n f g e = rw (part-from, ← back-at b s i, e) (row-children n f g)
+
+pub top-is : (b : List ℕ) (p : ℕ) (t : Tree) (g : Forest) → treesAt b p ≡ t ▸ g → subtree b p ≡ t
+unfolding subtree top
+top-is b p t g e = rw e refl
+
+pub tree-bytes : (b : List ℕ) (s : Simplifiable b) (p : ℕ) (t : Tree) (g : Forest) → treesAt b p ≡ t ▸ g → slice b p (records t) ≡ encode t
+unfolding encodes
+tree-bytes b s p t g e = rw (← back-at b s p, e) (take-at (encode t) (encodes g) (recordLength * records t) (length-encode t))
+
+pub past-tree : (b : List ℕ) (s : Simplifiable b) (p : ℕ) (t : Tree) (g : Forest) → treesAt b p ≡ t ▸ g → treesAt b (p + records t) ≡ g
+unfolding recordsIn _⧺_
+past-tree b s p t g e = let z : records t ≡ records t + 0 = omega arith in rw z (skip-at b s p (t ▸ nil) g e)
+
+-- ---- a walk over trees in a row, by the extents: the next tree, and the others
+
+pub record Next (b extents : List ℕ) (p e : ℕ) (s : Standing b p e) : Type 0 where
+  pub tree : Tree
+  pub onward : Standing b (p + getD extents p 0) e
+  pub are : s .trees ≡ tree ▸ onward .trees
+  pub inside : p < recordCount b
+  pub here : treesAt b p ≡ tree ▸ (onward .trees ⧺ onward .later)
+  pub own : subtree b p ≡ tree
+  pub extent : getD extents p 0 ≡ records tree
+  pub within : p + records tree ≤ e
+  pub bound : e ≤ recordCount b
+
+pub next-tree : (b extents : List ℕ) → Extents b extents → (p e : ℕ) (s : Standing b p e) → p < e → Next b extents p e s
+unfolding recordsIn _⧺_
+next-tree b extents x p e s l = go (s .trees) refl
+  where
+    go : (f : Forest) → s .trees ≡ f → Next b extents p e s
+    go nil q = absurd (omega (arith, s .long, ap recordsIn q))
+    go (t ▸ f) q =
+        let h : treesAt b p ≡ t ▸ (f ⧺ s .later) = s .row ∙ ap (λ g. g ⧺ s .later) q in
+        let m : recordsIn (s .trees) ≡ records t + recordsIn f = ap recordsIn q in
+        let r : records t + recordsIn (f ⧺ s .later) ≡ recordCount b - p = sym (ap recordsIn h) ∙ records-at b (x .simplifiable) p in
+        let a : recordsIn (f ⧺ s .later) ≡ recordsIn f + recordsIn (s .later) = records-⧺ f (s .later) in
+        let i : p < recordCount b = omega (arith, s .long, some-records t) in
+        let o : subtree b p ≡ t = top-is b p t _ h in
+        let y : getD extents p 0 ≡ records t = x .each p i ∙ ap records o in record {
+          tree = t;
+          onward = record {
+            trees = f;
+            later = s .later;
+            row = rw y (past-tree b (x .simplifiable) p t _ h);
+            long = omega (arith, s .long);
+          };
+          are = q;
+          inside = i;
+          here = h;
+          own = o;
+          extent = y;
+          within = omega (arith, s .long);
+          bound = omega (arith, s .long);
+        }
+
+-- at its end nothing is left
+pub none-left : (b : List ℕ) (p e : ℕ) (s : Standing b p e) → e ≤ p → s .trees ≡ nil
+unfolding recordsIn
+none-left b p e s l = go (s .trees) (s .long)
+  where
+    go : (f : Forest) → p + recordsIn f ≡ e → f ≡ nil
+    go nil q = refl
+    go (t ▸ f) q = absurd (omega (arith, some-records t))
+
+-- the children of the node at record i
+pub children-stand : (b extents : List ℕ) → Extents b extents → (i : ℕ) (n : Node) (f g : Forest) → i < recordCount b → treesAt b i ≡ node n f ▸ g
+    → (getD extents i 0 ≡ suc (recordsIn f)) × (treesAt b (i + 1) ≡ f ⧺ g) × (i + suc (recordsIn f) ≤ recordCount b)
+unfolding records recordsIn below
+children-stand b extents x i n f g l e =
+    let o : subtree b i ≡ node n f = top-is b i (node n f) g e in
+    let w = here-at b (x .simplifiable) i l in
+    (x .each i l ∙ ap records o, rw add-one (w .next ∙ ap below (sym (w .here) ∙ e)), omega (arith, records-at b (x .simplifiable) i, ap recordsIn e))
+
+-- ---- what a walk finds
+
+time-low : (k : Kind) → T (kindInRange k) → timeOfKind k ≤ mostTime
+unfolding kindInRange timeInRange timeOfKind
+time-low (Block (Plain x)) h = leb→le x mostTime h
+time-low (Block (Symbol x)) h = omega arith
+time-low Sequence h = omega arith
+time-low Choice h = omega arith
+time-low (Loop x) h = omega arith
+
+node-low : (n : Node) (f : Forest) → T (listed (node n f)) → timeOfKind (n .kind) ≤ mostTime
+unfolding listed
+node-low n f h = time-low (n .kind) (both _ _ (both _ _ (both _ _ h .0) .0) .0)
+
+-- the time of a block at record p, as its bytes have it
+pub time-at : (b : List ℕ) → Simplifiable b → (p : ℕ) → p < recordCount b
+    → (timeOfKind (firstNode (partAt b p) .kind) ≡ timeOf (subtree b p)) × (timeOf (subtree b p) ≤ mostTime)
+unfolding timeOf
+time-at b s p l =
+    let w = here-at b s p l in
+    let o : subtree b p ≡ node (w .own) (w .kids) = top-is b p _ _ (w .here) in
+    let e : timeOf (subtree b p) ≡ timeOfKind (w .own .kind) = ap timeOf o in
+    let d : timeOfKind (firstNode (partAt b p) .kind) ≡ timeOfKind (w .own .kind) = ap (λ n. timeOfKind (n .kind)) (own-is b p _ _ _ l (w .here)) in
+    (d ∙ sym e, omega (arith, node-low (w .own) (w .kids) (w .sound .fair .listed)))
+
+pub child-not : (s : Bares) (t : Tree) (r : Bool) → r ≡ bare t → not r ≡ true → s ≡ withChild s t
+unfolding withChild
+child-not s t r e h = rw (← e, not-true r h) refl
+
+pub child-bare : (s : Bares) (t : Tree) (r : Bool) (x l : ℕ) → r ≡ bare t → not r ≡ false → x ≡ timeOf t → l ≡ max (s .largest) x
+    → record { count = s .count + 1; total = s .total + x; largest = l } ≡ withChild s t
+unfolding withChild
+child-bare s t r x l e h y m = rw (m, y, ← e, not-false r h) refl
+
+pub kept-none : (t : Tree) (r : Bool) → r ≡ bare t → r ≡ true → 0 ≡ keptRecords t
+unfolding keptRecords
+kept-none t r e h = rw (← e, h) refl
+
+pub kept-all : (t : Tree) (r : Bool) (n : ℕ) → r ≡ bare t → r ≡ false → n ≡ records t → n ≡ keptRecords t
+unfolding keptRecords
+kept-all t r n e h m = rw (← e, h, m) refl
+
+-- what was found, and what the trees in a row add
+bares-are : (a b c x y z : ℕ) → a ≡ x → b ≡ y → c ≡ z → _≡_ {A = Bares} (record { count = a; total = b; largest = c }) (record { count = x; total = y; largest = z })
+bares-are a b c x y z p q r = λ i. record { count = p i; total = q i; largest = r i }
+
+unfoldable pub gather : Forest → Bares → Bares
+gather nil s = s
+gather (t ▸ f) s = gather f (withChild s t)
+
+gather-is : (f : Forest) (s : Bares) → gather f s ≡ record { count = s .count + bares f; total = s .total + total f; largest = max (s .largest) (largest f) }
+unfolding gather bares total largest withChild
+gather-is nil s = bares-are _ _ _ _ _ _ (omega arith) (omega arith) (omega arith)
+gather-is (t ▸ f) s = go (bare t) (gather-is f)
+  where
+    go : (b : Bool) → ((z : Bares) → gather f z ≡ record { count = z .count + bares f; total = z .total + total f; largest = max (z .largest) (largest f) })
+        → gather f (cond b (record { count = s .count + 1; total = s .total + timeOf t; largest = max (s .largest) (timeOf t) }) s)
+        ≡ record { count = s .count + cond b (suc (bares f)) (bares f); total = s .total + cond b (timeOf t + total f) (total f); largest = max (s .largest) (cond b (max (timeOf t) (largest f)) (largest f)) }
+    go true h = h _ ∙ bares-are _ _ _ _ _ _ (omega arith) (omega arith) (omega arith)
+    go false h = h s
+
+-- ---- the walk that finds the blocks
+
+-- up to record p what was found, and what the trees left up to record e add, come to the children's
+pub record Gathering (b : List ℕ) (i e p : ℕ) (found : Bares) : Type 0 where
+  pub left : Standing b p e
+  pub few : found .count < p
+  pub low : found .total ≤ mostTime * found .count
+  pub whole : gather (left .trees) found ≡ baresAt (treesAt b i)
+
+pub gather-start : (b extents : List ℕ) → Extents b extents → (i : ℕ) → i < recordCount b → Gathering b i (i + getD extents i 0) (i + 1) noBares
+unfolding baresAt
+gather-start b extents x i l =
+    let w = here-at b (x .simplifiable) i l in
+    let k = children-stand b extents x i _ _ _ l (w .here) in record {
+      left = record { trees = w .kids; later = w .later; row = k .1; long = omega (arith, k .0) };
+      few = omega arith;
+      low = omega arith;
+      whole = gather-is (w .kids) noBares ∙ bares-are _ _ _ _ _ _ (omega arith) (omega arith) (omega arith) ∙ sym (ap baresAt (w .here));
+    }
+
+pub gather-turn : (b extents : List ℕ) → Extents b extents → (i e p : ℕ) (found more : Bares) (g : Gathering b i e p found) → p < e
+    → more ≡ withChild found (subtree b p) → more .count ≤ p → more .total ≤ mostTime * more .count
+    → Gathering b i e (p + getD extents p 0) more
+unfolding gather
+gather-turn b extents x i e p found more g l m few low =
+    let n = next-tree b extents x p e (g .left) l in record {
+      left = n .onward;
+      few = omega (arith, n .extent, some-records (n .tree));
+      low = low;
+      whole =
+          ap (gather (n .onward .trees)) (m ∙ ap (withChild found) (n .own))
+          ∙ sym (ap (λ f. gather f found) (n .are)) ∙ g .whole;
+    }
+
+pub gather-end : (b : List ℕ) (i e p : ℕ) (found : Bares) (g : Gathering b i e p found) → e ≤ p → found ≡ baresAt (treesAt b i)
+unfolding gather
+gather-end b i e p found g l = sym (ap (λ f. gather f found) (none-left b p e (g .left) l)) ∙ g .whole
+
+-- ---- the walk that copies the others
+
+kept-bytes : (b : List ℕ) → Simplifiable b → (p : ℕ) (t : Tree) (g f : Forest) → treesAt b p ≡ t ▸ g → slice b p (keptRecords t) ++ encodes (others f) ≡ encodes (others (t ▸ f))
+unfolding keptRecords others encodes
+kept-bytes b s p t g f e = go (bare t)
+  where
+    go : (c : Bool) → slice b p (cond c 0 (records t)) ++ encodes (others f) ≡ encodes (cond c (others f) (t ▸ others f))
+    go true = refl
+    go false = ap (λ x. x ++ encodes (others f)) (tree-bytes b s p t g e)
+
+kept-records : (t : Tree) (f : Forest) → keptRecords t + recordsIn (others f) ≡ recordsIn (others (t ▸ f))
+unfolding keptRecords others recordsIn
+kept-records t f = go (bare t)
+  where
+    go : (c : Bool) → cond c 0 (records t) + recordsIn (others f) ≡ recordsIn (cond c (others f) (t ▸ others f))
+    go true = omega arith
+    go false = refl
+
+pub kept-few : (t : Tree) → keptRecords t ≤ records t
+unfolding keptRecords
+kept-few t = by-cond (λ n. n ≤ records t) (bare t) _ _ (λ h. omega arith) (λ h. omega arith)
+
+-- the others of the row w are to be written from record at on; those up to record p are, up to record `to`, and those up to record e are left
+pub record Copying (b first out : List ℕ) (w : Forest) (at start e p to : ℕ) : Type 0 where
+  pub left : Standing b p e
+  pub long : length out ≡ length first
+  pub room : to + (e - p) ≤ at + (e - start)
+  pub ends : p ≤ e
+  pub place : to + recordsIn (others (left .trees)) ≡ at + recordsIn (others w)
+  pub bytes : front to out ++ encodes (others (left .trees)) ≡ front at first ++ encodes (others w)
+
+spanning-is : (f g : Forest) (n : ℕ) → n ≡ recordsIn f → spanning (f ⧺ g) n ≡ f
+unfolding spanning recordsIn _⧺_
+spanning-is nil nil n e = refl
+spanning-is nil (t ▸ g) n e = rw e refl
+spanning-is (t ▸ f) g zero e = absurd (omega (arith, some-records t))
+spanning-is (t ▸ f) g (suc n) e = ap (λ h. t ▸ h) (spanning-is f g (suc n - records t) (omega arith))
+
+pub spans : (b : List ℕ) (p e : ℕ) (s : Standing b p e) → spanning (treesAt b p) (e - p) ≡ s .trees
+spans b p e s = rw (s .row) (spanning-is (s .trees) (s .later) (e - p) (omega (arith, s .long)))
+
+pub copy-start : (b out : List ℕ) (start e at : ℕ) → Standing b start e → Copying b out out (spanning (treesAt b start) (e - start)) at start e start at
+copy-start b out start e at s =
+    let w = spans b start e s in record {
+      left = s;
+      long = refl;
+      room = omega arith;
+      ends = omega (arith, s .long);
+      place = ap (λ f. at + recordsIn (others f)) (sym w);
+      bytes = ap (λ f. front at out ++ encodes (others f)) (sym w);
+    }
+
+pub copy-turn : (b extents : List ℕ) → Extents b extents → (first out more : List ℕ) (w : Forest) (at start e p to n r : ℕ) → Copying b first out w at start e p to → p < e
+    → n ≡ keptRecords (subtree b p) → length more ≡ length out → r ≡ to + n → front r more ≡ front to out ++ slice b p n
+    → Copying b first more w at start e (p + getD extents p 0) r
+copy-turn b extents x first out more w at start e p to n r c l k m q h =
+    let z = next-tree b extents x p e (c .left) l in
+    let f = z .onward .trees in
+    let y : n ≡ keptRecords (z .tree) = k ∙ ap keptRecords (z .own) in record {
+      left = z .onward;
+      long = omega (arith, c .long);
+      room = omega (arith, c .room, z .extent, z .within, kept-few (z .tree));
+      ends = omega (arith, z .extent, z .within);
+      place = omega (arith, c .place, kept-records (z .tree) f, ap (λ g. recordsIn (others g)) (z .are));
+      bytes =
+          ap (λ o. o ++ encodes (others f)) (h ∙ ap (λ j. front to out ++ slice b p j) y)
+          ∙ append-assoc (front to out) (slice b p (keptRecords (z .tree))) (encodes (others f))
+          ∙ ap (λ o. front to out ++ o) (kept-bytes b (x .simplifiable) p (z .tree) _ f (z .here) ∙ sym (ap (λ g. encodes (others g)) (z .are)))
+          ∙ c .bytes;
+    }
+
+pub copy-end : (b first out : List ℕ) (w : Forest) (at start e p to : ℕ) → Copying b first out w at start e p to → e ≤ p
+    → (to ≡ at + recordsIn (others w)) × (front to out ≡ front at first ++ encodes (others w))
+unfolding others recordsIn encodes
+copy-end b first out w at start e p to c l =
+    let z = none-left b p e (c .left) l in
+    let m : recordsIn (others (c .left .trees)) ≡ 0 = ap (λ f. recordsIn (others f)) z in
+    (omega (arith, c .place), sym (append-nil (front to out)) ∙ sym (ap (λ f. front to out ++ encodes (others f)) z) ∙ c .bytes)
