@@ -1,0 +1,89 @@
+use borrow.Author.Needs.{needs}
+use Prim.Native.Nat.{_+_, _-_, _≤_}
+use native.Mathlib.Omega.{arith}
+use lib.ListN.{getD}
+use Rattle.table.specs.Table.{recordCount}
+use Rattle.table.specs.Laws.Trees.{some-records}
+use Rattle.subtrees.specs.Laws.Parts.{few-records, here-at}
+use Rattle.rewrite.specs.Laws.Blocks.{Gathering, Next, children-stand, gather-end, gather-start, gather-turn, next-tree}
+use Rattle.rewrite.proofs.bares_in.Statement.{statement}
+use Rattle.rewrite.proofs.bares_in.Tie as tie
+
+abbrev Inv-loop : tie.InvT-loop
+Inv-loop table extents i end p₀ found₀ p found = Gathering table i end p found
+
+abbrev μ-loop : tie.MeasureT-loop
+μ-loop table extents i end p₀ found₀ p found = end - p
+
+start : (s : tie.Start Inv-loop μ-loop) → (getD (s .args .extents .now) (s .args .i) 0 ≤ recordCount (s .args .table .now))
+start s =
+    let w = here-at (s .args .table .now) (s .pre .0 .simplifiable) (s .args .i) (s .pre .1) in
+    let k = children-stand _ _ (s .pre .0) (s .args .i) (w .own) (w .kids) (w .later) (s .pre .1) (w .here) in
+    omega (arith, k .0, k .2)
+
+-- the tree at record p
+next : (c : tie.In-loop Inv-loop μ-loop) → let s = c .before .before .before .before .before in
+    Next (s .args .table .now) (s .args .extents .now) (c .before .loop .p) (s .args .i + getD (s .args .extents .now) (s .args .i) 0) (c .before .loop .inv .left)
+next c = let s = c .before .before .before .before .before in next-tree _ _ (s .pre .0) _ _ (c .before .loop .inv .left) (c .loop-test .taken)
+
+mul-end : tie.Need-mul-end Inv-loop μ-loop
+mul-end c = search needs
+
+shared-slice-read-end : tie.Need-shared-slice-read-end Inv-loop μ-loop
+shared-slice-read-end c = search needs
+
+add-end : tie.Need-add-end Inv-loop μ-loop
+add-end c = let s = c .before .before .before in omega (arith, start s, few-records (s .args .table .now) (s .pre .0 .simplifiable))
+
+add-p : tie.Need-add-p Inv-loop μ-loop
+add-p c = search needs
+
+loop-holds : tie.Need-loop-holds Inv-loop μ-loop
+loop-holds c = let s = c .before .before .before in gather-start _ _ (s .pre .0) _ (s .pre .1)
+
+with-child-requires : tie.Need-with-child-requires Inv-loop μ-loop
+with-child-requires c κs = let n = next c in search needs
+
+mul-p : tie.Need-mul-p Inv-loop μ-loop
+mul-p c = let n = next (c .before) in search needs
+
+shared-slice-read-p : tie.Need-shared-slice-read-p Inv-loop μ-loop
+shared-slice-read-p c = let n = next (c .before .before) in search needs
+
+add-p-2 : tie.Need-add-p-2 Inv-loop μ-loop
+add-p-2 c =
+    let n = next (c .before .before) in
+    let s = c .before .before .before .before .before .before .before in
+    omega (arith, n .extent, n .within, few-records (s .args .table .now) (s .pre .0 .simplifiable))
+
+loop-less : tie.Need-loop-less Inv-loop μ-loop
+loop-less c = let n = next (c .before .before) in omega (arith, n .extent, n .within, some-records (n .tree))
+
+loop-again : tie.Need-loop-again Inv-loop μ-loop
+loop-again c =
+    let t = c .before .before in
+    let s = t .before .before .before .before .before in
+    let f = c .before .with-child .ensures in
+    gather-turn _ _ (s .pre .0) _ _ _ _ _ (t .before .loop .inv) (t .loop-test .taken) (f .0) (f .1) (f .2)
+
+returns : tie.Need-returns Inv-loop μ-loop
+returns c = gather-end _ _ _ _ _ (c .before .loop .inv) (c .loop-test .left)
+
+pub bares-in-spec : {M : Type 1} → statement M
+bares-in-spec =
+    tie.close
+    (tie.spec
+    Inv-loop
+    μ-loop
+    mul-end
+    shared-slice-read-end
+    add-end
+    add-p
+    loop-holds
+    with-child-requires
+    mul-p
+    shared-slice-read-p
+    add-p-2
+    loop-less
+    loop-again
+    returns)
