@@ -2,7 +2,7 @@
 use mathlib.Core.Path.{_≡_}
 use mathlib.Core.Bool.{cond}
 use mathlib.Core.List.{List}
-use Prim.Native.Nat.{ℕ, zero, suc, _+_, _-_, _<_, max}
+use Prim.Native.Nat.{ℕ, zero, suc, _+_, _-_, _<_, _≤_, max}
 use Rattle.table.specs.Trees.{Forest, Tree, nil, node, _▸_, _⧺_, records, recordsIn, size}
 use Rattle.simplify.specs.Rules.{bare, bares, largest, leaf, others, timeOf, total}
 use Rattle.subtrees.specs.Parts.{treesAt}
@@ -50,6 +50,7 @@ pub record Parted (b : List ℕ) (i q c : ℕ) : Type 0 where
   pub later : Forest
   pub here : treesAt b i ≡ node own (first ⧺ second) ▸ later
   pub place : q ≡ i + 1 + recordsIn first
+  pub some : 1 ≤ c
   pub number : size (others second) + c ≡ size second
   pub fewer : recordsIn (others second) < recordsIn second
 

@@ -437,7 +437,7 @@ fn kept(table: &[u8], extents: &[usize], p: usize) -> usize
 // Copies the trees from record `start` up to `end` that are no unlimited plain blocks to the buffer's record `at` and on; answers the record after them.
 fn copy_others(table: &[u8], extents: &[usize], start: usize, end: usize, out: &mut [u8], at: usize) -> usize
     requires { ⌜ Extents (now table) (now extents) ⌝ ∗ ⌜ Standing (now table) start end ⌝ }
-    requires { ⌜ recordLength * (at + (end - start)) ≤ length (now out) ⌝ }
+    requires { ⌜ recordLength * (at + recordsIn (others (spanning (treesAt (now table) start) (end - start)))) ≤ length (now out) ⌝ }
     ensures { λ r. ⌜ (r ≡ at + recordsIn (others (spanning (treesAt (now (table .entry)) start) (end - start)))) × (front r (now (out .exit)) ≡ front at (now (out .entry)) ++ encodes (others (spanning (treesAt (now (table .entry)) start) (end - start)))) ⌝ }
 {
     let mut p = start;

@@ -1,17 +1,18 @@
 use borrow.Author.Needs.{needs}
-use mathlib.Core.Path.{ap, _∙_}
+use mathlib.Core.Path.{ap}
 use Prim.Native.Nat.{_-_}
 use native.Mathlib.Omega.{arith}
+use Rattle.table.specs.Trees.{records}
 use Rattle.table.specs.Laws.Trees.{some-records}
-use Rattle.subtrees.specs.Parts.{treesAt}
+use Rattle.subtrees.specs.Parts.{subtree, treesAt}
 use Rattle.subtrees.specs.Laws.Parts.{few-records, length-is}
-use Rattle.rewrite.specs.Blocks.{keptRecords, spanning}
-use Rattle.rewrite.specs.Laws.Blocks.{Copying, Next, copy-end, copy-start, copy-turn, kept-few, next-tree}
+use Rattle.rewrite.specs.Blocks.{spanning}
+use Rattle.rewrite.specs.Laws.Blocks.{Copying, Next, copy-end, copy-fits, copy-start, copy-turn, kept-few, next-tree}
 use Rattle.rewrite.proofs.copy_others.Statement.{statement}
 use Rattle.rewrite.proofs.copy_others.Tie as tie
 
 abbrev Inv-loop : tie.InvT-loop
-Inv-loop table extents start end out₀ at p₀ to₀ out p to = Copying table out₀ out (spanning (treesAt table start) (end - start)) at start end p to
+Inv-loop table extents start end out₀ at p₀ to₀ out p to = Copying table out₀ out (spanning (treesAt table start) (end - start)) at end p to
 
 abbrev μ-loop : tie.MeasureT-loop
 μ-loop table extents start end out₀ at p₀ to₀ out p to = end - p
@@ -31,11 +32,14 @@ copy-records-requires : tie.Need-copy-records-requires Inv-loop μ-loop
 copy-records-requires c κs =
     let t = c .before .before in
     let n = next t in
+    let l = t .before .loop in
     let s = t .before .before .before .before .before in
-    let k = kept-few (n .tree) in
-    let e = c .before .kept .ensures ∙ ap keptRecords (n .own) in
-    let b = length-is (s .args .table .now) (s .pre .0 .simplifiable) in
-    (omega (arith, n .within, n .bound), omega (arith, n .within, t .before .loop .inv .room, t .before .loop .inv .long))
+    let e = c .before .kept .ensures in
+    let k = kept-few (subtree (s .args .table .now) (l .p)) in
+    (
+      omega (arith, n .within, n .bound, ap records (n .own), length-is (s .args .table .now) (s .pre .0 .simplifiable)),
+      omega (arith, copy-fits _ _ (s .pre .0) _ _ _ _ _ _ _ (l .inv) (t .loop-test .taken), l .inv .long),
+    )
 
 mul-p : tie.Need-mul-p Inv-loop μ-loop
 mul-p c = let n = next (c .before .before .before .before .before) in search needs
@@ -59,13 +63,13 @@ loop-again c =
     let t = r .before .before .before in
     let s = t .before .before .before .before .before in
     let e = r .copy-records .ensures in
-    copy-turn _ _ (s .pre .0) _ _ _ _ _ _ _ _ _ _ _ (t .before .loop .inv) (t .loop-test .taken) (r .before .before .kept .ensures) (search needs) (e .0) (e .1)
+    copy-turn _ _ (s .pre .0) _ _ _ _ _ _ _ _ _ _ (t .before .loop .inv) (t .loop-test .taken) (r .before .before .kept .ensures) (search needs) (e .0) (e .1)
 
 same-length : tie.Need-same-length Inv-loop μ-loop
 same-length c = search needs
 
 returns : tie.Need-returns Inv-loop μ-loop
-returns c = copy-end _ _ _ _ _ _ _ _ _ (c .before .loop .inv) (c .loop-test .left)
+returns c = copy-end _ _ _ _ _ _ _ _ (c .before .loop .inv) (c .loop-test .left)
 
 pub copy-others-spec : {M : Type 1} → statement M
 copy-others-spec =

@@ -1,14 +1,15 @@
 -- Rules 6 and 7 on a table's bytes: the walk over a node's children.
-use mathlib.Core.Path.{_≡_, refl, ap, sym, _∙_, subst}
+use mathlib.Core.Path.{_≡_, refl, ap, ap₂, sym, _∙_, subst}
 use mathlib.Core.Bool.{Bool, cond, false, not, true}
 use mathlib.Core.List.{List, _++_, [], append-assoc, append-nil}
-use Prim.Native.Nat.{ℕ, zero, suc, _+_, _-_, _*_, _≤_, _<_, max}
+use mathlib.Core.Option.{some}
+use Prim.Native.Nat.{ℕ, zero, suc, _+_, _-_, _*_, _%_, _≤_, _<_, max}
 use native.Mathlib.Nat.{add-zero, suc-add}
 use native.Mathlib.Numerals.{add-one}
 use native.Mathlib.Omega.{arith}
 use lib.Dec.{T, leb→le}
 use lib.ListN.{drop, getD, length, take}
-use lib.Seq.{take-at}
+use lib.Seq.{take-all, take-at}
 use borrow.Author.Tests.{not-false, not-true}
 use Rattle.booleans.specs.Laws.{both, by-cond, by-conds}
 use Rattle.table.specs.Numbers.{mostTime, recordLength}
@@ -16,16 +17,16 @@ use Rattle.table.specs.Questions.{kindInRange, listed, timeInRange}
 use Rattle.table.specs.Table.{childByte, encode, encodes, firstNode, forest, recordBytes, recordCount, top}
 use Rattle.table.specs.Trees.{Forest, Tree, nil, node, _▸_, _⧺_, records, recordsIn, size}
 use Rattle.table.specs.Laws.Reading.{next-count, part-from, partAt}
-use Rattle.table.specs.Laws.RoundTrip.{children-bytes, length-encode}
+use Rattle.table.specs.Laws.RoundTrip.{children-bytes, length-encode, length-encodes}
 use Rattle.table.specs.Laws.Trees.{some-records}
-use Rattle.simplify.specs.Rules.{bare, bares, largest, others, timeOf, timeOfKind, total}
+use Rattle.simplify.specs.Rules.{bare, bares, largest, leaf, others, timeOf, timeOfKind, total}
 use Rattle.subtrees.specs.Facts.{Extents}
 use Rattle.subtrees.specs.Parts.{Simplifiable, subtree, treesAt}
-use Rattle.subtrees.specs.Laws.Forests.{below, records-⧺}
-use Rattle.subtrees.specs.Laws.Parts.{back-at, here-at, records-at, skip-at}
-use Rattle.rewrite.specs.Blocks.{Standing, baresAt, keptRecords, noBares, spanning, withChild}
+use Rattle.subtrees.specs.Laws.Forests.{below, encodes-⧺, records-⧺}
+use Rattle.subtrees.specs.Laws.Parts.{back-at, bytes-at, here-at, length-is, records-at, skip-at}
+use Rattle.rewrite.specs.Blocks.{Parted, Standing, baresAt, keptRecords, merged, noBares, spanning, withChild}
 use Rattle.rewrite.specs.Nodes.{Block, Choice, Kind, Loop, Node, Plain, Sequence, Symbol, Unlimited}
-use Rattle.rewrite.specs.Writing.{front, slice}
+use Rattle.rewrite.specs.Writing.{Wrote, front, nodeOf, slice}
 use Rattle.rewrite.specs.declared.Bares.{Bares}
 
 -- ---- what stands at a record
@@ -242,11 +243,9 @@ unfolding keptRecords
 kept-few t = by-cond (λ n. n ≤ records t) (bare t) _ _ (λ h. omega arith) (λ h. omega arith)
 
 -- the others of the row w are to be written from record at on; those up to record p are, up to record `to`, and those up to record e are left
-pub record Copying (b first out : List ℕ) (w : Forest) (at start e p to : ℕ) : Type 0 where
+pub record Copying (b first out : List ℕ) (w : Forest) (at e p to : ℕ) : Type 0 where
   pub left : Standing b p e
   pub long : length out ≡ length first
-  pub room : to + (e - p) ≤ at + (e - start)
-  pub ends : p ≤ e
   pub place : to + recordsIn (others (left .trees)) ≡ at + recordsIn (others w)
   pub bytes : front to out ++ encodes (others (left .trees)) ≡ front at first ++ encodes (others w)
 
@@ -260,28 +259,24 @@ spanning-is (t ▸ f) g (suc n) e = ap (λ h. t ▸ h) (spanning-is f g (suc n -
 pub spans : (b : List ℕ) (p e : ℕ) (s : Standing b p e) → spanning (treesAt b p) (e - p) ≡ s .trees
 spans b p e s = rw (s .row) (spanning-is (s .trees) (s .later) (e - p) (omega (arith, s .long)))
 
-pub copy-start : (b out : List ℕ) (start e at : ℕ) → Standing b start e → Copying b out out (spanning (treesAt b start) (e - start)) at start e start at
+pub copy-start : (b out : List ℕ) (start e at : ℕ) → Standing b start e → Copying b out out (spanning (treesAt b start) (e - start)) at e start at
 copy-start b out start e at s =
     let w = spans b start e s in record {
       left = s;
       long = refl;
-      room = omega arith;
-      ends = omega (arith, s .long);
       place = ap (λ f. at + recordsIn (others f)) (sym w);
       bytes = ap (λ f. front at out ++ encodes (others f)) (sym w);
     }
 
-pub copy-turn : (b extents : List ℕ) → Extents b extents → (first out more : List ℕ) (w : Forest) (at start e p to n r : ℕ) → Copying b first out w at start e p to → p < e
+pub copy-turn : (b extents : List ℕ) → Extents b extents → (first out more : List ℕ) (w : Forest) (at e p to n r : ℕ) → Copying b first out w at e p to → p < e
     → n ≡ keptRecords (subtree b p) → length more ≡ length out → r ≡ to + n → front r more ≡ front to out ++ slice b p n
-    → Copying b first more w at start e (p + getD extents p 0) r
-copy-turn b extents x first out more w at start e p to n r c l k m q h =
+    → Copying b first more w at e (p + getD extents p 0) r
+copy-turn b extents x first out more w at e p to n r c l k m q h =
     let z = next-tree b extents x p e (c .left) l in
     let f = z .onward .trees in
     let y : n ≡ keptRecords (z .tree) = k ∙ ap keptRecords (z .own) in record {
       left = z .onward;
       long = omega (arith, c .long);
-      room = omega (arith, c .room, z .extent, z .within, kept-few (z .tree));
-      ends = omega (arith, z .extent, z .within);
       place = omega (arith, c .place, kept-records (z .tree) f, ap (λ g. recordsIn (others g)) (z .are));
       bytes =
           ap (λ o. o ++ encodes (others f)) (h ∙ ap (λ j. front to out ++ slice b p j) y)
@@ -290,10 +285,101 @@ copy-turn b extents x first out more w at start e p to n r c l k m q h =
           ∙ c .bytes;
     }
 
-pub copy-end : (b first out : List ℕ) (w : Forest) (at start e p to : ℕ) → Copying b first out w at start e p to → e ≤ p
+-- the next ones fit
+pub copy-fits : (b extents : List ℕ) → Extents b extents → (first out : List ℕ) (w : Forest) (at e p to : ℕ) → Copying b first out w at e p to → p < e
+    → to + keptRecords (subtree b p) ≤ at + recordsIn (others w)
+copy-fits b extents x first out w at e p to c l =
+    let z = next-tree b extents x p e (c .left) l in
+    omega (arith, c .place, kept-records (z .tree) (z .onward .trees), ap (λ g. recordsIn (others g)) (z .are), ap keptRecords (z .own))
+
+pub copy-end : (b first out : List ℕ) (w : Forest) (at e p to : ℕ) → Copying b first out w at e p to → e ≤ p
     → (to ≡ at + recordsIn (others w)) × (front to out ≡ front at first ++ encodes (others w))
 unfolding others recordsIn encodes
-copy-end b first out w at start e p to c l =
+copy-end b first out w at e p to c l =
     let z = none-left b p e (c .left) l in
     let m : recordsIn (others (c .left .trees)) ≡ 0 = ap (λ f. recordsIn (others f)) z in
     (omega (arith, c .place), sym (append-nil (front to out)) ∙ sym (ap (λ f. front to out ++ encodes (others f)) z) ∙ c .bytes)
+
+-- ---- one block for the others
+
+⧺-assoc : (f g h : Forest) → (f ⧺ g) ⧺ h ≡ f ⧺ (g ⧺ h)
+unfolding _⧺_
+⧺-assoc nil g h = refl
+⧺-assoc (t ▸ f) g h = ap (λ e. t ▸ e) (⧺-assoc f g h)
+
+size-⧺ : (f g : Forest) → size (f ⧺ g) ≡ size f + size g
+unfolding _⧺_ size
+size-⧺ nil g = omega arith
+size-⧺ (t ▸ f) g = omega (arith, size-⧺ f g)
+
+-- where the parts of a node stand
+pub record Places (b extents : List ℕ) (i q c : ℕ) (s : Parted b i q c) : Type 0 where
+  pub extent : getD extents i 0 ≡ suc (recordsIn (s .first) + recordsIn (s .second))
+  pub inside : i + getD extents i 0 ≤ recordCount b
+  pub long : length b ≡ recordLength * recordCount b
+  pub standing : Standing b q (i + getD extents i 0)
+  pub are : standing .trees ≡ s .second
+  pub own : firstNode (partAt b i) ≡ s .own
+  pub number : childByte (partAt b i) ≡ size (s .first) + size (s .second)
+  pub early : slice b (i + 1) (recordsIn (s .first)) ≡ encodes (s .first)
+  pub after : recordCount b - (i + getD extents i 0) ≡ recordsIn (s .later)
+  pub late : slice b (i + getD extents i 0) (recordsIn (s .later)) ≡ encodes (s .later)
+
+pub places : (b extents : List ℕ) → Extents b extents → (i q c : ℕ) → i < recordCount b → (s : Parted b i q c) → Places b extents i q c s
+places b extents x i q c l s =
+    let z = x .simplifiable in
+    let k = children-stand b extents x i _ _ _ l (s .here) in
+    let a : treesAt b (i + 1) ≡ s .first ⧺ (s .second ⧺ s .later) = k .1 ∙ ⧺-assoc _ _ _ in
+    let n : recordsIn (s .first ⧺ s .second) ≡ recordsIn (s .first) + recordsIn (s .second) = records-⧺ _ _ in
+    let d : treesAt b q ≡ s .second ⧺ s .later = rw (s .place) (skip-at b z (i + 1) _ _ a) in
+    let e : q + recordsIn (s .second) ≡ i + getD extents i 0 = omega (arith, k .0, s .place) in
+    let g : treesAt b (i + getD extents i 0) ≡ s .later = rw (← e) (skip-at b z q _ _ d) in record {
+      extent = omega (arith, k .0);
+      inside = omega (arith, k .0, k .2);
+      long = length-is b z;
+      standing = record { trees = s .second; later = s .later; row = d; long = e };
+      are = refl;
+      own = own-is b i _ _ _ l (s .here);
+      number = children-are b z i _ _ _ (s .here) ∙ size-⧺ _ _;
+      early = bytes-at b z (i + 1) _ _ a;
+      after = sym (records-at b z _) ∙ ap recordsIn g;
+      late = rw (← back-at b z (i + getD extents i 0), g) (take-all (recordLength * recordsIn (s .later)) (encodes (s .later)) (omega (arith, length-encodes (s .later))));
+    }
+
+merged-records : {b : List ℕ} {i q c : ℕ} (x : ℕ) (s : Parted b i q c) → recordsIn (merged x s) ≡ 1 + recordsIn (s .first) + 1 + recordsIn (others (s .second)) + recordsIn (s .later)
+unfolding records recordsIn leaf
+merged-records x s = omega (arith, records-⧺ (s .first) (leaf x Unlimited ▸ others (s .second)))
+
+merged-bytes : {b : List ℕ} {i q c : ℕ} (x : ℕ) (s : Parted b i q c) → encodes (merged x s)
+    ≡ (((recordBytes (s .own) (size (s .first) + suc (size (others (s .second)))) ++ encodes (s .first)) ++ recordBytes (nodeOf (Block (Plain x)) Unlimited) 0)
+    ++ encodes (others (s .second))) ++ encodes (s .later)
+unfolding encode encodes leaf size
+merged-bytes x s = rw (size-⧺, encodes-⧺) (simp append-assoc)
+
+pub merge-wrote : (b extents : List ℕ) → Extents b extents → (i q c : ℕ) → i < recordCount b → (s : Parted b i q c)
+    → (x m : ℕ) (n : Node) (o₁ o₂ o₃ o₄ o₅ : List ℕ) (r₁ r₂ r₃ r₄ r₅ : ℕ)
+    → n ≡ firstNode (partAt b i) → m ≡ childByte (partAt b i) → m < 256
+    → (r₁ ≡ 0 + 1) × (front r₁ o₁ ≡ recordBytes n ((m - c + 1) % 256))
+    → (r₂ ≡ r₁ + (q - i - 1)) × (front r₂ o₂ ≡ front r₁ o₁ ++ slice b (i + 1) (q - i - 1))
+    → (r₃ ≡ r₂ + 1) × (front r₃ o₃ ≡ front r₂ o₂ ++ recordBytes (nodeOf (Block (Plain x)) Unlimited) 0)
+    → (r₄ ≡ r₃ + recordsIn (others (spanning (treesAt b q) (i + getD extents i 0 - q)))) × (front r₄ o₄ ≡ front r₃ o₃ ++ encodes (others (spanning (treesAt b q) (i + getD extents i 0 - q))))
+    → (r₅ ≡ r₄ + (recordCount b - (i + getD extents i 0))) × (front r₅ o₅ ≡ front r₄ o₄ ++ slice b (i + getD extents i 0) (recordCount b - (i + getD extents i 0)))
+    → Wrote (some (merged x s)) r₅ o₅
+unfolding Wrote
+merge-wrote b extents w i q c l s x m n o₁ o₂ o₃ o₄ o₅ r₁ r₂ r₃ r₄ r₅ d k u e₁ e₂ e₃ e₄ e₅ =
+    let p = places b extents w i q c l s in
+    let y : spanning (treesAt b q) (i + getD extents i 0 - q) ≡ s .second = spans b q _ (p .standing) ∙ p .are in
+    let h : q - i - 1 ≡ recordsIn (s .first) = omega (arith, s .place) in
+    let z : (m - c + 1) % 256 ≡ size (s .first) + suc (size (others (s .second))) = omega (arith, p .number, s .number, s .some) in
+    let v : recordsIn (others (spanning (treesAt b q) (i + getD extents i 0 - q))) ≡ recordsIn (others (s .second)) = ap (λ f. recordsIn (others f)) y in
+    let a₁ : front r₁ o₁ ≡ recordBytes (s .own) (size (s .first) + suc (size (others (s .second)))) = e₁ .1 ∙ ap₂ recordBytes (d ∙ p .own) z in
+    let a₂ : front r₂ o₂ ≡ recordBytes (s .own) (size (s .first) + suc (size (others (s .second)))) ++ encodes (s .first)
+        = e₂ .1 ∙ ap₂ (λ f g. f ++ g) a₁ (ap (slice b (i + 1)) h ∙ p .early) in
+    (
+      omega (arith, merged-records x s, p .after, e₁ .0, e₂ .0, e₃ .0, e₄ .0, e₅ .0),
+      e₅ .1
+      ∙ ap₂ (λ f g. f ++ g)
+        (e₄ .1 ∙ ap₂ (λ f g. f ++ g) (e₃ .1 ∙ ap (λ f. f ++ recordBytes (nodeOf (Block (Plain x)) Unlimited) 0) a₂) (ap (λ f. encodes (others f)) y))
+        (ap (slice b (i + getD extents i 0)) (p .after) ∙ p .late)
+      ∙ sym (merged-bytes x s),
+    )
