@@ -1,17 +1,18 @@
 -- Rules 6 and 7 on a table's bytes: the walk over a node's children.
 use mathlib.Core.Path.{_≡_, refl, ap, ap₂, sym, _∙_, subst}
-use mathlib.Core.Bool.{Bool, cond, false, not, true}
+use mathlib.Core.Bool.{Bool, _&&_, cond, false, not, true}
 use mathlib.Core.List.{List, _++_, [], append-assoc, append-nil}
 use mathlib.Core.Option.{some}
 use Prim.Native.Nat.{ℕ, zero, suc, _+_, _-_, _*_, _%_, _≤_, _<_, max}
 use native.Mathlib.Nat.{add-zero, suc-add}
 use native.Mathlib.Numerals.{add-one}
 use native.Mathlib.Omega.{arith}
-use lib.Dec.{T, leb→le}
+use lib.Dec.{T, leb, leb→le}
 use lib.ListN.{drop, getD, length, take}
 use lib.Seq.{take-all, take-at}
 use borrow.Author.Tests.{not-false, not-true}
-use Rattle.booleans.specs.Laws.{both, by-cond, by-conds}
+use Rattle.booleans.specs.Laws.{&&-both, and-is, both, by-cond, by-conds, is-T}
+use Rattle.booleans.specs.Tests.{_and_}
 use Rattle.table.specs.Numbers.{mostTime, recordLength}
 use Rattle.table.specs.Questions.{kindInRange, listed, timeInRange}
 use Rattle.table.specs.Table.{childByte, encode, encodes, firstNode, forest, recordBytes, recordCount, top}
@@ -19,15 +20,19 @@ use Rattle.table.specs.Trees.{Forest, Tree, nil, node, _▸_, _⧺_, records, r
 use Rattle.table.specs.Laws.Reading.{next-count, part-from, partAt}
 use Rattle.table.specs.Laws.RoundTrip.{children-bytes, length-encode, length-encodes}
 use Rattle.table.specs.Laws.Trees.{some-records}
-use Rattle.simplify.specs.Rules.{bare, bares, largest, leaf, others, timeOf, timeOfKind, total}
+use Rattle.simplify.specs.Rules.{atFirst, bare, bares, largest, leaf, others, rule6, rule7, timeOf, timeOfKind, total, when}
+use Rattle.simplify.specs.Same.{sameKind}
+use Rattle.simplify.specs.Steps.{also}
 use Rattle.subtrees.specs.Facts.{Extents}
 use Rattle.subtrees.specs.Parts.{Simplifiable, subtree, treesAt}
 use Rattle.subtrees.specs.Laws.Forests.{below, encodes-⧺, records-⧺}
-use Rattle.subtrees.specs.Laws.Parts.{back-at, bytes-at, here-at, length-is, records-at, skip-at}
+use Rattle.subtrees.specs.Laws.Parts.{Here, back-at, bytes-at, here-at, length-is, records-at, skip-at}
 use Rattle.rewrite.specs.Blocks.{Parted, Standing, baresAt, keptRecords, merged, noBares, spanning, withChild}
+use Rattle.rewrite.specs.Children.{any, childAt, offset, wanted}
 use Rattle.rewrite.specs.Nodes.{Block, Choice, Kind, Loop, Node, Plain, Sequence, Symbol, Unlimited}
-use Rattle.rewrite.specs.Writing.{Wrote, front, nodeOf, slice}
+use Rattle.rewrite.specs.Writing.{Wrote, front, nodeOf, ruleAt, slice}
 use Rattle.rewrite.specs.declared.Bares.{Bares}
+use Rattle.rewrite.specs.declared.Wanted.{Wanted}
 
 -- ---- what stands at a record
 
@@ -383,3 +388,165 @@ merge-wrote b extents w i q c l s x m n o₁ o₂ o₃ o₄ o₅ r₁ r₂ r₃ 
         (ap (slice b (i + getD extents i 0)) (p .after) ∙ p .late)
       ∙ sym (merged-bytes x s),
     )
+
+-- ---- rules 6 and 7
+
+others-size : (f : Forest) → size (others f) + bares f ≡ size f
+unfolding others bares size
+others-size nil = refl
+others-size (t ▸ f) =
+    by-conds (λ g c. size g + c ≡ suc (size f)) (bare t) _ _ _ _
+    (λ h. omega (arith, others-size f))
+    (λ h. omega (arith, others-size f))
+
+others-records : (f : Forest) → recordsIn (others f) + bares f ≤ recordsIn f
+unfolding others bares recordsIn
+others-records nil = omega arith
+others-records (t ▸ f) =
+    by-conds (λ g c. recordsIn g + c ≤ records t + recordsIn f) (bare t) _ _ _ _
+    (λ h. omega (arith, others-records f, some-records t))
+    (λ h. omega (arith, others-records f))
+
+-- what was found is of these children
+found-is : (b : List ℕ) (i : ℕ) (found : Bares) (w : Here b i) → found ≡ baresAt (treesAt b i)
+    → (found .count ≡ bares (w .kids)) × (found .total ≡ total (w .kids)) × (found .largest ≡ largest (w .kids))
+unfolding baresAt
+found-is b i found w e =
+    let q : found ≡ baresAt (node (w .own) (w .kids) ▸ w .later) = e ∙ ap baresAt (w .here) in
+    (ap (λ s. s .count) q, ap (λ s. s .total) q, ap (λ s. s .largest) q)
+
+-- the test that the code makes is the rule's
+tested : (k : Kind) (n : Node) (m c : ℕ) (r : Bool) → r ≡ sameKind (n .kind) k → c ≡ m → (sameKind (n .kind) k and leb 2 m) ≡ (r && leb 2 c)
+tested k n m c r e h = sym (rw (e, h) (and-is _ _))
+
+two-found : (r : Bool) (c : ℕ) → (r && leb 2 c) ≡ true → 2 ≤ c
+two-found r c h = leb→le 2 c (&&-both r (leb 2 c) (is-T _ h) .1)
+
+rule6-is : (b : List ℕ) (i : ℕ) (w : Here b i) (found : Bares) (r : Bool) → i < recordCount b → found ≡ baresAt (treesAt b i)
+    → r ≡ sameKind (firstNode (partAt b i) .kind) Sequence
+    → ruleAt rule6 (treesAt b i) ≡ also (λ t. t ▸ w .later) (when (r && leb 2 (found .count)) (node (w .own) (leaf (found .total) Unlimited ▸ others (w .kids))))
+unfolding ruleAt rule6
+rule6-is b i w found r l e h =
+    let f = found-is b i found w e in
+    let o = own-is b i _ _ _ l (w .here) in
+    rw (w .here, f .1, tested Sequence (w .own) (bares (w .kids)) (found .count) r (h ∙ ap (λ n. sameKind (n .kind) Sequence) o) (f .0)) refl
+
+all-parted : (b : List ℕ) (i c : ℕ) (w : Here b i) → c ≡ bares (w .kids) → 2 ≤ c → Parted b i (i + 1) c
+unfolding _⧺_ recordsIn
+all-parted b i c w e l = record {
+  own = w .own;
+  first = nil;
+  second = w .kids;
+  later = w .later;
+  here = w .here;
+  place = omega arith;
+  some = omega arith;
+  number = omega (arith, others-size (w .kids));
+  fewer = omega (arith, others-records (w .kids));
+}
+
+pub rule6-parted : (b : List ℕ) → Simplifiable b → (i : ℕ) → i < recordCount b → (found : Bares) (r : Bool) → found ≡ baresAt (treesAt b i)
+    → (r && leb 2 (found .count)) ≡ true → Parted b i (i + 1) (found .count)
+rule6-parted b s i l found r e t = let w = here-at b s i l in all-parted b i _ w (found-is b i found w e .0) (two-found r _ t)
+
+pub rule6-wrote : (b : List ℕ) → Simplifiable b → (i : ℕ) → i < recordCount b → (found : Bares) (r : Bool) → found ≡ baresAt (treesAt b i)
+    → r ≡ sameKind (firstNode (partAt b i) .kind) Sequence → (r && leb 2 (found .count)) ≡ true
+    → (n : ℕ) (out : List ℕ) → ((s : Parted b i (i + 1) (found .count)) → Wrote (some (merged (found .total) s)) n out) → Wrote (ruleAt rule6 (treesAt b i)) n out
+unfolding also when _⧺_ all-parted
+rule6-wrote b s i l found r e h t n out k =
+    let w = here-at b s i l in
+    rw (rule6-is b i w found r l e h, t) (k (all-parted b i _ w (found-is b i found w e .0) (two-found r _ t)))
+
+pub rule6-not : (b : List ℕ) → Simplifiable b → (i : ℕ) → i < recordCount b → (found : Bares) (r : Bool) → found ≡ baresAt (treesAt b i)
+    → r ≡ sameKind (firstNode (partAt b i) .kind) Sequence → (r && leb 2 (found .count)) ≡ false → (out : List ℕ) → Wrote (ruleAt rule6 (treesAt b i)) 0 out
+unfolding also when Wrote
+rule6-not b s i l found r e h t out = rw (rule6-is b i (here-at b s i l) found r l e h, t) refl
+
+-- children in two rows, the second from the first unlimited plain block on
+record FirstBare (f : Forest) : Type 0 where
+  first : Forest
+  second : Forest
+  split : f ≡ first ⧺ second
+  any : any (wanted Wanted.Bare) f ≡ true
+  place : offset (wanted Wanted.Bare) f ≡ recordsIn first
+  put : (x : ℕ) → atFirst x f ≡ first ⧺ (leaf x Unlimited ▸ others second)
+  number : size (others second) + bares f ≡ size second
+  fewer : recordsIn (others second) < recordsIn second
+
+first-bare : (f : Forest) → 1 ≤ bares f → FirstBare f
+unfolding bares any offset wanted atFirst others _⧺_ recordsIn
+first-bare nil h = absurd (omega arith)
+first-bare (t ▸ f) h = go (bare t) refl (first-bare f)
+  where
+    go : (c : Bool) → bare t ≡ c → (1 ≤ bares f → FirstBare f) → FirstBare (t ▸ f)
+    go true e k = record {
+      first = nil;
+      second = t ▸ f;
+      split = refl;
+      any = rw e refl;
+      place = rw e refl;
+      put = λ x. rw e refl;
+      number = others-size (t ▸ f);
+      fewer = omega (arith, others-records (t ▸ f), h);
+    }
+    go false e k =
+        let p = k (rw e at h) in record {
+          first = t ▸ p .first;
+          second = p .second;
+          split = ap (λ g. t ▸ g) (p .split);
+          any = rw e (p .any);
+          place = rw e (ap (λ n. records t + n) (p .place));
+          put = λ x. rw e (ap (λ g. t ▸ g) (p .put x));
+          number = rw e (p .number);
+          fewer = p .fewer;
+        }
+
+bare-place : (b : List ℕ) (i q : ℕ) (w : Here b i) → q ≡ childAt (wanted Wanted.Bare) i (treesAt b i) → (p : FirstBare (w .kids)) → q ≡ i + 1 + recordsIn (p .first)
+unfolding childAt
+bare-place b i q w e p = e ∙ ap (childAt (wanted Wanted.Bare) i) (w .here) ∙ rw (p .any, p .place) refl
+
+two-parted : (b : List ℕ) (i q c : ℕ) (w : Here b i) → q ≡ childAt (wanted Wanted.Bare) i (treesAt b i) → c ≡ bares (w .kids) → 2 ≤ c → FirstBare (w .kids) → Parted b i q c
+two-parted b i q c w h e l p = record {
+  own = w .own;
+  first = p .first;
+  second = p .second;
+  later = w .later;
+  here = w .here ∙ ap (λ f. node (w .own) f ▸ w .later) (p .split);
+  place = bare-place b i q w h p;
+  some = omega arith;
+  number = omega (arith, p .number);
+  fewer = p .fewer;
+}
+
+rule7-is : (b : List ℕ) (i : ℕ) (w : Here b i) (found : Bares) (r : Bool) → i < recordCount b → found ≡ baresAt (treesAt b i)
+    → r ≡ sameKind (firstNode (partAt b i) .kind) Choice
+    → ruleAt rule7 (treesAt b i) ≡ also (λ t. t ▸ w .later) (when (r && leb 2 (found .count)) (node (w .own) (atFirst (found .largest) (w .kids))))
+unfolding ruleAt rule7
+rule7-is b i w found r l e h =
+    let f = found-is b i found w e in
+    let o = own-is b i _ _ _ l (w .here) in
+    rw (w .here, f .2, tested Choice (w .own) (bares (w .kids)) (found .count) r (h ∙ ap (λ n. sameKind (n .kind) Choice) o) (f .0)) refl
+
+pub rule7-parted : (b : List ℕ) → Simplifiable b → (i q : ℕ) → i < recordCount b → (found : Bares) (r : Bool) → found ≡ baresAt (treesAt b i)
+    → (r && leb 2 (found .count)) ≡ true → q ≡ childAt (wanted Wanted.Bare) i (treesAt b i) → Parted b i q (found .count)
+rule7-parted b s i q l found r e t h =
+    let w = here-at b s i l in
+    let c = found-is b i found w e .0 in
+    let m = two-found r (found .count) t in
+    two-parted b i q _ w h c m (first-bare (w .kids) (omega arith))
+
+pub rule7-wrote : (b : List ℕ) → Simplifiable b → (i q : ℕ) → i < recordCount b → (found : Bares) (r : Bool) → found ≡ baresAt (treesAt b i)
+    → r ≡ sameKind (firstNode (partAt b i) .kind) Choice → (r && leb 2 (found .count)) ≡ true → q ≡ childAt (wanted Wanted.Bare) i (treesAt b i)
+    → (n : ℕ) (out : List ℕ) → ((s : Parted b i q (found .count)) → Wrote (some (merged (found .largest) s)) n out) → Wrote (ruleAt rule7 (treesAt b i)) n out
+unfolding also when two-parted
+rule7-wrote b s i q l found r e h t j n out k =
+    let w = here-at b s i l in
+    let c = found-is b i found w e .0 in
+    let m = two-found r (found .count) t in
+    let p = first-bare (w .kids) (omega arith) in
+    rw (rule7-is b i w found r l e h, t, p .put (found .largest)) (k (two-parted b i q _ w j c m p))
+
+pub rule7-not : (b : List ℕ) → Simplifiable b → (i : ℕ) → i < recordCount b → (found : Bares) (r : Bool) → found ≡ baresAt (treesAt b i)
+    → r ≡ sameKind (firstNode (partAt b i) .kind) Choice → (r && leb 2 (found .count)) ≡ false → (out : List ℕ) → Wrote (ruleAt rule7 (treesAt b i)) 0 out
+unfolding also when Wrote
+rule7-not b s i l found r e h t out = rw (rule7-is b i (here-at b s i l) found r l e h, t) refl
