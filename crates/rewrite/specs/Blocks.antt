@@ -35,6 +35,10 @@ spanning nil n = nil
 spanning (t ▸ f) zero = nil
 spanning (t ▸ f) (suc n) = t ▸ spanning f (suc n - records t)
 
+-- the trees from record p up to record e but the unlimited plain blocks
+abbrev pub othersUpTo : List ℕ → (p e : ℕ) → Forest
+othersUpTo b p e = others (spanning (treesAt b p) (e - p))
+
 -- from record p up to record e stand whole trees
 pub record Standing (b : List ℕ) (p e : ℕ) : Type 0 where
   pub trees : Forest

@@ -20,7 +20,7 @@ ghost use Rattle.rewrite.specs.Children.{Left, childAt, wanted};
 ghost use Rattle.rewrite.specs.Sharing.{PairsAt, firstsAt, idle, sameBytes, sharedAt, sharing, topBytes};
 use lists::List;
 use subtrees::MARKS;
-ghost use Rattle.rewrite.specs.Blocks.{Parted, Standing, baresAt, keptRecords, merged, spanning, withChild};
+ghost use Rattle.rewrite.specs.Blocks.{Parted, Standing, baresAt, keptRecords, merged, othersUpTo, spanning, withChild};
 use table::Kind;
 use table::Limit;
 use table::MOST_DEPTH;
@@ -437,8 +437,8 @@ fn kept(table: &[u8], extents: &[usize], p: usize) -> usize
 // Copies the trees from record `start` up to `end` that are no unlimited plain blocks to the buffer's record `at` and on; answers the record after them.
 fn copy_others(table: &[u8], extents: &[usize], start: usize, end: usize, out: &mut [u8], at: usize) -> usize
     requires { ⌜ Extents (now table) (now extents) ⌝ ∗ ⌜ Standing (now table) start end ⌝ }
-    requires { ⌜ recordLength * (at + recordsIn (others (spanning (treesAt (now table) start) (end - start)))) ≤ length (now out) ⌝ }
-    ensures { λ r. ⌜ (r ≡ at + recordsIn (others (spanning (treesAt (now (table .entry)) start) (end - start)))) × (front r (now (out .exit)) ≡ front at (now (out .entry)) ++ encodes (others (spanning (treesAt (now (table .entry)) start) (end - start)))) ⌝ }
+    requires { ⌜ recordLength * (at + recordsIn (othersUpTo (now table) start end)) ≤ length (now out) ⌝ }
+    ensures { λ r. ⌜ (r ≡ at + recordsIn (othersUpTo (now (table .entry)) start end)) × (front r (now (out .exit)) ≡ front at (now (out .entry)) ++ encodes (othersUpTo (now (table .entry)) start end)) ⌝ }
 {
     let mut p = start;
     let mut to = at;
@@ -479,12 +479,15 @@ pub fn rule6_at(table: &[u8], extents: &[usize], i: usize, out: &mut [u8]) -> us
     let start = RECORD_LENGTH * i;
     let node = table::read_node(&table[start..]);
     let kind = node.kind;
+    if !is_sequence(kind) {
+        return 0;
+    }
     let found = bares_in(table, extents, i);
     let count = found.count;
-    if is_sequence(kind) & (2 <= count) {
-        return merge_bares(table, extents, i, i + 1, found.total, count, out);
+    if count < 2 {
+        return 0;
     }
-    0
+    merge_bares(table, extents, i, i + 1, found.total, count, out)
 }
 
 // 7. In a choice, two or more unlimited plain blocks become the largest, at the first one's place.
@@ -495,13 +498,16 @@ pub fn rule7_at(table: &[u8], extents: &[usize], i: usize, out: &mut [u8]) -> us
     let start = RECORD_LENGTH * i;
     let node = table::read_node(&table[start..]);
     let kind = node.kind;
+    if !is_choice(kind) {
+        return 0;
+    }
     let found = bares_in(table, extents, i);
     let count = found.count;
-    if is_choice(kind) & (2 <= count) {
-        let first = first_child(table, extents, i, Wanted::Bare);
-        return merge_bares(table, extents, i, first, found.largest, count, out);
+    if count < 2 {
+        return 0;
     }
-    0
+    let first = first_child(table, extents, i, Wanted::Bare);
+    merge_bares(table, extents, i, first, found.largest, count, out)
 }
 
 // Are the n records from record a on the same, byte for byte, as those from record b on?

@@ -1,10 +1,17 @@
+use mathlib.Core.Path.{_≡_, ap, _∙_}
 use borrow.Author.Needs.{needs}
-use mathlib.Core.Path.{ap, _∙_}
-use Rattle.simplify.specs.Same.{sameKind}
 use Rattle.table.specs.declared.Kind.the-variants.{Sequence}
-use Rattle.rewrite.specs.Laws.Blocks.{rule6-not, rule6-parted, rule6-wrote}
+use Rattle.table.specs.Table.{firstNode}
+use Rattle.table.specs.Laws.Reading.{partAt}
+use Rattle.simplify.specs.Rules.{rule6}
+use Rattle.simplify.specs.Same.{sameKind}
+use Rattle.rewrite.specs.Laws.Blocks.{all-parted, asks-6, rule-few, rule-other, rule6-wrote}
 use Rattle.rewrite.proofs.rule6_at.Statement.{statement}
 use Rattle.rewrite.proofs.rule6_at.Tie as tie
+
+-- the test is of the node's kind, as its bytes have it
+test : (c : tie.After-is-sequence) → let s = c .before .before .before .before .before .before in c .is-sequence .result ≡ sameKind (firstNode (partAt (s .args .table .now) (s .args .i)) .kind) Sequence
+test c = c .is-sequence .ensures ∙ ap (λ n. sameKind (n .kind) Sequence) (c .before .read-node .ensures)
 
 mul-start : tie.Need-mul-start
 mul-start c = search needs
@@ -21,34 +28,37 @@ part-read-node-end c = search needs
 read-node-requires : tie.Need-read-node-requires
 read-node-requires c κs = search needs
 
+is-sequence-requires : tie.Need-is-sequence-requires
+is-sequence-requires c κs = search needs
+
+returns : tie.Need-returns
+returns c =
+    let s = c .before .before .before .before .before .before .before in
+    rule-other Sequence rule6 _ asks-6 _ (s .pre .0 .simplifiable) _ (s .pre .1 .0) _ _ (test (c .before)) (c .if1 .taken)
+
 bares-in-requires : tie.Need-bares-in-requires
 bares-in-requires c κs = search needs
 
-is-sequence-requires : tie.Need-is-sequence-requires
-is-sequence-requires c κs = search needs
+returns-2 : tie.Need-returns-2
+returns-2 c =
+    let s = c .before .before .before .before .before .before .before .before .before in
+    rule-few Sequence rule6 _ asks-6 _ (s .pre .0 .simplifiable) _ (s .pre .1 .0) _ _ (c .before .bares-in .ensures) (c .if2 .taken)
 
 add-merge-bares : tie.Need-add-merge-bares
 add-merge-bares c = search needs
 
 merge-bares-requires : tie.Need-merge-bares-requires
 merge-bares-requires c κs =
-    let s = c .before .before .before .before .before .before .before .before .before in
-    (s .pre .0, (s .pre .1 .0, (search needs, rule6-parted _ (s .pre .0 .simplifiable) _ (s .pre .1 .0) _ (c .before .before .is-sequence .result) (c .before .before .before .bares-in .ensures) (c .before .if1 .taken))))
+    let s = c .before .before .before .before .before .before .before .before .before .before in
+    (s .pre .0, (s .pre .1 .0, (search needs, all-parted _ (s .pre .0 .simplifiable) _ (s .pre .1 .0) _ (c .before .before .bares-in .ensures) (c .before .if2 .left))))
 
 same-length : tie.Need-same-length
 same-length c = search needs
 
-returns : tie.Need-returns
-returns c =
-    let s = c .before .before .before .before .before .before .before .before .before .before .before .before in
-    rule6-wrote _ (s .pre .0 .simplifiable) _ (s .pre .1 .0) _ _ (c .before .before .before .before .before .before .bares-in .ensures)
-    (c .before .before .before .before .before .is-sequence .ensures ∙ ap (λ n. sameKind (n .kind) Sequence) (c .before .before .before .before .before .before .before .read-node .ensures)) (c .before .before .before .before .if1 .taken) _ _ (c .before .before .merge-bares .ensures)
-
-returns-2 : tie.Need-returns-2
-returns-2 c =
-    let s = c .before .before .before .before .before .before .before .before in
-    rule6-not _ (s .pre .0 .simplifiable) _ (s .pre .1 .0) _ _ (c .before .before .bares-in .ensures)
-    (c .before .is-sequence .ensures ∙ ap (λ n. sameKind (n .kind) Sequence) (c .before .before .before .read-node .ensures)) (c .if1 .left) _
+returns-3 : tie.Need-returns-3
+returns-3 c =
+    let s = c .before .before .before .before .before .before .before .before .before .before .before .before .before in
+    rule6-wrote _ (s .pre .0 .simplifiable) _ (s .pre .1 .0) _ (c .before .before .before .before .before .bares-in .ensures) (c .before .before .before .before .if2 .left) _ (test (c .before .before .before .before .before .before .before)) (c .before .before .before .before .before .before .if1 .left) _ _ (c .before .before .merge-bares .ensures)
 
 pub rule6-at-spec : {M : Type 1} → statement M
 rule6-at-spec =
@@ -59,10 +69,11 @@ rule6-at-spec =
     part-read-node-start
     part-read-node-end
     read-node-requires
-    bares-in-requires
     is-sequence-requires
+    returns
+    bares-in-requires
+    returns-2
     add-merge-bares
     merge-bares-requires
     same-length
-    returns
-    returns-2)
+    returns-3)

@@ -1,10 +1,17 @@
+use mathlib.Core.Path.{_≡_, ap, _∙_}
 use borrow.Author.Needs.{needs}
-use mathlib.Core.Path.{ap, _∙_}
-use Rattle.simplify.specs.Same.{sameKind}
 use Rattle.table.specs.declared.Kind.the-variants.{Choice}
-use Rattle.rewrite.specs.Laws.Blocks.{rule7-not, rule7-parted, rule7-wrote}
+use Rattle.table.specs.Table.{firstNode}
+use Rattle.table.specs.Laws.Reading.{partAt}
+use Rattle.simplify.specs.Rules.{rule7}
+use Rattle.simplify.specs.Same.{sameKind}
+use Rattle.rewrite.specs.Laws.Blocks.{asks-7, rule-few, rule-other, rule7-wrote, two-parted}
 use Rattle.rewrite.proofs.rule7_at.Statement.{statement}
 use Rattle.rewrite.proofs.rule7_at.Tie as tie
+
+-- the test is of the node's kind, as its bytes have it
+test : (c : tie.After-is-choice) → let s = c .before .before .before .before .before .before in c .is-choice .result ≡ sameKind (firstNode (partAt (s .args .table .now) (s .args .i)) .kind) Choice
+test c = c .is-choice .ensures ∙ ap (λ n. sameKind (n .kind) Choice) (c .before .read-node .ensures)
 
 mul-start : tie.Need-mul-start
 mul-start c = search needs
@@ -21,34 +28,37 @@ part-read-node-end c = search needs
 read-node-requires : tie.Need-read-node-requires
 read-node-requires c κs = search needs
 
+is-choice-requires : tie.Need-is-choice-requires
+is-choice-requires c κs = search needs
+
+returns : tie.Need-returns
+returns c =
+    let s = c .before .before .before .before .before .before .before in
+    rule-other Choice rule7 _ asks-7 _ (s .pre .0 .simplifiable) _ (s .pre .1 .0) _ _ (test (c .before)) (c .if1 .taken)
+
 bares-in-requires : tie.Need-bares-in-requires
 bares-in-requires c κs = search needs
 
-is-choice-requires : tie.Need-is-choice-requires
-is-choice-requires c κs = search needs
+returns-2 : tie.Need-returns-2
+returns-2 c =
+    let s = c .before .before .before .before .before .before .before .before .before in
+    rule-few Choice rule7 _ asks-7 _ (s .pre .0 .simplifiable) _ (s .pre .1 .0) _ _ (c .before .bares-in .ensures) (c .if2 .taken)
 
 first-child-requires : tie.Need-first-child-requires
 first-child-requires c κs = search needs
 
 merge-bares-requires : tie.Need-merge-bares-requires
 merge-bares-requires c κs =
-    let s = c .before .before .before .before .before .before .before .before .before .before in
-    (s .pre .0, (s .pre .1 .0, (search needs, rule7-parted _ (s .pre .0 .simplifiable) _ _ (s .pre .1 .0) _ (c .before .before .before .is-choice .result) (c .before .before .before .before .bares-in .ensures) (c .before .before .if1 .taken) (c .before .first-child .ensures))))
+    let s = c .before .before .before .before .before .before .before .before .before .before .before in
+    (s .pre .0, (s .pre .1 .0, (search needs, two-parted _ (s .pre .0 .simplifiable) _ (s .pre .1 .0) _ (c .before .before .before .bares-in .ensures) (c .before .before .if2 .left) _ (c .before .first-child .ensures))))
 
 same-length : tie.Need-same-length
 same-length c = search needs
 
-returns : tie.Need-returns
-returns c =
-    let s = c .before .before .before .before .before .before .before .before .before .before .before .before .before in
-    rule7-wrote _ (s .pre .0 .simplifiable) _ _ (s .pre .1 .0) _ _ (c .before .before .before .before .before .before .before .bares-in .ensures)
-    (c .before .before .before .before .before .before .is-choice .ensures ∙ ap (λ n. sameKind (n .kind) Choice) (c .before .before .before .before .before .before .before .before .read-node .ensures)) (c .before .before .before .before .before .if1 .taken) (c .before .before .before .before .first-child .ensures) _ _ (c .before .before .merge-bares .ensures)
-
-returns-2 : tie.Need-returns-2
-returns-2 c =
-    let s = c .before .before .before .before .before .before .before .before in
-    rule7-not _ (s .pre .0 .simplifiable) _ (s .pre .1 .0) _ _ (c .before .before .bares-in .ensures)
-    (c .before .is-choice .ensures ∙ ap (λ n. sameKind (n .kind) Choice) (c .before .before .before .read-node .ensures)) (c .if1 .left) _
+returns-3 : tie.Need-returns-3
+returns-3 c =
+    let s = c .before .before .before .before .before .before .before .before .before .before .before .before .before .before in
+    rule7-wrote _ (s .pre .0 .simplifiable) _ (s .pre .1 .0) _ (c .before .before .before .before .before .before .bares-in .ensures) (c .before .before .before .before .before .if2 .left) _ (c .before .before .before .before .first-child .ensures) _ (test (c .before .before .before .before .before .before .before .before)) (c .before .before .before .before .before .before .before .if1 .left) _ _ (c .before .before .merge-bares .ensures)
 
 pub rule7-at-spec : {M : Type 1} → statement M
 rule7-at-spec =
@@ -59,10 +69,11 @@ rule7-at-spec =
     part-read-node-start
     part-read-node-end
     read-node-requires
-    bares-in-requires
     is-choice-requires
+    returns
+    bares-in-requires
+    returns-2
     first-child-requires
     merge-bares-requires
     same-length
-    returns
-    returns-2)
+    returns-3)

@@ -2,16 +2,16 @@
 use mathlib.Core.Path.{_≡_, refl, ap, ap₂, sym, _∙_, subst}
 use mathlib.Core.Bool.{Bool, _&&_, cond, false, not, true}
 use mathlib.Core.List.{List, _++_, [], append-assoc, append-nil}
-use mathlib.Core.Option.{some}
+use mathlib.Core.Option.{Option, some}
 use Prim.Native.Nat.{ℕ, zero, suc, _+_, _-_, _*_, _%_, _≤_, _<_, max}
 use native.Mathlib.Nat.{add-zero, suc-add}
 use native.Mathlib.Numerals.{add-one}
 use native.Mathlib.Omega.{arith}
-use lib.Dec.{T, leb, leb→le}
+use lib.Dec.{T, le→leb, leb, leb→le}
 use lib.ListN.{drop, getD, length, take}
 use lib.Seq.{take-all, take-at}
 use borrow.Author.Tests.{not-false, not-true}
-use Rattle.booleans.specs.Laws.{&&-both, and-is, both, by-cond, by-conds, is-T}
+use Rattle.booleans.specs.Laws.{T-is, both, by-cond, by-conds}
 use Rattle.booleans.specs.Tests.{_and_}
 use Rattle.table.specs.Numbers.{mostTime, recordLength}
 use Rattle.table.specs.Questions.{kindInRange, listed, timeInRange}
@@ -407,62 +407,81 @@ others-records (t ▸ f) =
     (λ h. omega (arith, others-records f, some-records t))
     (λ h. omega (arith, others-records f))
 
+-- a rule that asks for a kind and for two such blocks, by what the code tests
+small : (c : ℕ) → c < 2 → leb 2 c ≡ false
+small zero h = refl
+small (suc zero) h = refl
+small (suc (suc c)) h = absurd (omega arith)
+
+and-false : (x : Bool) → (x and false) ≡ false
+unfolding _and_
+and-false true = refl
+and-false false = refl
+
+abbrev pub Asks : Kind → (Node → Forest → Option Tree) → (Node → Forest → Tree) → Type 0
+Asks k rule made = (n : Node) (f : Forest) → rule n f ≡ when (sameKind (n .kind) k and leb 2 (bares f)) (made n f)
+
+module _ (k : Kind) (rule : Node → Forest → Option Tree) (made : Node → Forest → Tree) (a : Asks k rule made)
+    (b : List ℕ) (s : Simplifiable b) (i : ℕ) (l : i < recordCount b) where
+  tested : let w = here-at b s i l in
+      ruleAt rule (treesAt b i) ≡ also (λ t. t ▸ w .later) (when (sameKind (firstNode (partAt b i) .kind) k and leb 2 (baresAt (treesAt b i) .count)) (made (w .own) (w .kids)))
+  unfolding ruleAt baresAt
+  tested = let w = here-at b s i l in rw (w .here, own-is b i _ _ _ l (w .here), a (w .own) (w .kids)) refl
+
+  pub rule-other : (r : Bool) (out : List ℕ) → r ≡ sameKind (firstNode (partAt b i) .kind) k → not r ≡ true → Wrote (ruleAt rule (treesAt b i)) 0 out
+  unfolding _and_ also when Wrote
+  rule-other r out e h = rw (tested, ← e, not-true r h) refl
+
+  pub rule-few : (found : Bares) (out : List ℕ) → found ≡ baresAt (treesAt b i) → found .count < 2 → Wrote (ruleAt rule (treesAt b i)) 0 out
+  unfolding also when Wrote
+  rule-few found out e h = rw (tested, ← e, small (found .count) h, and-false) refl
+
+  pub rule-fits : (r : Bool) (found : Bares) → r ≡ sameKind (firstNode (partAt b i) .kind) k → not r ≡ false → found ≡ baresAt (treesAt b i) → 2 ≤ found .count
+      → let w = here-at b s i l in ruleAt rule (treesAt b i) ≡ some (made (w .own) (w .kids) ▸ w .later)
+  unfolding _and_ also when
+  rule-fits r found e h d m = rw (tested, ← e, not-false r h, ← d, T-is (leb 2 (found .count)) (le→leb 2 (found .count) m)) refl
+
 -- what was found is of these children
 found-is : (b : List ℕ) (i : ℕ) (found : Bares) (w : Here b i) → found ≡ baresAt (treesAt b i)
     → (found .count ≡ bares (w .kids)) × (found .total ≡ total (w .kids)) × (found .largest ≡ largest (w .kids))
 unfolding baresAt
 found-is b i found w e =
     let q : found ≡ baresAt (node (w .own) (w .kids) ▸ w .later) = e ∙ ap baresAt (w .here) in
-    (ap (λ s. s .count) q, ap (λ s. s .total) q, ap (λ s. s .largest) q)
+    (ap (λ f. f .count) q, ap (λ f. f .total) q, ap (λ f. f .largest) q)
 
--- the test that the code makes is the rule's
-tested : (k : Kind) (n : Node) (m c : ℕ) (r : Bool) → r ≡ sameKind (n .kind) k → c ≡ m → (sameKind (n .kind) k and leb 2 m) ≡ (r && leb 2 c)
-tested k n m c r e h = sym (rw (e, h) (and-is _ _))
+-- ---- rule 6: the children in one row
 
-two-found : (r : Bool) (c : ℕ) → (r && leb 2 c) ≡ true → 2 ≤ c
-two-found r c h = leb→le 2 c (&&-both r (leb 2 c) (is-T _ h) .1)
+pub asks-6 : Asks Sequence rule6 (λ n f. node n (leaf (total f) Unlimited ▸ others f))
+unfolding rule6
+asks-6 n f = refl
 
-rule6-is : (b : List ℕ) (i : ℕ) (w : Here b i) (found : Bares) (r : Bool) → i < recordCount b → found ≡ baresAt (treesAt b i)
-    → r ≡ sameKind (firstNode (partAt b i) .kind) Sequence
-    → ruleAt rule6 (treesAt b i) ≡ also (λ t. t ▸ w .later) (when (r && leb 2 (found .count)) (node (w .own) (leaf (found .total) Unlimited ▸ others (w .kids))))
-unfolding ruleAt rule6
-rule6-is b i w found r l e h =
-    let f = found-is b i found w e in
-    let o = own-is b i _ _ _ l (w .here) in
-    rw (w .here, f .1, tested Sequence (w .own) (bares (w .kids)) (found .count) r (h ∙ ap (λ n. sameKind (n .kind) Sequence) o) (f .0)) refl
-
-all-parted : (b : List ℕ) (i c : ℕ) (w : Here b i) → c ≡ bares (w .kids) → 2 ≤ c → Parted b i (i + 1) c
+pub all-parted : (b : List ℕ) (s : Simplifiable b) (i : ℕ) (l : i < recordCount b) (found : Bares) → found ≡ baresAt (treesAt b i) → 2 ≤ found .count
+    → Parted b i (i + 1) (found .count)
 unfolding _⧺_ recordsIn
-all-parted b i c w e l = record {
-  own = w .own;
-  first = nil;
-  second = w .kids;
-  later = w .later;
-  here = w .here;
-  place = omega arith;
-  some = omega arith;
-  number = omega (arith, others-size (w .kids));
-  fewer = omega (arith, others-records (w .kids));
-}
-
-pub rule6-parted : (b : List ℕ) → Simplifiable b → (i : ℕ) → i < recordCount b → (found : Bares) (r : Bool) → found ≡ baresAt (treesAt b i)
-    → (r && leb 2 (found .count)) ≡ true → Parted b i (i + 1) (found .count)
-rule6-parted b s i l found r e t = let w = here-at b s i l in all-parted b i _ w (found-is b i found w e .0) (two-found r _ t)
-
-pub rule6-wrote : (b : List ℕ) → Simplifiable b → (i : ℕ) → i < recordCount b → (found : Bares) (r : Bool) → found ≡ baresAt (treesAt b i)
-    → r ≡ sameKind (firstNode (partAt b i) .kind) Sequence → (r && leb 2 (found .count)) ≡ true
-    → (n : ℕ) (out : List ℕ) → ((s : Parted b i (i + 1) (found .count)) → Wrote (some (merged (found .total) s)) n out) → Wrote (ruleAt rule6 (treesAt b i)) n out
-unfolding also when _⧺_ all-parted
-rule6-wrote b s i l found r e h t n out k =
+all-parted b s i l found e m =
     let w = here-at b s i l in
-    rw (rule6-is b i w found r l e h, t) (k (all-parted b i _ w (found-is b i found w e .0) (two-found r _ t)))
+    let c = found-is b i found w e in record {
+      own = w .own;
+      first = nil;
+      second = w .kids;
+      later = w .later;
+      here = w .here;
+      place = omega arith;
+      some = omega arith;
+      number = omega (arith, c .0, others-size (w .kids));
+      fewer = omega (arith, c .0, others-records (w .kids));
+    }
 
-pub rule6-not : (b : List ℕ) → Simplifiable b → (i : ℕ) → i < recordCount b → (found : Bares) (r : Bool) → found ≡ baresAt (treesAt b i)
-    → r ≡ sameKind (firstNode (partAt b i) .kind) Sequence → (r && leb 2 (found .count)) ≡ false → (out : List ℕ) → Wrote (ruleAt rule6 (treesAt b i)) 0 out
-unfolding also when Wrote
-rule6-not b s i l found r e h t out = rw (rule6-is b i (here-at b s i l) found r l e h, t) refl
+pub rule6-wrote : (b : List ℕ) (s : Simplifiable b) (i : ℕ) (l : i < recordCount b) (found : Bares) (e : found ≡ baresAt (treesAt b i)) (m : 2 ≤ found .count)
+    → (r : Bool) → r ≡ sameKind (firstNode (partAt b i) .kind) Sequence → not r ≡ false
+    → (n : ℕ) (out : List ℕ) → ((p : Parted b i (i + 1) (found .count)) → Wrote (some (merged (found .total) p)) n out) → Wrote (ruleAt rule6 (treesAt b i)) n out
+unfolding _⧺_ all-parted
+rule6-wrote b s i l found e m r d h n out w =
+    rw (rule-fits Sequence rule6 _ asks-6 b s i l r found d h e m, ← found-is b i found (here-at b s i l) e .1) (w (all-parted b s i l found e m))
 
--- children in two rows, the second from the first unlimited plain block on
+-- ---- rule 7: the children in two rows
+
+-- the second from the first unlimited plain block on
 record FirstBare (f : Forest) : Type 0 where
   first : Forest
   second : Forest
@@ -501,52 +520,37 @@ first-bare (t ▸ f) h = go (bare t) refl (first-bare f)
           fewer = p .fewer;
         }
 
-bare-place : (b : List ℕ) (i q : ℕ) (w : Here b i) → q ≡ childAt (wanted Wanted.Bare) i (treesAt b i) → (p : FirstBare (w .kids)) → q ≡ i + 1 + recordsIn (p .first)
-unfolding childAt
-bare-place b i q w e p = e ∙ ap (childAt (wanted Wanted.Bare) i) (w .here) ∙ rw (p .any, p .place) refl
+pub asks-7 : Asks Choice rule7 (λ n f. node n (atFirst (largest f) f))
+unfolding rule7
+asks-7 n f = refl
 
-two-parted : (b : List ℕ) (i q c : ℕ) (w : Here b i) → q ≡ childAt (wanted Wanted.Bare) i (treesAt b i) → c ≡ bares (w .kids) → 2 ≤ c → FirstBare (w .kids) → Parted b i q c
-two-parted b i q c w h e l p = record {
-  own = w .own;
-  first = p .first;
-  second = p .second;
-  later = w .later;
-  here = w .here ∙ ap (λ f. node (w .own) f ▸ w .later) (p .split);
-  place = bare-place b i q w h p;
-  some = omega arith;
-  number = omega (arith, p .number);
-  fewer = p .fewer;
-}
+module _ (b : List ℕ) (s : Simplifiable b) (i : ℕ) (l : i < recordCount b) (found : Bares) (e : found ≡ baresAt (treesAt b i)) (m : 2 ≤ found .count)
+    (q : ℕ) (j : q ≡ childAt (wanted Wanted.Bare) i (treesAt b i)) where
+  abbrev stood : Here b i
+  stood = here-at b s i l
 
-rule7-is : (b : List ℕ) (i : ℕ) (w : Here b i) (found : Bares) (r : Bool) → i < recordCount b → found ≡ baresAt (treesAt b i)
-    → r ≡ sameKind (firstNode (partAt b i) .kind) Choice
-    → ruleAt rule7 (treesAt b i) ≡ also (λ t. t ▸ w .later) (when (r && leb 2 (found .count)) (node (w .own) (atFirst (found .largest) (w .kids))))
-unfolding ruleAt rule7
-rule7-is b i w found r l e h =
-    let f = found-is b i found w e in
-    let o = own-is b i _ _ _ l (w .here) in
-    rw (w .here, f .2, tested Choice (w .own) (bares (w .kids)) (found .count) r (h ∙ ap (λ n. sameKind (n .kind) Choice) o) (f .0)) refl
+  from-first : FirstBare (stood .kids)
+  from-first = first-bare (stood .kids) (omega (arith, found-is b i found stood e .0))
 
-pub rule7-parted : (b : List ℕ) → Simplifiable b → (i q : ℕ) → i < recordCount b → (found : Bares) (r : Bool) → found ≡ baresAt (treesAt b i)
-    → (r && leb 2 (found .count)) ≡ true → q ≡ childAt (wanted Wanted.Bare) i (treesAt b i) → Parted b i q (found .count)
-rule7-parted b s i q l found r e t h =
-    let w = here-at b s i l in
-    let c = found-is b i found w e .0 in
-    let m = two-found r (found .count) t in
-    two-parted b i q _ w h c m (first-bare (w .kids) (omega arith))
+  bare-place : q ≡ i + 1 + recordsIn (from-first .first)
+  unfolding childAt
+  bare-place = j ∙ ap (childAt (wanted Wanted.Bare) i) (stood .here) ∙ rw (from-first .any, from-first .place) refl
 
-pub rule7-wrote : (b : List ℕ) → Simplifiable b → (i q : ℕ) → i < recordCount b → (found : Bares) (r : Bool) → found ≡ baresAt (treesAt b i)
-    → r ≡ sameKind (firstNode (partAt b i) .kind) Choice → (r && leb 2 (found .count)) ≡ true → q ≡ childAt (wanted Wanted.Bare) i (treesAt b i)
-    → (n : ℕ) (out : List ℕ) → ((s : Parted b i q (found .count)) → Wrote (some (merged (found .largest) s)) n out) → Wrote (ruleAt rule7 (treesAt b i)) n out
-unfolding also when two-parted
-rule7-wrote b s i q l found r e h t j n out k =
-    let w = here-at b s i l in
-    let c = found-is b i found w e .0 in
-    let m = two-found r (found .count) t in
-    let p = first-bare (w .kids) (omega arith) in
-    rw (rule7-is b i w found r l e h, t, p .put (found .largest)) (k (two-parted b i q _ w j c m p))
+  pub two-parted : Parted b i q (found .count)
+  two-parted = record {
+    own = stood .own;
+    first = from-first .first;
+    second = from-first .second;
+    later = stood .later;
+    here = stood .here ∙ ap (λ f. node (stood .own) f ▸ stood .later) (from-first .split);
+    place = bare-place;
+    some = omega arith;
+    number = omega (arith, from-first .number, found-is b i found stood e .0);
+    fewer = from-first .fewer;
+  }
 
-pub rule7-not : (b : List ℕ) → Simplifiable b → (i : ℕ) → i < recordCount b → (found : Bares) (r : Bool) → found ≡ baresAt (treesAt b i)
-    → r ≡ sameKind (firstNode (partAt b i) .kind) Choice → (r && leb 2 (found .count)) ≡ false → (out : List ℕ) → Wrote (ruleAt rule7 (treesAt b i)) 0 out
-unfolding also when Wrote
-rule7-not b s i l found r e h t out = rw (rule7-is b i (here-at b s i l) found r l e h, t) refl
+  pub rule7-wrote : (r : Bool) → r ≡ sameKind (firstNode (partAt b i) .kind) Choice → not r ≡ false
+      → (n : ℕ) (out : List ℕ) → ((p : Parted b i q (found .count)) → Wrote (some (merged (found .largest) p)) n out) → Wrote (ruleAt rule7 (treesAt b i)) n out
+  unfolding two-parted
+  rule7-wrote r d h n out w =
+      rw (rule-fits Choice rule7 _ asks-7 b s i l r found d h e m, ← found-is b i found stood e .2, from-first .put (found .largest)) (w two-parted)
