@@ -365,6 +365,7 @@ fn is_choice(kind: Kind) -> bool
     }
 }
 
+// A plain block's time, else 0.
 fn plain_time(kind: Kind) -> u64
     ensures { λ r. ⌜ r ≡ timeOfKind kind ⌝ }
 {
@@ -435,10 +436,18 @@ fn kept(table: &[u8], extents: &[usize], p: usize) -> usize
 }
 
 // Copies the trees from record `start` up to `end` that are no unlimited plain blocks to the buffer's record `at` and on; answers the record after them.
-fn copy_others(table: &[u8], extents: &[usize], start: usize, end: usize, out: &mut [u8], at: usize) -> usize
+fn copy_others(
+    table: &[u8],
+    extents: &[usize],
+    start: usize,
+    end: usize,
+    out: &mut [u8],
+    at: usize,
+) -> usize
     requires { ⌜ Extents (now table) (now extents) ⌝ ∗ ⌜ Standing (now table) start end ⌝ }
     requires { ⌜ recordLength * (at + recordsIn (othersUpTo (now table) start end)) ≤ length (now out) ⌝ }
-    ensures { λ r. ⌜ (r ≡ at + recordsIn (othersUpTo (now (table .entry)) start end)) × (front r (now (out .exit)) ≡ front at (now (out .entry)) ++ encodes (othersUpTo (now (table .entry)) start end)) ⌝ }
+    ensures { λ r. ⌜ r ≡ at + recordsIn (othersUpTo (now (table .entry)) start end) ⌝ }
+    ensures { λ r. ⌜ front r (now (out .exit)) ≡ front at (now (out .entry)) ++ encodes (othersUpTo (now (table .entry)) start end) ⌝ }
 {
     let mut p = start;
     let mut to = at;
@@ -452,7 +461,15 @@ fn copy_others(table: &[u8], extents: &[usize], start: usize, end: usize, out: &
 
 // Writes what the table becomes from record i on where the unlimited plain blocks among the node's children, none of which stands before record q, give way
 // to one at q of this time; answers how many records that is.
-fn merge_bares(table: &[u8], extents: &[usize], i: usize, q: usize, time: u64, bares: usize, out: &mut [u8]) -> usize
+fn merge_bares(
+    table: &[u8],
+    extents: &[usize],
+    i: usize,
+    q: usize,
+    time: u64,
+    bares: usize,
+    out: &mut [u8],
+) -> usize
     requires { ⌜ Extents (now table) (now extents) ⌝ ∗ ⌜ i < recordCount (now table) ⌝ ∗ ⌜ length (now table) ≤ length (now out) ⌝ }
     requires { ⌜ Parted (now table) i q bares ⌝ }
     ensures { λ r. ⌜ ((s : Parted (now (table .entry)) i q bares) → Wrote (some (merged time s)) r (now (out .exit))) ⌝ }

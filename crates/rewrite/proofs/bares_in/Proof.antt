@@ -1,3 +1,4 @@
+-- The invariant: what was found, and what the children left add, come to the children's (`Gathering`). The measure: the records left.
 use borrow.Author.Needs.{needs}
 use Prim.Native.Nat.{_+_, _-_, _≤_}
 use native.Mathlib.Omega.{arith}

@@ -1,3 +1,4 @@
+-- The invariant: the others up to record p are copied (`Copying`). The measure: the records left.
 use borrow.Author.Needs.{needs}
 use mathlib.Core.Path.{ap}
 use Prim.Native.Nat.{_-_}
@@ -35,8 +36,7 @@ copy-records-requires c κs =
     let l = t .before .loop in
     let s = t .before .before .before .before .before in
     let e = c .before .kept .ensures in
-    let k = kept-few (subtree (s .args .table .now) (l .p)) in
-    (
+    let k = kept-few (subtree (s .args .table .now) (l .p)) in (
       omega (arith, n .within, n .bound, ap records (n .own), length-is (s .args .table .now) (s .pre .0 .simplifiable)),
       omega (arith, copy-fits _ _ (s .pre .0) _ _ _ _ _ _ _ (l .inv) (t .loop-test .taken), l .inv .long),
     )

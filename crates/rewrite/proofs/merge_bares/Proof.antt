@@ -1,3 +1,4 @@
+-- Each part is written behind the one before it; `Places` says where it stands in the table.
 use borrow.Author.Needs.{needs}
 use mathlib.Core.Path.{_≡_, ap, _∙_}
 use Prim.Native.Nat.{_+_, _-_}
@@ -109,8 +110,7 @@ copy-records-requires-2 c κs =
     let s = c .before .before .before .before .before .before .before .before .before .before .before .before .before .before .before .before .before .before .before .before .before .before .before .before .before in
     let p = stand s in
     let a = s .pre .1 .1 .1 in
-    let k = kept s in
-    (
+    let k = kept s in (
       omega (arith, p .inside, p .long),
       omega (arith, p .extent, p .inside, p .long, a .place, a .fewer, c .before .before .before .before .before .before .before .before .before .before .before .before .before .before .before .before .put-node .ensures .0, c .before .before .before .before .before .before .before .before .before .before .before .before .copy-records .ensures .0, c .before .before .before .before .before .before .before .before .put-node2 .ensures .0, c .before .before .before .copy-others .ensures .0),
     )
@@ -122,14 +122,14 @@ returns : tie.Need-returns
 returns c =
     let s = c .before .before .before .before .before .before .before .before .before .before .before .before .before .before .before .before .before .before .before .before .before .before .before .before .before .before .before .before in
     λ a. merge-wrote _ _ (s .pre .0) _ _ _ (s .pre .1 .0) a _ _ _ _ _ _ _ _ _ _ _ _ _
-      (c .before .before .before .before .before .before .before .before .before .before .before .before .before .before .before .before .before .before .before .before .before .before .before .read-node .ensures)
-      (c .before .before .before .before .before .before .before .before .before .before .before .before .before .before .before .before .before .before .before .before .before .child-count .ensures .0)
-      (c .before .before .before .before .before .before .before .before .before .before .before .before .before .before .before .before .before .before .before .before .before .child-count .ensures .1)
-      (c .before .before .before .before .before .before .before .before .before .before .before .before .before .before .before .before .before .before .before .put-node .ensures)
-      (c .before .before .before .before .before .before .before .before .before .before .before .before .before .before .before .copy-records .ensures)
-      (c .before .before .before .before .before .before .before .before .before .before .before .put-node2 .ensures)
-      (c .before .before .before .before .before .before .copy-others .ensures)
-      (c .before .before .copy-records2 .ensures)
+    (c .before .before .before .before .before .before .before .before .before .before .before .before .before .before .before .before .before .before .before .before .before .before .before .read-node .ensures)
+    (c .before .before .before .before .before .before .before .before .before .before .before .before .before .before .before .before .before .before .before .before .before .child-count .ensures .0)
+    (c .before .before .before .before .before .before .before .before .before .before .before .before .before .before .before .before .before .before .before .before .before .child-count .ensures .1)
+    (c .before .before .before .before .before .before .before .before .before .before .before .before .before .before .before .before .before .before .before .put-node .ensures)
+    (c .before .before .before .before .before .before .before .before .before .before .before .before .before .before .before .copy-records .ensures)
+    (c .before .before .before .before .before .before .before .before .before .before .before .put-node2 .ensures)
+    (c .before .before .before .before .before .before .copy-others .ensures)
+    (c .before .before .copy-records2 .ensures)
 
 pub merge-bares-spec : {M : Type 1} → statement M
 merge-bares-spec =

@@ -1,3 +1,4 @@
+-- The rule asks for a sequence and two blocks (`Asks`), and the children stand in one row (`all-parted`).
 use mathlib.Core.Path.{_≡_, ap, _∙_}
 use borrow.Author.Needs.{needs}
 use Rattle.table.specs.declared.Kind.the-variants.{Sequence}

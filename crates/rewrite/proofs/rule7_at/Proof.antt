@@ -1,3 +1,4 @@
+-- The rule asks for a choice and two blocks (`Asks`), and the children stand in two rows (`two-parted`).
 use mathlib.Core.Path.{_≡_, ap, _∙_}
 use borrow.Author.Needs.{needs}
 use Rattle.table.specs.declared.Kind.the-variants.{Choice}

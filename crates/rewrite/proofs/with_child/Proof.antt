@@ -1,3 +1,4 @@
+-- The time that is read is that of the tree at record p, and few enough are summed.
 use borrow.Author.Needs.{needs}
 use mathlib.Core.Path.{_≡_, ap, _∙_}
 use Prim.Native.Nat.{_≤_}

@@ -1,14 +1,13 @@
--- Rules 6 and 7 on a table's bytes: the walk over a node's children.
-use mathlib.Core.Path.{_≡_, refl, ap, ap₂, sym, _∙_, subst}
-use mathlib.Core.Bool.{Bool, _&&_, cond, false, not, true}
-use mathlib.Core.List.{List, _++_, [], append-assoc, append-nil}
+-- Rules 6 and 7 on a table's bytes: the walks over a node's children, and what is written in the place of its blocks.
+use mathlib.Core.Path.{_≡_, refl, ap, ap₂, sym, _∙_}
+use mathlib.Core.Bool.{Bool, cond, false, not, true}
+use mathlib.Core.List.{List, _++_, append-assoc, append-nil}
 use mathlib.Core.Option.{Option, some}
 use Prim.Native.Nat.{ℕ, zero, suc, _+_, _-_, _*_, _%_, _≤_, _<_, max}
-use native.Mathlib.Nat.{add-zero, suc-add}
 use native.Mathlib.Numerals.{add-one}
 use native.Mathlib.Omega.{arith}
 use lib.Dec.{T, le→leb, leb, leb→le}
-use lib.ListN.{drop, getD, length, take}
+use lib.ListN.{drop, getD, length}
 use lib.Seq.{take-all, take-at}
 use borrow.Author.Tests.{not-false, not-true}
 use Rattle.booleans.specs.Laws.{T-is, both, by-cond, by-conds}
@@ -379,14 +378,13 @@ merge-wrote b extents w i q c l s x m n o₁ o₂ o₃ o₄ o₅ r₁ r₂ r₃ 
     let v : recordsIn (others (spanning (treesAt b q) (i + getD extents i 0 - q))) ≡ recordsIn (others (s .second)) = ap (λ f. recordsIn (others f)) y in
     let a₁ : front r₁ o₁ ≡ recordBytes (s .own) (size (s .first) + suc (size (others (s .second)))) = e₁ .1 ∙ ap₂ recordBytes (d ∙ p .own) z in
     let a₂ : front r₂ o₂ ≡ recordBytes (s .own) (size (s .first) + suc (size (others (s .second)))) ++ encodes (s .first)
-        = e₂ .1 ∙ ap₂ (λ f g. f ++ g) a₁ (ap (slice b (i + 1)) h ∙ p .early) in
-    (
+    = e₂ .1 ∙ ap₂ (λ f g. f ++ g) a₁ (ap (slice b (i + 1)) h ∙ p .early) in (
       omega (arith, merged-records x s, p .after, e₁ .0, e₂ .0, e₃ .0, e₄ .0, e₅ .0),
       e₅ .1
-      ∙ ap₂ (λ f g. f ++ g)
-        (e₄ .1 ∙ ap₂ (λ f g. f ++ g) (e₃ .1 ∙ ap (λ f. f ++ recordBytes (nodeOf (Block (Plain x)) Unlimited) 0) a₂) (ap (λ f. encodes (others f)) y))
-        (ap (slice b (i + getD extents i 0)) (p .after) ∙ p .late)
-      ∙ sym (merged-bytes x s),
+          ∙ ap₂ (λ f g. f ++ g)
+          (e₄ .1 ∙ ap₂ (λ f g. f ++ g) (e₃ .1 ∙ ap (λ f. f ++ recordBytes (nodeOf (Block (Plain x)) Unlimited) 0) a₂) (ap (λ f. encodes (others f)) y))
+          (ap (slice b (i + getD extents i 0)) (p .after) ∙ p .late)
+          ∙ sym (merged-bytes x s),
     )
 
 -- ---- rules 6 and 7
