@@ -2,17 +2,19 @@
 use mathlib.Core.Path.{_≡_}
 use mathlib.Core.Bool.{Bool, cond, false, true}
 use mathlib.Core.List.{List, [], _∷_, _++_}
-use Prim.Native.Nat.{ℕ, _+_}
+use Prim.Native.Nat.{ℕ, _+_, _*_, _≤_}
 use lib.Dec.{T, eqb}
+use lib.ListN.{length}
 use Rattle.booleans.specs.Tests.{_and_}
 use Rattle.evaluate.specs.Closed.{isUnlimited}
 use Rattle.simplify.specs.Rules.{children, firstOf, firsts, headOf, isPair, limitOf, secondOf, shares}
 use Rattle.simplify.specs.Same.{same, sameKind}
-use Rattle.table.specs.Table.{firstOnes, recordBytes}
-use Rattle.table.specs.Trees.{Forest, Tree, nil, node, _▸_, _⧺_, records, size}
+use Rattle.table.specs.Numbers.{recordLength}
+use Rattle.table.specs.Table.{encodes, firstOnes, recordBytes}
+use Rattle.table.specs.Trees.{Forest, Tree, nil, node, _▸_, _⧺_, records, recordsIn, size}
 use Rattle.subtrees.specs.Parts.{treesAt}
 use Rattle.rewrite.specs.Nodes.{Choice, Loop, Plain, Sequence, Unlimited}
-use Rattle.rewrite.specs.Writing.{nodeOf}
+use Rattle.rewrite.specs.Writing.{front, nodeOf}
 
 -- ---- rule 9: an unlimited loop of plain bound 0
 
@@ -52,6 +54,14 @@ pub record PairsAt (b : List ℕ) (p n : ℕ) : Type 0 where
 -- their first children
 abbrev pub firstsAt : List ℕ → ℕ → ℕ → Forest
 firstsAt b p n = firsts (firstOnes n (treesAt b p))
+
+-- a buffer has room for a row of trees from record `at` on
+abbrev pub RoomFor : ℕ → Forest → List ℕ → Type 0
+RoomFor at f out = recordLength * (at + recordsIn f) ≤ length out
+
+-- the row is written there, after what stood before it, and ends at record r
+abbrev pub Appended : ℕ → List ℕ → Forest → ℕ → List ℕ → Type 0
+Appended at before f r out = (r ≡ at + recordsIn f) × (front r out ≡ front at before ++ encodes f)
 
 -- the records of a sequence of two with the tree's limit and of an unlimited choice of as many children as it has
 abbrev pub topBytes : Tree → List ℕ

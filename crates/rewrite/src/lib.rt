@@ -17,7 +17,7 @@ ghost use Rattle.subtrees.specs.Parts.{Simplifiable, subtree, treesAt};
 ghost use Rattle.rewrite.specs.Writing.{Wrote, front, nodeOf, ruleAt, slice};
 ghost use Rattle.rewrite.specs.Settled.{beforeAt, blockAt};
 ghost use Rattle.rewrite.specs.Children.{Left, childAt, wanted};
-ghost use Rattle.rewrite.specs.Sharing.{PairsAt, firstsAt, idle, sameBytes, sharedAt, sharing, topBytes};
+ghost use Rattle.rewrite.specs.Sharing.{Appended, PairsAt, RoomFor, firstsAt, idle, sameBytes, sharedAt, sharing, topBytes};
 use lists::List;
 use subtrees::MARKS;
 ghost use Rattle.rewrite.specs.Blocks.{Parted, Standing, baresAt, keptRecords, merged, othersUpTo, spanning, withChild};
@@ -629,8 +629,8 @@ fn copy_firsts(
     out: &mut [u8],
     at: usize,
 ) -> usize
-    requires { ⌜ Extents (now table) (now extents) ⌝ ∗ ⌜ PairsAt (now table) p left ⌝ ∗ ⌜ recordLength * (at + recordsIn (firstsAt (now table) p left)) ≤ length (now out) ⌝ }
-    ensures { λ r. ⌜ (r ≡ at + recordsIn (firstsAt (now (table .entry)) p left)) × (front r (now (out .exit)) ≡ front at (now (out .entry)) ++ encodes (firstsAt (now (table .entry)) p left)) ⌝ }
+    requires { ⌜ Extents (now table) (now extents) ⌝ ∗ ⌜ PairsAt (now table) p left ⌝ ∗ ⌜ RoomFor at (firstsAt (now table) p left) (now out) ⌝ }
+    ensures { λ r. ⌜ Appended at (now (out .entry)) (firstsAt (now (table .entry)) p left) r (now (out .exit)) ⌝ }
 {
     let mut q = p;
     let mut to = at;

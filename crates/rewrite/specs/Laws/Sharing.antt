@@ -30,7 +30,7 @@ use Rattle.subtrees.specs.Laws.Facts.{closed-at}
 use Rattle.subtrees.specs.Laws.Forests.{Sound}
 use Rattle.subtrees.specs.Laws.Parts.{Here, bytes-at, here-at, length-is, records-at, skip-at}
 use Rattle.rewrite.specs.Nodes.{AtMost, Block, Choice, Kind, Limit, Loop, Node, Sequence, Unlimited}
-use Rattle.rewrite.specs.Sharing.{PairsAt, firstsAt, pairs, sameBytes, sharedAt, sharing, topBytes}
+use Rattle.rewrite.specs.Sharing.{Appended, PairsAt, RoomFor, firstsAt, pairs, sameBytes, sharedAt, sharing, topBytes}
 use Rattle.rewrite.specs.Writing.{Wrote, front, nodeOf, ruleAt, slice}
 use Rattle.rewrite.specs.Laws.Exit.{Two, fields-at, own-writes, rest-bytes, subtree-is, two-are, wrote-some}
 
@@ -435,7 +435,7 @@ pub record Copying (b : List ℕ) (p n at : ℕ) (o : List ℕ) (q m to : ℕ) (
 pub firsts-are : (b : List ℕ) (p n : ℕ) (f g : Forest) → treesAt b p ≡ f ⧺ g → size f ≡ n → firstsAt b p n ≡ firsts f
 firsts-are b p n f g e c = rw (e, ← c, first-⧺ f g) refl
 
-pub copying-none : (b : List ℕ) (p n at : ℕ) (o : List ℕ) → PairsAt b p n → recordLength * (at + recordsIn (firstsAt b p n)) ≤ length o → Copying b p n at o p n at o
+pub copying-none : (b : List ℕ) (p n at : ℕ) (o : List ℕ) → PairsAt b p n → RoomFor at (firstsAt b p n) o → Copying b p n at o p n at o
 copying-none b p n at o h l =
     let e = firsts-are b p n (h .row) (h .later) (h .stand) (h .count) in
     record {
@@ -505,7 +505,7 @@ module _ (b extents : List ℕ) (s : Extents b extents) (p n at : ℕ) (o : List
       }
 
 pub copying-all : (b : List ℕ) (p n at : ℕ) (o : List ℕ) (q m to : ℕ) (out : List ℕ) → Copying b p n at o q m to out → m ≤ 0
-    → (to ≡ at + recordsIn (firstsAt b p n)) × (front to out ≡ front at o ++ encodes (firstsAt b p n))
+    → Appended at o (firstsAt b p n) to out
 unfolding firsts recordsIn encodes
 copying-all b p n at o q m to out h l =
     let e = no-more (h .row) (omega (arith, h .count)) in
