@@ -13,7 +13,8 @@ abbrev μ-loop : tie.MeasureT-loop
 μ-loop table extents i second start left₀ p₀ left p = left
 
 -- the child at record p, and where the next one stands
-turn : (c : tie.In-loop Inv-loop μ-loop) → let l = c .before .loop in let a = c .before .before .before .before .before .before .args in NextAt (a .table .now) (a .extents .now) (l .p) (l .inv .row) (l .inv .later)
+turn : (c : tie.In-loop Inv-loop μ-loop) → let l = c .before .loop in
+    let a = c .before .before .before .before .before .before .args in NextAt (a .table .now) (a .extents .now) (l .p) (l .inv .row) (l .inv .later)
 turn c = shared-turn _ _ (c .before .before .before .before .before .before .pre .0) _ _ _ _ (c .before .loop .inv) (c .loop-test .taken)
 
 mul-start : tie.Need-mul-start Inv-loop μ-loop

@@ -13,7 +13,8 @@ abbrev μ-loop : tie.MeasureT-loop
 μ-loop table extents p left out₀ at q₀ to₀ n₀ out q to n = n
 
 -- the pair at record q, and where the next one stands
-turn : (c : tie.In-loop Inv-loop μ-loop) → let l = c .before .loop in let a = c .before .before .before .before .before .args in TurnAt (a .table .now) (a .extents .now) (l .q) (l .inv .row) (l .inv .later)
+turn : (c : tie.In-loop Inv-loop μ-loop) → let l = c .before .loop in
+    let a = c .before .before .before .before .before .args in TurnAt (a .table .now) (a .extents .now) (l .q) (l .inv .row) (l .inv .later)
 turn c = copying-turn _ _ (c .before .before .before .before .before .pre .0) _ _ _ _ _ _ _ _ (c .before .loop .inv) (c .loop-test .taken)
 
 loop-holds : tie.Need-loop-holds Inv-loop μ-loop
@@ -34,13 +35,17 @@ copy-records-requires c κs =
     copying-room _ _ (test .before .before .before .before .before .pre .0) _ _ _ _ _ _ _ _ (test .before .loop .inv) (test .loop-test .taken)
 
 mul-q : tie.Need-mul-q Inv-loop μ-loop
-mul-q c = let test = c .before .before .before .before .before in omega (arith, turn test .next .inside, few-records _ (test .before .before .before .before .before .pre .0 .simplifiable))
+mul-q c =
+    let test = c .before .before .before .before .before in
+    omega (arith, turn test .next .inside, few-records _ (test .before .before .before .before .before .pre .0 .simplifiable))
 
 shared-slice-read-q : tie.Need-shared-slice-read-q Inv-loop μ-loop
 shared-slice-read-q c = turn (c .before .before .before .before .before .before) .next .sized
 
 add-q : tie.Need-add-q Inv-loop μ-loop
-add-q c = let test = c .before .before .before .before .before .before in omega (arith, turn test .next .within, few-records _ (test .before .before .before .before .before .pre .0 .simplifiable))
+add-q c =
+    let test = c .before .before .before .before .before .before in
+    omega (arith, turn test .next .within, few-records _ (test .before .before .before .before .before .pre .0 .simplifiable))
 
 sub-n : tie.Need-sub-n Inv-loop μ-loop
 sub-n c = search needs
@@ -52,7 +57,8 @@ loop-again : tie.Need-loop-again Inv-loop μ-loop
 loop-again c =
     let copied = c .before .before .before in
     let test = copied .before .before .before in
-    copying-next _ _ (test .before .before .before .before .before .pre .0) _ _ _ _ _ _ _ _ (test .before .loop .inv) (test .loop-test .taken) _ _ (search needs) (copied .copy-records .ensures .0) (copied .copy-records .ensures .1)
+    copying-next _ _ (test .before .before .before .before .before .pre .0) _ _ _ _ _ _ _ _ (test .before .loop .inv) (test .loop-test .taken) _ _
+    (search needs) (copied .copy-records .ensures .0) (copied .copy-records .ensures .1)
 
 same-length : tie.Need-same-length Inv-loop μ-loop
 same-length c = search needs

@@ -39,7 +39,8 @@ returns c =
     let two = c .before .before in
     let one = two .before .before .before .before .before in
     let start = one .before .before .before .before .before .before in
-    tops-written _ (start .pre .0) _ (start .pre .1 .0) _ _ _ _ _ (one .before .before .read-node .ensures) (one .put-node .ensures .0) (one .put-node .ensures .1) (two .put-node2 .ensures .0) (two .put-node2 .ensures .1)
+    tops-written _ (start .pre .0) _ (start .pre .1 .0) _ _ _ _ _
+    (one .before .before .read-node .ensures) (one .put-node .ensures .0) (one .put-node .ensures .1) (two .put-node2 .ensures .0) (two .put-node2 .ensures .1)
 
 pub put-tops-spec : {M : Type 1} → statement M
 put-tops-spec =

@@ -77,7 +77,9 @@ copy-firsts-requires c κs =
     )
 
 mul-copy-records : tie.Need-mul-copy-records
-mul-copy-records c = let x = found (c .before .before .before .before .before .before .before .before .before .before) in omega (arith, x .inside, few-records _ (x .simplifiable))
+mul-copy-records c =
+    let x = found (c .before .before .before .before .before .before .before .before .before .before) in
+    omega (arith, x .inside, few-records _ (x .simplifiable))
 
 shared-slice-read-copy-records : tie.Need-shared-slice-read-copy-records
 shared-slice-read-copy-records c = found (c .before .before .before .before .before .before .before .before .before .before .before) .sized
@@ -98,7 +100,9 @@ shared-slice-read-from : tie.Need-shared-slice-read-from
 shared-slice-read-from c = search needs
 
 add-from : tie.Need-add-from
-add-from c = let x = found (c .before .before .before .before .before .before .before .before .before .before .before .before .before .before .before .before) in omega (arith, x .within, few-records _ (x .simplifiable))
+add-from c =
+    let x = found (c .before .before .before .before .before .before .before .before .before .before .before .before .before .before .before .before) in
+    omega (arith, x .within, few-records _ (x .simplifiable))
 
 sub-n : tie.Need-sub-n
 sub-n c = found (c .before .before .before .before .before .before .before .before .before .before .before .before .before .before .before .before) .within

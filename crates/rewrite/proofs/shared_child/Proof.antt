@@ -79,13 +79,15 @@ returns-4 : tie.Need-returns-4
 returns-4 c =
     let third = c .before .before in
     let second = third .before .before .before in
-    second-shared _ _ _ (second .before .before .before .before .before .before .before .before .pre .0) _ (choice (second .before .before)) (pair second) _ (third .if3 .left) (c .before .all-share .ensures) (c .if4 .taken)
+    second-shared _ _ _ (second .before .before .before .before .before .before .before .before .pre .0) _ (choice (second .before .before)) (pair second) _
+    (third .if3 .left) (c .before .all-share .ensures) (c .if4 .taken)
 
 returns-5 : tie.Need-returns-5
 returns-5 c =
     let third = c .before .before in
     let second = third .before .before .before in
-    second-other _ _ _ (second .before .before .before .before .before .before .before .before .pre .0) _ (choice (second .before .before)) (pair second) _ (third .if3 .left) (c .before .all-share .ensures) (c .if4 .left)
+    second-other _ _ _ (second .before .before .before .before .before .before .before .before .pre .0) _ (choice (second .before .before)) (pair second) _
+    (third .if3 .left) (c .before .all-share .ensures) (c .if4 .left)
 
 pub shared-child-spec : {M : Type 1} → statement M
 shared-child-spec =

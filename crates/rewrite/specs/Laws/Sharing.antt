@@ -382,7 +382,8 @@ first-other x t f e = rw e refl
 pub first-no-pair : {b : List ℕ} {i : ℕ} (x : ChoiceAt b i) (r : Bool) → r ≡ isPair (subtree b (i + 1)) → not r ≡ true → 0 ≡ sharedAt i (treesAt b i)
 first-no-pair {b} {i} x r e n =
     let t = subtree b (i + 1) in
-    let none : allPairs (secondOf t) (children (subtree b i)) ≡ false = ap (allPairs (secondOf t)) (x .are) ∙ first-other (secondOf t) t (x .others) (sym e ∙ not-true r n) in
+    let first = first-other (secondOf t) t (x .others) (sym e ∙ not-true r n) in
+    let none : allPairs (secondOf t) (children (subtree b i)) ≡ false = ap (allPairs (secondOf t)) (x .are) ∙ first in
     sym (x .shared ∙ rw (none, and-false (closed (secondOf t) 0)) refl)
 
 none-or-zero : (n : ℕ) → leb n 0 ≡ eqb n 0
@@ -401,7 +402,8 @@ module _ (b extents marks : List ℕ) (s : Surveyed b extents marks) (i : ℕ) (
   shared-by =
       let t = subtree b (i + 1) in
       let r : getD marks (marksEach * second + 2) 0 ≡ reach (subtree b second) = s .each second (w .place) .reach in
-      let c : closed (subtree b second) 0 ≡ eqb (getD marks (marksEach * second + 2) 0) 0 = closed-at (subtree b second) (subtree-sound b (s .sizes .simplifiable) second (w .place)) ∙ none-or-zero (reach (subtree b second)) ∙ ap (λ n. eqb n 0) (sym r) in
+      let whole = subtree-sound b (s .sizes .simplifiable) second (w .place) in
+      let c : closed (subtree b second) 0 ≡ eqb (getD marks (marksEach * second + 2) 0) 0 = closed-at (subtree b second) whole ∙ none-or-zero (reach (subtree b second)) ∙ ap (λ n. eqb n 0) (sym r) in
       let p : i + 2 + records (firstOf t) ≡ second = omega (arith, w .size) in
       x .shared ∙ rw (← w .stand, c, p) refl
 
