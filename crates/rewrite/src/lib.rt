@@ -38,7 +38,7 @@ pub enum Wanted {
 // ---- Writing
 
 // Copies n records from record i on to the buffer's record `at` and on; answers the record after them.
-fn copy_records(table: &[u8], i: usize, n: usize, out: &mut [u8], at: usize) -> usize
+pub fn copy_records(table: &[u8], i: usize, n: usize, out: &mut [u8], at: usize) -> usize
     requires { ⌜ (recordLength * (i + n) ≤ length (now table)) × (recordLength * (at + n) ≤ length (now out)) ⌝ }
     ensures { λ r. ⌜ (r ≡ at + n) × (front r (now (out .exit)) ≡ front at (now (out .entry)) ++ slice (now (table .entry)) i n) ⌝ }
 {
@@ -156,7 +156,7 @@ fn put_record(out: &mut [u8], at: usize, bytes: [u8; RECORD_LENGTH]) -> usize
 }
 
 // Puts a node's record at the buffer's record `at`; answers the record after it.
-fn put_node(out: &mut [u8], at: usize, kind: Kind, limit: Limit, count: u8) -> usize
+pub fn put_node(out: &mut [u8], at: usize, kind: Kind, limit: Limit, count: u8) -> usize
     requires { ⌜ recordLength * (at + 1) ≤ length (now out) ⌝ }
     ensures { λ r. ⌜ (r ≡ at + 1) × (front r (now (out .exit)) ≡ front at (now (out .entry)) ++ recordBytes (nodeOf kind limit) count) ⌝ }
 {
@@ -177,7 +177,7 @@ fn is_sum(kind: Kind) -> bool
 }
 
 // Is the tree at record p an unlimited plain block?
-fn is_bare(table: &[u8], p: usize) -> bool
+pub fn is_bare(table: &[u8], p: usize) -> bool
     requires { ⌜ Simplifiable (now table) ⌝ ∗ ⌜ p < recordCount (now table) ⌝ }
     ensures { λ r. ⌜ r ≡ bare (subtree (now (table .entry)) p) ⌝ }
 {

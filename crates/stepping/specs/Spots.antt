@@ -5,7 +5,9 @@ use mathlib.Core.Option.{Option, none, some}
 use Prim.Native.Nat.{ℕ, _<_, _≤_}
 use Rattle.table.specs.Table.{encodes, recordCount}
 use Rattle.table.specs.Trees.{Forest, Tree, nil, _▸_}
-use Rattle.simplify.specs.Steps.{also, step}
+use Rattle.simplify.specs.Rules.{rule5, rule6, rule7, rule8, rule9}
+use Rattle.simplify.specs.Steps.{also, orElse, step}
+use Rattle.stepping.specs.Nodes.{Node}
 use Rattle.rewrite.specs.Writing.{front}
 
 -- From record `at` on, b becomes the n records at the front of a buffer, and then is the table of these trees; or, where there are none, n is 0.
@@ -17,3 +19,7 @@ Rewritten (some g) b at n out = (0 < n) × (at ≤ recordCount b) × (front at b
 unfoldable pub stepped : Tree → Option Forest
 stepped t = also (λ u. u ▸ nil) (step t)
 
+
+-- rules 5 to 9 at a node
+unfoldable pub laterRule : Node → Forest → Option Tree
+laterRule n f = orElse (rule5 n f) (orElse (rule6 n f) (orElse (rule7 n f) (orElse (rule8 n f) (rule9 n f))))
