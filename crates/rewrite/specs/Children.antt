@@ -2,10 +2,13 @@
 use mathlib.Core.Path.{_≡_}
 use mathlib.Core.Bool.{Bool, cond, false, _||_}
 use mathlib.Core.List.{List, _++_}
+use mathlib.Core.Option.{Option, none, some}
 use Prim.Native.Nat.{ℕ, _+_, _-_}
 use Rattle.table.specs.Table.{recordCount}
 use Rattle.table.specs.Trees.{Forest, Tree, nil, node, _▸_, _⧺_, records}
-use Rattle.simplify.specs.Rules.{bare, children, gives, isZero}
+use Rattle.evaluate.specs.Closed.{isUnlimited}
+use Rattle.simplify.specs.Rules.{bare, children, gives, isZero, limitOf, relimit}
+use Rattle.rewrite.specs.Nodes.{Limit}
 use Rattle.rewrite.specs.Writing.{front, slice}
 use Rattle.rewrite.specs.declared.Wanted.{Wanted}
 
@@ -33,6 +36,11 @@ dissolve p (t ▸ f) = cond (p t) (children t ⧺ f) (t ▸ dissolve p f)
 unfoldable pub childAt : (Tree → Bool) → ℕ → Forest → ℕ
 childAt p i nil = 0
 childAt p i (node n f ▸ g) = cond (any p f) (i + 1 + offset p f) 0
+
+-- the first tree of a row takes a limit, where it has none
+unfoldable pub relimited : Limit → Forest → Option Forest
+relimited l nil = none
+relimited l (t ▸ g) = cond (isUnlimited (limitOf t)) (some (relimit l t ▸ g)) none
 
 -- r records at the front of a buffer: a new record for record i of a table, and the table's others from there on without record p
 pub record Left (b : List ℕ) (i p : ℕ) (top : List ℕ) (r : ℕ) (out : List ℕ) : Type 0 where

@@ -6,3 +6,4 @@ pub mod Settled
 pub mod Sharing
 pub mod Dissolving
 pub mod Blocks
+pub mod Alone

@@ -5,9 +5,9 @@ ghost use mathlib.Core.List.{_++_};
 ghost use Prim.Native.Nat.{_*_, _+_, _-_, _<_, _≤_, max, suc};
 ghost use lib.Dec.{leb};
 ghost use mathlib.Core.Option.{some};
-ghost use lib.ListN.{length};
+ghost use lib.ListN.{drop, length};
 ghost use Rattle.table.specs.Numbers.{mostChildren, mostTime, recordLength};
-ghost use Rattle.table.specs.Table.{encodes, flag, kindByte, limitNum, loopByte, raw, recordBytes, recordCount, valueNum};
+ghost use Rattle.table.specs.Table.{childByte, encodes, firstNode, flag, kindByte, limitNum, loopByte, raw, recordBytes, recordCount, valueNum};
 ghost use Rattle.evaluate.specs.Closed.{isUnlimited};
 ghost use Rattle.simplify.specs.Same.{same, sameKind};
 ghost use Rattle.simplify.specs.Rules.{allPairs, bare, children, gives, isBlock, isPair, isSum, isZero, others, rule2, rule3, rule4, rule5, rule6, rule7, rule8, rule9, timeOfKind};
@@ -16,7 +16,7 @@ ghost use Rattle.subtrees.specs.Facts.{Extents, Surveyed};
 ghost use Rattle.subtrees.specs.Parts.{Simplifiable, subtree, treesAt};
 ghost use Rattle.rewrite.specs.Writing.{Wrote, front, nodeOf, ruleAt, slice};
 ghost use Rattle.rewrite.specs.Settled.{beforeAt, blockAt};
-ghost use Rattle.rewrite.specs.Children.{Left, childAt, wanted};
+ghost use Rattle.rewrite.specs.Children.{Left, childAt, relimited, wanted};
 ghost use Rattle.rewrite.specs.Sharing.{Appended, PairsAt, RoomFor, firstsAt, idle, sameBytes, sharedAt, sharing, topBytes};
 use lists::List;
 use subtrees::MARKS;
@@ -24,6 +24,7 @@ ghost use Rattle.rewrite.specs.Blocks.{Parted, Standing, baresAt, keptRe
 use table::Kind;
 use table::Limit;
 use table::MOST_DEPTH;
+use table::Node;
 use table::Number;
 use table::RECORD_LENGTH;
 use table::WHOLE_RUN;
@@ -165,6 +166,24 @@ pub fn put_node(out: &mut [u8], at: usize, kind: Kind, limit: Limit, count: u8) 
 
 // ---- Children
 
+// The node at record p.
+fn node_at(table: &[u8], p: usize) -> Node
+    requires { ⌜ p < recordCount (now table) ⌝ }
+    ensures { λ r. ⌜ r ≡ firstNode (drop (recordLength * p) (now (table .entry))) ⌝ }
+{
+    let at = RECORD_LENGTH * p;
+    table::read_node(&table[at..])
+}
+
+// How many children it has.
+fn children_at(table: &[u8], p: usize) -> usize
+    requires { ⌜ p < recordCount (now table) ⌝ }
+    ensures { λ r. ⌜ (r ≡ childByte (drop (recordLength * p) (now (table .entry)))) × (r < 256) ⌝ }
+{
+    let at = RECORD_LENGTH * p;
+    table::child_count(&table[at..])
+}
+
 fn is_sum(kind: Kind) -> bool
     ensures { λ r. ⌜ r ≡ isSum kind ⌝ }
 {
@@ -227,11 +246,10 @@ fn gives_way(table: &[u8], p: usize, kind: Kind, count: usize) -> bool
     requires { ⌜ Simplifiable (now table) ⌝ ∗ ⌜ p < recordCount (now table) ⌝ }
     ensures { λ r. ⌜ r ≡ gives kind count (subtree (now (table .entry)) p) ⌝ }
 {
-    let at = RECORD_LENGTH * p;
-    let node = table::read_node(&table[at..]);
+    let node = node_at(table, p);
     let own = node.kind;
     let limit = node.limit;
-    let more = table::child_count(&table[at..]);
+    let more = children_at(table, p);
     same_kind(own, kind) & is_unlimited(limit) & has_room(count, more)
 }
 
@@ -252,8 +270,7 @@ fn first_child(table: &[u8], extents: &[usize], i: usize, which: Wanted) -> usiz
     requires { ⌜ Extents (now table) (now extents) ⌝ ∗ ⌜ i < recordCount (now table) ⌝ }
     ensures { λ r. ⌜ r ≡ childAt (wanted which) i (treesAt (now (table .entry)) i) ⌝ }
 {
-    let start = RECORD_LENGTH * i;
-    let mut left = table::child_count(&table[start..]);
+    let mut left = children_at(table, i);
     let mut p = i + 1;
     while 0 < left {
         if is_wanted(which, table, p) {
@@ -279,6 +296,24 @@ fn dissolve_at(table: &[u8], i: usize, p: usize, kind: Kind, limit: Limit, count
     copy_records(table, after, records - after, out, end)
 }
 
+// What the table becomes from record p on where the unlimited tree there takes this limit: answers how many records that is, or 0 where it has a limit.
+fn relimit_at(table: &[u8], p: usize, limit: Limit, out: &mut [u8]) -> usize
+    requires { ⌜ Simplifiable (now table) ⌝ ∗ ⌜ p < recordCount (now table) ⌝ ∗ ⌜ length (now table) ≤ length (now out) ⌝ }
+    ensures { λ r. ⌜ Wrote (relimited limit (treesAt (now (table .entry)) p)) r (now (out .exit)) ⌝ }
+{
+    let node = node_at(table, p);
+    let kind = node.kind;
+    let own = node.limit;
+    if !is_unlimited(own) {
+        return 0;
+    }
+    let count = table[RECORD_LENGTH * p + 2];
+    let records = table.len() / RECORD_LENGTH;
+    let after = p + 1;
+    let next = put_node(out, 0, kind, limit, count);
+    copy_records(table, after, records - after, out, next)
+}
+
 // ---- Rules: each writes what the table becomes from record i on, and answers how many records that is; 0 where the rule does not fit
 
 // 2. The first unlimited child of the same kind gives way to its children.
@@ -286,20 +321,18 @@ pub fn rule2_at(table: &[u8], extents: &[usize], i: usize, out: &mut [u8]) -> us
     requires { ⌜ Extents (now table) (now extents) ⌝ ∗ ⌜ i < recordCount (now table) ⌝ ∗ ⌜ length (now table) ≤ length (now out) ⌝ }
     ensures { λ r. ⌜ Wrote (ruleAt rule2 (treesAt (now (table .entry)) i)) r (now (out .exit)) ⌝ }
 {
-    let start = RECORD_LENGTH * i;
-    let node = table::read_node(&table[start..]);
+    let node = node_at(table, i);
     let kind = node.kind;
     let limit = node.limit;
     if !is_sum(kind) {
         return 0;
     }
-    let count = table::child_count(&table[start..]);
+    let count = children_at(table, i);
     let p = first_child(table, extents, i, Wanted::GivesWay(kind, count));
     if p == 0 {
         return 0;
     }
-    let at = RECORD_LENGTH * p;
-    let more = table::child_count(&table[at..]);
+    let more = children_at(table, p);
     let all = ((count + more - 1) % 256) as u8;
     dissolve_at(table, i, p, kind, limit, all, out)
 }
@@ -309,7 +342,21 @@ pub fn rule3_at(table: &[u8], extents: &[usize], i: usize, out: &mut [u8]) -> us
     requires { ⌜ Extents (now table) (now extents) ⌝ ∗ ⌜ i < recordCount (now table) ⌝ ∗ ⌜ length (now table) ≤ length (now out) ⌝ }
     ensures { λ r. ⌜ Wrote (ruleAt rule3 (treesAt (now (table .entry)) i)) r (now (out .exit)) ⌝ }
 {
-    0
+    let node = node_at(table, i);
+    let kind = node.kind;
+    let limit = node.limit;
+    if !is_sum(kind) {
+        return 0;
+    }
+    if children_at(table, i) != 1 {
+        return 0;
+    }
+    let first = i + 1;
+    if is_unlimited(limit) {
+        let records = table.len() / RECORD_LENGTH;
+        return copy_records(table, first, records - first, out, 0);
+    }
+    relimit_at(table, first, limit, out)
 }
 
 // 5. In a sequence or choice of at least two children, the first unlimited plain block of time 0 goes.
@@ -317,14 +364,13 @@ pub fn rule5_at(table: &[u8], extents: &[usize], i: usize, out: &mut [u8]) -> us
     requires { ⌜ Extents (now table) (now extents) ⌝ ∗ ⌜ i < recordCount (now table) ⌝ ∗ ⌜ length (now table) ≤ length (now out) ⌝ }
     ensures { λ r. ⌜ Wrote (ruleAt rule5 (treesAt (now (table .entry)) i)) r (now (out .exit)) ⌝ }
 {
-    let start = RECORD_LENGTH * i;
-    let node = table::read_node(&table[start..]);
+    let node = node_at(table, i);
     let kind = node.kind;
     let limit = node.limit;
     if !is_sum(kind) {
         return 0;
     }
-    let count = table::child_count(&table[start..]);
+    let count = children_at(table, i);
     if count < 2 {
         return 0;
     }

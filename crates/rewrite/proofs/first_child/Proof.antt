@@ -1,5 +1,4 @@
 -- The invariant: the first child that is looked for is among those left. The measure: how many are left.
-use Rattle.table.specs.Laws.Reading.{part-long}
 use Rattle.rewrite.specs.Children.{wanted}
 use Rattle.rewrite.specs.Laws.Children.{Looking, look-first, look-found, look-inside, look-next, look-none}
 use borrow.Author.Needs.{needs}
@@ -7,34 +6,22 @@ use Rattle.rewrite.proofs.first_child.Statement.{statement}
 use Rattle.rewrite.proofs.first_child.Tie as tie
 
 abbrev Inv-loop : tie.InvT-loop
-Inv-loop table extents i which start left₀ p₀ left p = Looking table extents i (wanted which) left p
+Inv-loop table extents i which left₀ p₀ left p = Looking table extents i (wanted which) left p
 
 abbrev μ-loop : tie.MeasureT-loop
-μ-loop table extents i which start left₀ p₀ left p = left
+μ-loop table extents i which left₀ p₀ left p = left
 
-mul-start : tie.Need-mul-start Inv-loop μ-loop
-mul-start c = search needs
-
-sub-child-count : tie.Need-sub-child-count Inv-loop μ-loop
-sub-child-count c = search needs
-
-part-child-count-start : tie.Need-part-child-count-start Inv-loop μ-loop
-part-child-count-start c = search needs
-
-part-child-count-end : tie.Need-part-child-count-end Inv-loop μ-loop
-part-child-count-end c = search needs
-
-child-count-requires : tie.Need-child-count-requires Inv-loop μ-loop
-child-count-requires c κs = let start = c .before .before .before in part-long (start .args .table .now) _ (start .pre .1)
+children-at-requires : tie.Need-children-at-requires Inv-loop μ-loop
+children-at-requires c κs = search needs
 
 add-p : tie.Need-add-p Inv-loop μ-loop
 add-p c = search needs
 
 loop-holds : tie.Need-loop-holds Inv-loop μ-loop
 loop-holds c =
-    let start = c .before .before .before .before in
+    let start = c .before .before .before in
     let a = start .args in
-    look-first (a .table .now) (a .extents .now) (a .i) (wanted (a .which)) _ (start .pre .0) (start .pre .1) (c .child-count .ensures .0)
+    look-first (a .table .now) (a .extents .now) (a .i) (wanted (a .which)) _ (start .pre .0) (start .pre .1) (c .children-at .ensures .0)
 
 is-wanted-requires : tie.Need-is-wanted-requires Inv-loop μ-loop
 is-wanted-requires c κs =
@@ -49,22 +36,19 @@ returns c =
 mul-p : tie.Need-mul-p Inv-loop μ-loop
 mul-p c =
     let turn = c .before .before in
-    let l = turn .before .loop in
-    let inside = look-inside _ _ _ _ _ _ (l .inv) (turn .loop-test .taken) in
+    let inside = look-inside _ _ _ _ _ _ (turn .before .loop .inv) (turn .loop-test .taken) in
     search needs
 
 shared-slice-read-p : tie.Need-shared-slice-read-p Inv-loop μ-loop
 shared-slice-read-p c =
     let turn = c .before .before .before in
-    let l = turn .before .loop in
-    let inside = look-inside _ _ _ _ _ _ (l .inv) (turn .loop-test .taken) in
+    let inside = look-inside _ _ _ _ _ _ (turn .before .loop .inv) (turn .loop-test .taken) in
     search needs
 
 add-p-2 : tie.Need-add-p-2 Inv-loop μ-loop
 add-p-2 c =
     let turn = c .before .before .before in
-    let l = turn .before .loop in
-    let inside = look-inside _ _ _ _ _ _ (l .inv) (turn .loop-test .taken) in
+    let inside = look-inside _ _ _ _ _ _ (turn .before .loop .inv) (turn .loop-test .taken) in
     search needs
 
 sub-left : tie.Need-sub-left Inv-loop μ-loop
@@ -87,11 +71,7 @@ first-child-spec =
     (tie.spec
     Inv-loop
     μ-loop
-    mul-start
-    sub-child-count
-    part-child-count-start
-    part-child-count-end
-    child-count-requires
+    children-at-requires
     add-p
     loop-holds
     is-wanted-requires

@@ -6,20 +6,8 @@ use borrow.Author.Needs.{needs}
 use Rattle.rewrite.proofs.rule5_at.Statement.{statement}
 use Rattle.rewrite.proofs.rule5_at.Tie as tie
 
-mul-start : tie.Need-mul-start
-mul-start c = search needs
-
-sub-read-node : tie.Need-sub-read-node
-sub-read-node c = search needs
-
-part-read-node-start : tie.Need-part-read-node-start
-part-read-node-start c = search needs
-
-part-read-node-end : tie.Need-part-read-node-end
-part-read-node-end c = search needs
-
-read-node-requires : tie.Need-read-node-requires
-read-node-requires c κs = search needs
+node-at-requires : tie.Need-node-at-requires
+node-at-requires c κs = search needs
 
 is-sum-requires : tie.Need-is-sum-requires
 is-sum-requires c κs = search needs
@@ -28,32 +16,22 @@ returns : tie.Need-returns
 returns c =
     let sum = c .before in
     let node = sum .before in
-    let start = node .before .before .before .before .before in
+    let start = node .before .before .before .before in
     let a = start .args in
-    let (s, lm) = start .pre in
-    let l = lm .0 in
-    no-sum (a .table .now) (s .simplifiable) (a .i) l rule5 _ rule5-no-sum (node .read-node .ensures) (sum .is-sum .ensures) (c .if1 .taken)
+    let (s, inside) = start .pre in
+    no-sum (a .table .now) (s .simplifiable) (a .i) (inside .0) rule5 _ rule5-no-sum (node .node-at .ensures) (sum .is-sum .ensures) (c .if1 .taken)
 
-sub-child-count : tie.Need-sub-child-count
-sub-child-count c = search needs
-
-part-child-count-start : tie.Need-part-child-count-start
-part-child-count-start c = search needs
-
-part-child-count-end : tie.Need-part-child-count-end
-part-child-count-end c = search needs
-
-child-count-requires : tie.Need-child-count-requires
-child-count-requires c κs = search needs
+children-at-requires : tie.Need-children-at-requires
+children-at-requires c κs = search needs
 
 returns-2 : tie.Need-returns-2
 returns-2 c =
     let count = c .before in
-    let start = count .before .before .before .before .before .before .before .before .before in
+    let node = count .before .before .before in
+    let start = node .before .before .before .before in
     let a = start .args in
-    let (s, lm) = start .pre in
-    let l = lm .0 in
-    few-zero (a .table .now) (s .simplifiable) (a .i) l _ (count .child-count .ensures .0) (c .if2 .taken)
+    let (s, inside) = start .pre in
+    few-zero (a .table .now) (s .simplifiable) (a .i) (inside .0) _ (count .children-at .ensures .0) (c .if2 .taken)
 
 first-child-requires : tie.Need-first-child-requires
 first-child-requires c κs = search needs
@@ -61,11 +39,11 @@ first-child-requires c κs = search needs
 returns-3 : tie.Need-returns-3
 returns-3 c =
     let found = c .before in
-    let start = found .before .before .before .before .before .before .before .before .before .before .before in
+    let node = found .before .before .before .before .before in
+    let start = node .before .before .before .before in
     let a = start .args in
-    let (s, lm) = start .pre in
-    let l = lm .0 in
-    none-zero (a .table .now) (s .simplifiable) (a .i) l _ (found .first-child .ensures) (c .if3 .taken)
+    let (s, inside) = start .pre in
+    none-zero (a .table .now) (s .simplifiable) (a .i) (inside .0) _ (found .first-child .ensures) (c .if3 .taken)
 
 sub-fewer : tie.Need-sub-fewer
 sub-fewer c = search needs
@@ -77,12 +55,12 @@ dissolve-at-requires : tie.Need-dissolve-at-requires
 dissolve-at-requires c κs =
     let at = c .before in
     let found = at .before in
-    let start = found .before .before .before .before .before .before .before .before .before .before .before in
+    let node = found .before .before .before .before .before in
+    let start = node .before .before .before .before in
     let a = start .args in
-    let (s, lm) = start .pre in
-    let l = lm .0 in
-    let (_, g) = zero-child (a .table .now) (s .simplifiable) (a .i) l (found .first-child .ensures) (at .if3 .left) in
-    (omega (arith, g .place), g .inside, lm .1)
+    let (s, inside) = start .pre in
+    let (_, g) = zero-child (a .table .now) (s .simplifiable) (a .i) (inside .0) (found .first-child .ensures) (at .if3 .left) in
+    (omega (arith, g .place), g .inside, inside .1)
 
 same-length : tie.Need-same-length
 same-length c = search needs
@@ -94,22 +72,21 @@ returns-4 c =
     let found = at .before in
     let two = found .before in
     let count = two .before in
-    let sum = count .before .before .before in
+    let sum = count .before .before in
     let node = sum .before in
-    let start = node .before .before .before .before .before in
+    let start = node .before .before .before .before in
     let a = start .args in
-    let (s, lm) = start .pre in
-    let l = lm .0 in
-    let (e, few) = count .child-count .ensures in
+    let (s, inside) = start .pre in
+    let (e, few) = count .children-at .ensures in
     zero-gone
     (a .table .now)
     (s .simplifiable)
     (a .i)
-    l
+    (inside .0)
     _
-    (node .read-node .ensures)
+    (node .node-at .ensures)
     (sum .is-sum .ensures)
-    (count .before .before .if1 .left)
+    (count .before .if1 .left)
     e
     few
     (two .if2 .left)
@@ -121,17 +98,10 @@ pub rule5-at-spec : {M : Type 1} → statement M
 rule5-at-spec =
     tie.close
     (tie.spec
-    mul-start
-    sub-read-node
-    part-read-node-start
-    part-read-node-end
-    read-node-requires
+    node-at-requires
     is-sum-requires
     returns
-    sub-child-count
-    part-child-count-start
-    part-child-count-end
-    child-count-requires
+    children-at-requires
     returns-2
     first-child-requires
     returns-3

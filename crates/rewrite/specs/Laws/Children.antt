@@ -17,7 +17,6 @@ use Rattle.table.specs.Questions.{arity, countInRange, kindInRange, limitInRang
 use Rattle.table.specs.Table.{childByte, encodes, field, firstNode, flag, kindByte, limitNum, loopByte, raw, recordBytes, recordCount, top, valueNum}
 use Rattle.table.specs.Trees.{Forest, Tree, nil, node, _▸_, _⧺_, records, recordsIn, size}
 use Rattle.table.specs.Laws.NotRefused.{tree-writes}
-use Rattle.table.specs.Laws.Reading.{part-from, partAt}
 use Rattle.table.specs.Laws.Trees.{some-records}
 use Rattle.table.specs.Laws.RoundTrip.{Writes, WritesNode, children-bytes, head-bytes, kind-value}
 use Rattle.evaluate.specs.Closed.{isPlain, isUnlimited, plainKind}
@@ -119,11 +118,11 @@ module _ (b : List ℕ) (p : ℕ) (h : Here b p) where
   unfolding subtree top
   subtree-at = ap top (h .here)
 
-  pub node-at : firstNode (partAt b p) ≡ h .own
-  node-at = rw (part-from, h .bytes) (head-bytes (h .own) (size (h .kids)) _ (node-writes (h .own) (h .kids) (h .sound .fair .listed)))
+  pub node-at : firstNode (drop (recordLength * p) b) ≡ h .own
+  node-at = rw (h .bytes) (head-bytes (h .own) (size (h .kids)) _ (node-writes (h .own) (h .kids) (h .sound .fair .listed)))
 
-  pub count-at : childByte (partAt b p) ≡ size (h .kids)
-  count-at = rw (part-from, h .bytes) (children-bytes (h .own) (size (h .kids)) _)
+  pub count-at : childByte (drop (recordLength * p) b) ≡ size (h .kids)
+  count-at = rw (h .bytes) (children-bytes (h .own) (size (h .kids)) _)
 
   byte-at : (j : ℕ) → getD b (recordLength * p + j) 0 ≡ getD (recordBytes (h .own) (size (h .kids)) ++ encodes (h .kids ⧺ h .later)) j 0
   byte-at j = sym (getD-drop (recordLength * p) b j 0) ∙ ap (λ (x : List ℕ). getD x j 0) (h .bytes)
@@ -135,6 +134,10 @@ module _ (b : List ℕ) (p : ℕ) (h : Here b p) where
   flags-at : getD b (recordLength * p + 1) 0 ≡ flag (valueNum (h .own .kind)) + 2 * flag (limitNum (h .own .limit))
   unfolding recordBytes
   flags-at = byte-at 1
+
+  pub children-byte : getD b (recordLength * p + 2) 0 ≡ size (h .kids)
+  unfolding recordBytes
+  children-byte = byte-at 2
 
   loop-at : getD b (recordLength * p + 3) 0 ≡ loopByte (h .own .limit)
   unfolding recordBytes
@@ -154,7 +157,7 @@ module _ (b : List ℕ) (p : ℕ) (h : Here b p) where
   pub zero-at : {r : Bool} {v : ℕ} → r ≡ bare (subtree b p) → v ≡ field b (recordLength * p + 8) 8 → (r && eqb v 0) ≡ isZero (subtree b p)
   zero-at e d = rw (e, d, value-at, subtree-at) (zero-fields (h .own .kind) (h .own .limit) (h .kids))
 
-  pub gives-at : (k : Kind) (c : ℕ) {n : Node} {m : ℕ} {x y z : Bool} → n ≡ firstNode (partAt b p) → m ≡ childByte (partAt b p)
+  pub gives-at : (k : Kind) (c : ℕ) {n : Node} {m : ℕ} {x y z : Bool} → n ≡ firstNode (drop (recordLength * p) b) → m ≡ childByte (drop (recordLength * p) b)
       → x ≡ sameKind (n .kind) k → y ≡ isUnlimited (n .limit) → z ≡ leb (c + m) (suc mostChildren)
       → (x && y && z) ≡ gives k c (subtree b p)
   unfolding gives
@@ -173,7 +176,7 @@ pub record Looking (b extents : List ℕ) (i : ℕ) (q : Tree → Bool) (left p 
   pub many : size todo ≡ left
   pub value : childAt q i (treesAt b i) ≡ cond (any q todo) (p + offset q todo) 0
 
-pub look-first : (b extents : List ℕ) (i : ℕ) (q : Tree → Bool) (left : ℕ) → Extents b extents → i < recordCount b → left ≡ childByte (partAt b i)
+pub look-first : (b extents : List ℕ) (i : ℕ) (q : Tree → Bool) (left : ℕ) → Extents b extents → i < recordCount b → left ≡ childByte (drop (recordLength * i) b)
     → Looking b extents i q left (i + 1)
 look-first b extents i q left s l e =
     let h = here-at b (s .simplifiable) i l in

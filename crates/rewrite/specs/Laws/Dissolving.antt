@@ -15,7 +15,6 @@ use Rattle.booleans.specs.Laws.{T-is, both, is-T}
 use Rattle.table.specs.Numbers.{mostChildren, recordLength}
 use Rattle.table.specs.Table.{childByte, encode, encodes, firstNode, recordBytes, recordCount, top}
 use Rattle.table.specs.Trees.{Forest, Tree, nil, node, _▸_, _⧺_, records, recordsIn, size}
-use Rattle.table.specs.Laws.Reading.{partAt}
 use Rattle.simplify.specs.Rules.{anyGives, anyZero, bare, children, giveWay, gives, isSum, isZero, rule2, rule5, when, without}
 use Rattle.simplify.specs.Steps.{also}
 use Rattle.subtrees.specs.Parts.{Simplifiable, treesAt}
@@ -169,7 +168,7 @@ module _ (b : List ℕ) (s : Simplifiable b) (i : ℕ) (h : Here b i) (q : Tree 
       let some = records-of (w .found) in
       (a, record { part = w; place = at; here = stands; inside = omega arith })
 
-  pub child-size : (p : ℕ) (c : Child p) → childByte (partAt b p) ≡ size (children (c .part .found))
+  pub child-size : (p : ℕ) (c : Child p) → childByte (drop (recordLength * p) b) ≡ size (children (c .part .found))
   unfolding children top
   child-size p c =
       let g = here-at b s p (c .inside) in
@@ -281,7 +280,7 @@ unfolding Wrote
 wrote-none o out e = subst (λ (x : Option Forest). Wrote x 0 out) (sym e) refl
 
 module _ (b : List ℕ) (s : Simplifiable b) (i : ℕ) (l : i < recordCount b) where
-  abbrev it : Here b i
+  abbrev pub it : Here b i
   it = here-at b s i l
 
   pub rule-at : (rule : Node → Forest → Option Tree) (o : Option Tree) → rule (it .own) (it .kids) ≡ o
@@ -295,32 +294,38 @@ module _ (b : List ℕ) (s : Simplifiable b) (i : ℕ) (l : i < recordCount b) w
 
   -- a node that is no sequence and no choice
   pub no-sum : (rule : Node → Forest → Option Tree) (out : List ℕ) {n : Node} {x : Bool} → ((n : Node) (f : Forest) → isSum (n .kind) ≡ false → rule n f ≡ none)
-      → n ≡ firstNode (partAt b i) → x ≡ isSum (n .kind) → not x ≡ true → Wrote (ruleAt rule (treesAt b i)) 0 out
+      → n ≡ firstNode (drop (recordLength * i) b) → x ≡ isSum (n .kind) → not x ≡ true → Wrote (ruleAt rule (treesAt b i)) 0 out
   no-sum rule out {n} {x} k e d t =
       unfit-at rule out (k (it .own) (it .kids) (ap (λ (m : Node). isSum (m .kind)) (sym (e ∙ node-at b i it)) ∙ sym d ∙ not-true x t))
 
-  abbrev giving-test : Tree → Bool
+  abbrev pub giving-test : Tree → Bool
   giving-test = gives (it .own .kind) (size (it .kids))
 
-  is-sum-at : {n : Node} {x : Bool} → n ≡ firstNode (partAt b i) → x ≡ isSum (n .kind) → not x ≡ false → isSum (it .own .kind) ≡ true
+  pub is-sum-at : {n : Node} {x : Bool} → n ≡ firstNode (drop (recordLength * i) b) → x ≡ isSum (n .kind) → not x ≡ false → isSum (it .own .kind) ≡ true
   is-sum-at {n} {x} e d t = ap (λ (m : Node). isSum (m .kind)) (sym (e ∙ node-at b i it)) ∙ sym d ∙ not-false x t
 
-  giving-at : {n : Node} {c p : ℕ} → n ≡ firstNode (partAt b i) → c ≡ childByte (partAt b i) → p ≡ childAt (wanted (Wanted.GivesWay (n .kind) c)) i (treesAt b i)
+  giving-at : {n : Node} {c p : ℕ} → n ≡ firstNode (drop (recordLength * i) b) → c ≡ childByte (drop (recordLength * i) b) → p ≡ childAt (wanted (Wanted.GivesWay (n .kind) c)) i (treesAt b i)
       → p ≡ childAt giving-test i (treesAt b i)
   unfolding wanted
   giving-at e d k = k ∙ ap₂ (λ (m : Node) (x : ℕ). childAt (gives (m .kind) x) i (treesAt b i)) (e ∙ node-at b i it) (d ∙ count-at b i it)
 
-  pub none-gives : (out : List ℕ) {n : Node} {c p : ℕ} → n ≡ firstNode (partAt b i) → c ≡ childByte (partAt b i)
+  pub none-gives : (out : List ℕ) {n : Node} {c p : ℕ} → n ≡ firstNode (drop (recordLength * i) b) → c ≡ childByte (drop (recordLength * i) b)
       → p ≡ childAt (wanted (Wanted.GivesWay (n .kind) c)) i (treesAt b i) → p ≡ 0 → Wrote (ruleAt rule2 (treesAt b i)) 0 out
   none-gives out e d k z =
       unfit-at rule2 out (rule2-none (it .own) (it .kids) (child-none b s i it giving-test _ (giving-at e d k) z))
 
-  pub giver : {n : Node} {c p : ℕ} → n ≡ firstNode (partAt b i) → c ≡ childByte (partAt b i) → p ≡ childAt (wanted (Wanted.GivesWay (n .kind) c)) i (treesAt b i)
+  pub giver : {n : Node} {c p : ℕ} → n ≡ firstNode (drop (recordLength * i) b) → c ≡ childByte (drop (recordLength * i) b) → p ≡ childAt (wanted (Wanted.GivesWay (n .kind) c)) i (treesAt b i)
       → (p ≡ 0 → ⊥) → (any giving-test (it .kids) ≡ true) × Child b s i it giving-test p
   giver e d k z = child-of b s i it giving-test _ (giving-at e d k) z
 
-  pub gave-way : (out : List ℕ) {n : Node} {c p m r : ℕ} {x : Bool} → n ≡ firstNode (partAt b i) → x ≡ isSum (n .kind) → not x ≡ false
-      → c ≡ childByte (partAt b i) → p ≡ childAt (wanted (Wanted.GivesWay (n .kind) c)) i (treesAt b i) → (p ≡ 0 → ⊥) → m ≡ childByte (partAt b p)
+  pub giver-counts : {n : Node} {c p m : ℕ} → n ≡ firstNode (drop (recordLength * i) b) → c ≡ childByte (drop (recordLength * i) b)
+      → p ≡ childAt (wanted (Wanted.GivesWay (n .kind) c)) i (treesAt b i) → (p ≡ 0 → ⊥) → m ≡ childByte (drop (recordLength * p) b) → 1 ≤ c + m
+  giver-counts {p = p} e d k z dm =
+      let (_, g) = giver e d k z in
+      omega (arith, gone-size giving-test (it .kids) (g .part), count-at b i it, child-size b s i it giving-test p g)
+
+  pub gave-way : (out : List ℕ) {n : Node} {c p m r : ℕ} {x : Bool} → n ≡ firstNode (drop (recordLength * i) b) → x ≡ isSum (n .kind) → not x ≡ false
+      → c ≡ childByte (drop (recordLength * i) b) → p ≡ childAt (wanted (Wanted.GivesWay (n .kind) c)) i (treesAt b i) → (p ≡ 0 → ⊥) → m ≡ childByte (drop (recordLength * p) b)
       → Left b i p (recordBytes n ((c + m - 1) % 256)) r out → Wrote (ruleAt rule2 (treesAt b i)) r out
   unfolding also
   gave-way out {n} {c} {p} {m} {r} e dx tx d k z dm w =
@@ -341,7 +346,7 @@ module _ (b : List ℕ) (s : Simplifiable b) (i : ℕ) (l : i < recordCount b) w
   unfolding wanted
   zero-row k = k
 
-  pub few-zero : (out : List ℕ) {c : ℕ} → c ≡ childByte (partAt b i) → c < 2 → Wrote (ruleAt rule5 (treesAt b i)) 0 out
+  pub few-zero : (out : List ℕ) {c : ℕ} → c ≡ childByte (drop (recordLength * i) b) → c < 2 → Wrote (ruleAt rule5 (treesAt b i)) 0 out
   few-zero out d l = unfit-at rule5 out (rule5-few (it .own) (it .kids) (omega (arith, count-at b i it)))
 
   pub none-zero : (out : List ℕ) {p : ℕ} → p ≡ childAt (wanted Wanted.Zero) i (treesAt b i) → p ≡ 0 → Wrote (ruleAt rule5 (treesAt b i)) 0 out
@@ -350,8 +355,8 @@ module _ (b : List ℕ) (s : Simplifiable b) (i : ℕ) (l : i < recordCount b) w
   pub zero-child : {p : ℕ} → p ≡ childAt (wanted Wanted.Zero) i (treesAt b i) → (p ≡ 0 → ⊥) → (any isZero (it .kids) ≡ true) × Child b s i it isZero p
   zero-child k z = child-of b s i it isZero _ (zero-row k) z
 
-  pub zero-gone : (out : List ℕ) {n : Node} {c p r : ℕ} {x : Bool} → n ≡ firstNode (partAt b i) → x ≡ isSum (n .kind) → not x ≡ false
-      → c ≡ childByte (partAt b i) → c < 256 → 2 ≤ c → p ≡ childAt (wanted Wanted.Zero) i (treesAt b i) → (p ≡ 0 → ⊥)
+  pub zero-gone : (out : List ℕ) {n : Node} {c p r : ℕ} {x : Bool} → n ≡ firstNode (drop (recordLength * i) b) → x ≡ isSum (n .kind) → not x ≡ false
+      → c ≡ childByte (drop (recordLength * i) b) → c < 256 → 2 ≤ c → p ≡ childAt (wanted Wanted.Zero) i (treesAt b i) → (p ≡ 0 → ⊥)
       → Left b i p (recordBytes n ((c - 1) % 256)) r out → Wrote (ruleAt rule5 (treesAt b i)) r out
   unfolding also size
   zero-gone out {n} {c} {p} {r} e dx tx d few two k z w =
