@@ -284,7 +284,15 @@ fn first_child(table: &[u8], extents: &[usize], i: usize, which: Wanted) -> usiz
 
 // What the table becomes from record i on where the child at record p gives way to its own children: the node's record, with another number of
 // children, and the others without record p. Answers how many records that is.
-fn dissolve_at(table: &[u8], i: usize, p: usize, kind: Kind, limit: Limit, count: u8, out: &mut [u8]) -> usize
+fn dissolve_at(
+    table: &[u8],
+    i: usize,
+    p: usize,
+    kind: Kind,
+    limit: Limit,
+    count: u8,
+    out: &mut [u8],
+) -> usize
     requires { ⌜ (i < p) × (p < recordCount (now table)) × (length (now table) ≤ length (now out)) ⌝ }
     ensures { λ r. ⌜ Left (now (table .entry)) i p (recordBytes (nodeOf kind limit) count) r (now (out .exit)) ⌝ }
 {

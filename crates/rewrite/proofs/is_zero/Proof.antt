@@ -1,5 +1,4 @@
-use native.Mathlib.Omega.{arith}
-use Rattle.subtrees.specs.Laws.Parts.{here-at, length-is}
+use Rattle.subtrees.specs.Laws.Parts.{here-at}
 use Rattle.rewrite.specs.Laws.Children.{zero-at}
 use borrow.Author.Needs.{needs}
 use Rattle.rewrite.proofs.is_zero.Statement.{statement}

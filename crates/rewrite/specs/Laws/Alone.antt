@@ -1,22 +1,22 @@
 -- A node of one child, in trees and in records: rule 3.
-use mathlib.Core.Path.{_≡_, refl, ap, ap₂, sym, _∙_, subst}
+use mathlib.Core.Path.{_≡_, refl, ap, ap₂, sym, _∙_}
 use mathlib.Core.Bool.{Bool, true, false, cond, not}
 use mathlib.Core.List.{List, _++_}
 use mathlib.Core.Option.{Option, none, some}
-use Prim.Native.Nat.{ℕ, suc, zero, _+_, _*_, _-_, _<_, _≤_}
+use Prim.Native.Nat.{ℕ, _+_, _*_, _-_, _<_}
 use native.Mathlib.Numerals.{add-one}
 use native.Mathlib.Omega.{arith}
 use lib.ListN.{drop, getD}
 use borrow.Author.Tests.{not-false, not-true}
 use Rattle.table.specs.Numbers.{recordLength}
-use Rattle.table.specs.Table.{childByte, encodes, firstNode, recordBytes, recordCount}
+use Rattle.table.specs.Table.{childByte, firstNode, recordBytes, recordCount}
 use Rattle.table.specs.Trees.{Forest, Tree, nil, node, _▸_, _⧺_, records, recordsIn, size}
 use Rattle.table.specs.Laws.Trees.{some-records}
 use Rattle.evaluate.specs.Closed.{isUnlimited}
 use Rattle.simplify.specs.Rules.{alone, isSum, limitOf, relimit, rule3, when}
 use Rattle.simplify.specs.Steps.{also}
 use Rattle.subtrees.specs.Parts.{Simplifiable, treesAt}
-use Rattle.subtrees.specs.Laws.Parts.{Here, here-at, records-at}
+use Rattle.subtrees.specs.Laws.Parts.{records-at}
 use Rattle.rewrite.specs.Nodes.{Limit, Node}
 use Rattle.rewrite.specs.Children.{relimited}
 use Rattle.rewrite.specs.Writing.{Wrote, front, nodeOf, ruleAt, slice}
@@ -86,7 +86,7 @@ module _ (b : List ℕ) (s : Simplifiable b) (p : ℕ) (l : p < recordCount b) w
       let many = records-at b s p in
       let row = ap recordsIn (h .here) in
       let top : y ≡ recordBytes (nodeOf (h .own .kind) m) (size (h .kids)) =
-        f ∙ ap₂ (λ (z : Node) (j : ℕ). recordBytes (nodeOf (z .kind) m) j) (e ∙ node-at b p h) (children-byte b p h) in
+      f ∙ ap₂ (λ (z : Node) (j : ℕ). recordBytes (nodeOf (z .kind) m) j) (e ∙ node-at b p h) (children-byte b p h) in
       let next : treesAt b (p + 1) ≡ h .kids ⧺ h .later = rw add-one (h .next) in
       wrote-as
       r
@@ -129,7 +129,7 @@ module _ (b : List ℕ) (s : Simplifiable b) (i : ℕ) (l : i < recordCount b) w
   child-alone out {r = r} e dx tx d o du tu k g =
       let h = it b s i l in
       let row : ruleAt rule3 (treesAt b i) ≡ some (treesAt b (i + 1)) =
-        rule3-row ∙ rule3-bare (h .own) (h .kids) (h .later) (is-sum-at b s i l e dx tx) (one-child d o) (unlimited-at b s i l e du ∙ tu) ∙ ap some (sym next-row) in
+      rule3-row ∙ rule3-bare (h .own) (h .kids) (h .later) (is-sum-at b s i l e dx tx) (one-child d o) (unlimited-at b s i l e du ∙ tu) ∙ ap some (sym next-row) in
       wrote-as r out row (k ∙ sym (records-at b s (i + 1)), g ∙ rest-slice b s (i + 1))
 
   -- a limited one: its child takes the limit, where it has none
@@ -139,7 +139,7 @@ module _ (b : List ℕ) (s : Simplifiable b) (i : ℕ) (l : i < recordCount b) w
   child-limited r out {n} e dx tx d o du tu w =
       let h = it b s i l in
       let row : ruleAt rule3 (treesAt b i) ≡ relimited (n .limit) (treesAt b (i + 1)) =
-        rule3-row
-        ∙ rule3-limited (h .own) (h .kids) (h .later) (is-sum-at b s i l e dx tx) (one-child d o) (unlimited-at b s i l e du ∙ tu)
-        ∙ ap₂ (λ (m : Node) (f : Forest). relimited (m .limit) f) (sym (e ∙ node-at b i h)) (sym next-row) in
+      rule3-row
+      ∙ rule3-limited (h .own) (h .kids) (h .later) (is-sum-at b s i l e dx tx) (one-child d o) (unlimited-at b s i l e du ∙ tu)
+      ∙ ap₂ (λ (m : Node) (f : Forest). relimited (m .limit) f) (sym (e ∙ node-at b i h)) (sym next-row) in
       wrote-as r out row w

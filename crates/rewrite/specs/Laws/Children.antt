@@ -13,7 +13,7 @@ use Rattle.booleans.specs.Tests.{_and_}
 use Rattle.booleans.specs.Laws.{and-is, both}
 use Rattle.table.specs.Bytes.{fromBytes, toBytes}
 use Rattle.table.specs.Numbers.{mostChildren, recordLength}
-use Rattle.table.specs.Questions.{arity, countInRange, kindInRange, limitInRange, listed, listedIn}
+use Rattle.table.specs.Questions.{arity, countInRange, limitInRange, listed}
 use Rattle.table.specs.Table.{childByte, encodes, field, firstNode, flag, kindByte, limitNum, loopByte, raw, recordBytes, recordCount, top, valueNum}
 use Rattle.table.specs.Trees.{Forest, Tree, nil, node, _▸_, _⧺_, records, recordsIn, size}
 use Rattle.table.specs.Laws.NotRefused.{tree-writes}

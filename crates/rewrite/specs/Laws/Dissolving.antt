@@ -3,11 +3,11 @@ use mathlib.Core.Path.{_≡_, refl, ap, ap₂, sym, _∙_, subst}
 use mathlib.Core.Bool.{Bool, true, false, cond, not, _||_}
 use mathlib.Core.List.{List, _++_, append-assoc}
 use mathlib.Core.Option.{Option, none, some}
-use Prim.Native.Nat.{ℕ, suc, zero, _+_, _*_, _-_, _%_, _<_, _≤_}
+use Prim.Native.Nat.{ℕ, suc, _+_, _*_, _-_, _%_, _<_, _≤_}
 use native.Mathlib.Numerals.{add-one}
 use native.Mathlib.Omega.{arith}
 use lib.Dec.{T, leb, leb→le, le→leb}
-use lib.ListN.{drop, length, length-drop, take}
+use lib.ListN.{drop, length-drop}
 use lib.Seq.{take-all}
 use borrow.Author.Tests.{lt-leb, not-false, not-true}
 use Rattle.booleans.specs.Tests.{_and_}
@@ -23,7 +23,7 @@ use Rattle.subtrees.specs.Laws.Parts.{Here, back-at, bytes-at, here-at, length-
 use Rattle.rewrite.specs.Nodes.{Kind, Node}
 use Rattle.rewrite.specs.Children.{Left, any, childAt, dissolve, offset, wanted}
 use Rattle.rewrite.specs.declared.Wanted.{Wanted}
-use Rattle.rewrite.specs.Writing.{Wrote, front, nodeOf, ruleAt, slice}
+use Rattle.rewrite.specs.Writing.{Wrote, front, ruleAt, slice}
 use Rattle.rewrite.specs.Laws.Children.{count-at, node-at}
 
 -- ---- the first tree of a row that passes a test
@@ -189,13 +189,12 @@ module _ (b : List ℕ) (s : Simplifiable b) (i : ℕ) (h : Here b i) (q : Tree 
       let row = ap recordsIn (h .here) in
       let less = gone-records q (h .kids) w in
       let before : p - (i + 1) ≡ recordsIn (w .before) = omega (arith, c .place) in
-      let count : n ≡ size (dissolve q (h .kids)) = omega (arith, gone-size q (h .kids) w) in
-      (
+      let count : n ≡ size (dissolve q (h .kids)) = omega (arith, gone-size q (h .kids) w) in (
         omega (arith, l .many),
         l .is
-        ∙ rw
-        (before, bytes-at b s (i + 1) (w .before) (w .found ▸ (w .after ⧺ h .later)) (from-part w), rest-slice b s (p + 1), after-child p c, count)
-        (sym (gone-bytes q (h .kids) w (h .own) (h .later))),
+            ∙ rw
+            (before, bytes-at b s (i + 1) (w .before) (w .found ▸ (w .after ⧺ h .later)) (from-part w), rest-slice b s (p + 1), after-child p c, count)
+            (sym (gone-bytes q (h .kids) w (h .own) (h .later))),
       )
 
 -- ---- rules 2 and 5

@@ -1,11 +1,11 @@
 -- A record's bytes from its fields, and bytes copied into a buffer, one at a time.
-use mathlib.Core.Path.{_≡_, refl, ap, ap₂, sym, _∙_}
+use mathlib.Core.Path.{_≡_, refl, ap, ap₂, _∙_}
 use mathlib.Core.List.{List, [], _∷_, _++_}
-use Prim.Native.Nat.{ℕ, suc, _+_, _*_, _-_, _<_, _≤_}
+use Prim.Native.Nat.{ℕ, _+_, _*_, _-_, _<_, _≤_}
 use native.Mathlib.Numerals.{add-one}
 use native.Mathlib.Omega.{arith}
-use lib.ListN.{drop, getD, length, length-drop, set, take}
-use lib.Seq.{getD-drop, length-paste, paste, paste-suc, paste-zero, take-all, take-paste}
+use lib.ListN.{getD, length, set, take}
+use lib.Seq.{length-paste, paste, paste-suc, paste-zero, take-paste}
 use Rattle.table.specs.Numbers.{recordLength}
 use Rattle.table.specs.Bytes.{toBytes}
 use Rattle.table.specs.Table.{flag, kindByte, limitNum, loopByte, raw, recordBytes, valueNum}
