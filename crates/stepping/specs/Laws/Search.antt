@@ -14,13 +14,17 @@ use Rattle.table.specs.Numbers.{recordLength}
 use Rattle.table.specs.Table.{decode, encode, encodes, recordBytes, recordCount}
 use Rattle.table.specs.Trees.{Forest, Tree, nil, node, _▸_, _⧺_, recordsIn, size}
 use Rattle.table.specs.Laws.Trees.{some-records}
-use Rattle.simplify.specs.Rules.{rule1}
+use Rattle.booleans.specs.Tests.{_and_}
+use Rattle.evaluate.specs.Closed.{closedIn, symbolFree}
+use Rattle.evaluate.specs.Evaluate.{before, zeros}
+use Rattle.simplify.specs.Rules.{isBlock, isSum, leaf, rule1, rule2, rule3, rule4, rule5, rule6, rule7, rule8, rule9, when}
 use Rattle.simplify.specs.Steps.{also, inside, insideIn, orElse, rule, step}
+use Rattle.simplify.specs.Same.{sameKind}
 use Rattle.subtrees.specs.Parts.{Simplifiable, treesAt}
 use Rattle.subtrees.specs.Laws.Forests.{encodes-⧺}
 use Rattle.subtrees.specs.Laws.Parts.{Here, here-at, records-at, root-at}
 use Rattle.rewrite.specs.Writing.{Wrote, front, ruleAt}
-use Rattle.stepping.specs.Nodes.{Node}
+use Rattle.stepping.specs.Nodes.{Block, Limit, Node, Number}
 use Rattle.stepping.specs.Spots.{Rewritten, stepped}
 
 -- ---- a step in a row of trees
@@ -120,6 +124,41 @@ some-first r (node n f ▸ g) out w = go (r n f) w
     go : (x : Option Tree) → Wrote (also (λ t. t ▸ g) x) 0 out → also (λ t. t ▸ g) x ≡ none
     go none w = unfold also in refl
     go (some t) w = absurd (unfold Wrote in unfold also in unfold recordsIn in omega (arith, w .0, some-records t))
+
+-- ---- one rule or else another
+
+first-or : (x y : Option Tree) (g : Forest) (r : ℕ) (out : List ℕ) → (r ≡ 0 → ⊥) → Wrote (also (λ t. t ▸ g) x) r out → Wrote (also (λ t. t ▸ g) (orElse x y)) r out
+unfolding also orElse Wrote
+first-or none y g r out n w = absurd (n w)
+first-or (some t) y g r out n w = w
+
+then-or : (x y : Option Tree) (g : Forest) (r : ℕ) (mid out : List ℕ) → Wrote (also (λ t. t ▸ g) x) 0 mid → Wrote (also (λ t. t ▸ g) y) r out → Wrote (also (λ t. t ▸ g) (orElse x y)) r out
+unfolding also orElse Wrote recordsIn
+then-or none y g r mid out w v = v
+then-or (some t) y g r mid out w v = absurd (omega (arith, w .0, some-records t))
+
+module _ (p q : Node → Forest → Option Tree) where
+  abbrev pub either : Node → Forest → Option Tree
+  either n f = orElse (p n f) (q n f)
+
+  pub or-some : (g : Forest) (r : ℕ) (out : List ℕ) → (r ≡ 0 → ⊥) → Wrote (ruleAt p g) r out → Wrote (ruleAt either g) r out
+  unfolding ruleAt Wrote
+  or-some nil r out n w = w
+  or-some (node m f ▸ g) r out n w = first-or (p m f) (q m f) g r out n w
+
+  pub or-none : (g : Forest) (r s : ℕ) (mid out : List ℕ) → s ≡ 0 → Wrote (ruleAt p g) s mid → Wrote (ruleAt q g) r out → Wrote (ruleAt either g) r out
+  unfolding ruleAt
+  or-none nil r s mid out e w v = v
+  or-none (node m f ▸ g) r s mid out e w v = then-or (p m f) (q m f) g r mid out (rw e at w) v
+
+-- no rule fits a block
+block-none : (t : Number) (l : Limit) (f : Forest) → rule (record { kind = Block t; limit = l }) f ≡ none
+unfolding rule rule2 rule3 rule4 rule5 rule6 rule7 rule8 rule9 when isSum isBlock sameKind orElse _and_
+block-none t l f = go (symbolFree (node (record { kind = Block t; limit = l }) f))
+  where
+    go : (x : Bool) → orElse (when (x and false and closedIn (Block t) f 0) (leaf (before zeros (Block t) f 0) l)) none ≡ none
+    go true = refl
+    go false = refl
 
 -- what a rule at the node of record i makes of the row
 rule-here : (b : List ℕ) (i : ℕ) (h : Here b i) → ruleAt rule (treesAt b i) ≡ also (λ t. t ▸ h .later) (rule (h .own) (h .kids))
