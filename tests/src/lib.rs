@@ -5,6 +5,7 @@
 //! - `trees`: a plain tree, its encoder and its random generators.
 //! - `reader`: the second reader, questions 1 to 7.
 //! - `evaluator`: the second evaluator, questions 8 to 10.
+//! - `simplifier`: the second simplifier.
 //! - `members`, `runs`: lists member by member, and the dearest run, both for small trees.
 //! - `ffi`: the library's functions, declared and wrapped.
 //! - `tables`, `cases`: hand-written tables, and document 01's cases.
@@ -26,5 +27,6 @@ pub mod quotes;
 pub mod reader;
 pub mod rng;
 pub mod runs;
+pub mod simplifier;
 pub mod tables;
 pub mod trees;
