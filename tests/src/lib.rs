@@ -6,6 +6,7 @@
 //! - `reader`: the second reader, questions 1 to 7.
 //! - `evaluator`: the second evaluator, questions 8 to 10.
 //! - `simplifier`: the second simplifier.
+//! - `fits`: where the rules of simplifying fit, for small tables.
 //! - `members`, `runs`: lists member by member, and the dearest run, both for small trees.
 //! - `ffi`: the library's functions, declared and wrapped.
 //! - `tables`, `cases`: hand-written tables, and document 01's cases.
@@ -20,6 +21,7 @@ pub mod damage;
 pub mod evaluator;
 pub mod faults;
 pub mod ffi;
+pub mod fits;
 pub mod format;
 pub mod members;
 pub mod noise;

@@ -52,6 +52,19 @@ pub struct Trace {
     pub rules: Vec<usize>,
 }
 
+impl Trace {
+    /// What simplifying answers with that allowance.
+    pub fn after(&self, allowance: u64) -> Simplified {
+        let end = self.rules.len() as u64;
+        let steps = allowance.min(end);
+        Simplified {
+            bytes: self.tables[steps as usize].clone(),
+            steps,
+            finished: steps == end,
+        }
+    }
+}
+
 pub fn trace(mut tree: Tree) -> Trace {
     let mut trace = Trace {
         tables: vec![tree.encode()],

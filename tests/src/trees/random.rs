@@ -59,7 +59,7 @@ pub fn grow(rng: &mut Rng, records: usize, depth: usize, loops: usize) -> Tree {
 }
 
 /// How many records a table has room for in a tree of that depth.
-fn capacity(depth: usize) -> usize {
+pub(super) fn capacity(depth: usize) -> usize {
     match depth {
         0 => 0,
         1 => 1,
@@ -68,7 +68,7 @@ fn capacity(depth: usize) -> usize {
 }
 
 /// A few children as a rule, and at times as many as can be.
-fn random_parts(rng: &mut Rng, total: usize, most: usize) -> Vec<usize> {
+pub(super) fn random_parts(rng: &mut Rng, total: usize, most: usize) -> Vec<usize> {
     let fewest = total.div_ceil(most);
     let many = total.min(MOST_CHILDREN);
     let few = many.min(fewest + 3);
@@ -81,7 +81,7 @@ fn random_parts(rng: &mut Rng, total: usize, most: usize) -> Vec<usize> {
 }
 
 /// Splits a total into parts of 1 to `most`, in random order.
-fn split(rng: &mut Rng, total: usize, parts: usize, most: usize) -> Vec<usize> {
+pub(super) fn split(rng: &mut Rng, total: usize, parts: usize, most: usize) -> Vec<usize> {
     let mut left = total;
     let mut sizes = Vec::with_capacity(parts);
     for later in (0..parts).rev() {
@@ -238,7 +238,7 @@ fn collect_loops(tree: &Tree, loops: usize, around: &mut Vec<usize>) {
     }
 }
 
-fn sequence_or_choice(rng: &mut Rng) -> Kind {
+pub(super) fn sequence_or_choice(rng: &mut Rng) -> Kind {
     rng.pick(&[Kind::Sequence, Kind::Choice])
 }
 

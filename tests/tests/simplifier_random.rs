@@ -1,0 +1,302 @@
+//! The second simplifier on random tables: every step is the one that document 01 wants, allowances
+//! count steps, and the tables on the way meet demand 3, for which the library checks and quotes them.
+//! Each test asserts that it has reached what it is for. The seeds are fixed.
+
+use volefleece_tests::compare::shown;
+use volefleece_tests::ffi::{self, Checked, Figure};
+use volefleece_tests::fits;
+use volefleece_tests::rng::Rng;
+use volefleece_tests::simplifier::{simplify, trace, Trace};
+use volefleece_tests::trees::{self, Amount, Amounts, Kind, Tree};
+
+const ZEROS: [u64; 32] = [0; 32];
+
+/// Mostly small, at times of a hundred records.
+fn records(rng: &mut Rng) -> usize {
+    let most = rng.pick(&[4, 8, 12, 12, 20, 20, 40, 100]);
+    rng.size(1..=most)
+}
+
+// Steps.
+
+#[test]
+fn every_step_is_the_lowest_rule_at_the_earliest_record() {
+    let mut rng = Rng::new(301);
+    // How often each rule was taken at the root, and below.
+    let mut taken = [[0; 10]; 2];
+    for _ in 0..30_000 {
+        let records = records(&mut rng);
+        let tree = trees::redundant(&mut rng, records);
+        let Trace { tables, rules } = trace(tree);
+        for (pair, &rule) in tables.windows(2).zip(&rules) {
+            let Some((record, lowest)) = fits::first(&pair[0]) else {
+                panic!("no rule fits {}", shown(&pair[0]));
+            };
+            assert_eq!(rule, lowest, "record {record} of {}", shown(&pair[0]));
+            assert_changed_at(record, &pair[0], &pair[1]);
+            taken[record.min(1)][rule] += 1;
+        }
+        let last = &tables[rules.len()];
+        assert_eq!(fits::first(last), None, "{}", shown(last));
+    }
+    // At the root, rule 1 fits wherever rule 4 does.
+    let root = [1, 2, 3, 5, 6, 7, 8, 9].map(|rule| taken[0][rule]);
+    assert!(root.iter().all(|&times| times > 500), "{taken:?}");
+    let below = &taken[1][2..];
+    assert!(below.iter().all(|&times| times > 1_000), "{taken:?}");
+}
+
+/// Neither what is before the subtree of that record has changed nor what is after it, but the
+/// subtree has.
+fn assert_changed_at(record: usize, before: &[u8], after: &[u8]) {
+    let subtree = fits::subtree(before, record);
+    let (left, right) = (16 * subtree.start, before.len() - 16 * subtree.end);
+    assert!(
+        before != after
+            && before[..left] == after[..left]
+            && before[before.len() - right..] == after[after.len() - right..],
+        "record {record} of {}",
+        both(before, after)
+    );
+}
+
+#[test]
+fn every_allowance_takes_as_many_single_steps() {
+    let mut rng = Rng::new(302);
+    let mut ends = [0; 20];
+    for _ in 0..15_000 {
+        let records = rng.size(1..=24);
+        let tree = trees::redundant(&mut rng, records);
+        let trace = trace(tree);
+        let end = trace.rules.len();
+        ends[end.min(19)] += 1;
+        let table = &trace.tables[0];
+        for allowance in (0..=end as u64 + 2).chain([u64::MAX]) {
+            let answer = simplify(table, allowance, table.len());
+            assert_eq!(answer, Ok(trace.after(allowance)), "{}", shown(table));
+        }
+    }
+    assert!(ends[..10].iter().all(|&times| times > 200), "{ends:?}");
+}
+
+// Figures.
+
+/// Holds the tables on the way from a tree against demand 3, and counts what it has met.
+#[derive(Debug, Default)]
+struct Demand3 {
+    /// How often each rule was taken.
+    rules: [u64; 10],
+    /// How often a desk got a figure from the tree, and how often none.
+    figures: u64,
+    without: u64,
+    /// How often another desk's figure with raised values was the same, and how often higher.
+    same: u64,
+    higher: u64,
+}
+
+impl Demand3 {
+    /// The tree's simplifying is not refused.
+    fn compare(&mut self, rng: &mut Rng, tree: Tree, desks: &[Vec<u64>]) {
+        let trace = trace(tree);
+        for &rule in &trace.rules {
+            self.rules[rule] += 1;
+        }
+        for pair in trace.tables.windows(2) {
+            assert!(pair[1].len() <= pair[0].len(), "{}", shown(&pair[0]));
+        }
+        for values in desks {
+            self.compare_figures(rng, &trace.tables, values);
+        }
+    }
+
+    fn compare_figures(&mut self, rng: &mut Rng, tables: &[Vec<u8>], values: &[u64]) {
+        let Some(reception) = figure(&tables[0], values) else {
+            self.without += 1;
+            return;
+        };
+        self.figures += 1;
+        for table in some_of(rng, tables) {
+            let accepted = Checked::accept(table.len() / 16);
+            assert_eq!(ffi::check(table), accepted, "{}", shown(table));
+            let sales = figure(table, values);
+            assert_eq!(sales, Some(reception), "{}", both(&tables[0], table));
+            if let Some(sales) = figure(table, &raised(rng, values)) {
+                assert!(sales >= reception, "{}", both(&tables[0], table));
+                self.same += u64::from(sales == reception);
+                self.higher += u64::from(sales > reception);
+            }
+        }
+    }
+
+    fn assert_reached(&self, times: u64) {
+        let rules = &self.rules[1..];
+        assert!(rules.iter().all(|&taken| taken >= times), "{self:?}");
+        let figures = [self.figures, self.without, self.same, self.higher];
+        assert!(figures.iter().all(|&met| met >= times), "{self:?}");
+    }
+}
+
+/// The library's figure, unless it is too large.
+fn figure(table: &[u8], values: &[u64]) -> Option<u64> {
+    match ffi::figure(table, values) {
+        Figure { refused: 0, figure } => Some(figure),
+        Figure { refused: 10, .. } => None,
+        answer => panic!("{answer:?}: {}", shown(table)),
+    }
+}
+
+/// All of them if they are few, else some and the last.
+fn some_of<'t>(rng: &mut Rng, tables: &'t [Vec<u8>]) -> Vec<&'t Vec<u8>> {
+    if tables.len() <= 20 {
+        return tables.iter().collect();
+    }
+    let last = tables.last().expect("the tree's own at least");
+    let some = (0..5).map(|_| &tables[rng.index(tables.len())]);
+    some.chain([last]).collect()
+}
+
+fn both(before: &[u8], after: &[u8]) -> String {
+    format!("{}and after: {}", shown(before), shown(after))
+}
+
+fn ceiling(symbol: usize) -> u64 {
+    if symbol < 16 {
+        1_000_000
+    } else {
+        1_000_000_000_000
+    }
+}
+
+/// Values of which none is lower.
+fn raised(rng: &mut Rng, values: &[u64]) -> Vec<u64> {
+    let often = rng.within(1..=6);
+    let most = rng.pick(&[1, 3, 1_000]);
+    let mut values = values.to_vec();
+    for (symbol, value) in values.iter_mut().enumerate() {
+        if rng.once_in(often) {
+            *value = ceiling(symbol).min(*value + rng.within(0..=most));
+        }
+    }
+    values
+}
+
+/// No value, small ones, and one or more at its ceiling.
+fn desks(rng: &mut Rng) -> [Vec<u64>; 3] {
+    const SMALL: Amounts = Amounts {
+        time: 9,
+        bound: 3,
+        limit: 3,
+        symbols: 0,
+    };
+    let mut large = SMALL.values(rng);
+    for _ in 0..rng.size(1..=3) {
+        let symbol = 16 * rng.index(2) + rng.index(3);
+        large[symbol] = ceiling(symbol);
+    }
+    [ZEROS.to_vec(), SMALL.values(rng), large]
+}
+
+#[test]
+fn small_tables_keep_their_figures() {
+    let mut rng = Rng::new(303);
+    let mut demand = Demand3::default();
+    for _ in 0..60_000 {
+        let records = records(&mut rng);
+        let tree = trees::redundant(&mut rng, records);
+        let desks = desks(&mut rng);
+        demand.compare(&mut rng, tree, &desks);
+    }
+    demand.assert_reached(5_000);
+}
+
+#[test]
+fn largest_tables_keep_their_figures() {
+    let mut rng = Rng::new(304);
+    let mut demand = Demand3::default();
+    for _ in 0..1_200 {
+        let tree = trees::redundant(&mut rng, 512);
+        let desks = desks(&mut rng);
+        demand.compare(&mut rng, tree, &desks);
+    }
+    demand.assert_reached(120);
+}
+
+#[test]
+fn crowded_lists_keep_their_figures() {
+    let mut rng = Rng::new(305);
+    let mut demand = Demand3::default();
+    let (mut full, mut over) = (0, 0);
+    for _ in 0..1_000 {
+        let tree = trees::crowded(&mut rng);
+        let nested = |child: &&Tree| child.kind == tree.kind && child.limit.is_none();
+        if let Some(list) = tree.children.iter().find(nested) {
+            let count = tree.children.len() - 1 + list.children.len();
+            full += u64::from(count == 255);
+            over += u64::from(count > 255);
+        }
+        let desks = desks(&mut rng);
+        demand.compare(&mut rng, tree, &desks);
+    }
+    assert!(full > 50 && over > 50, "{full}, {over}");
+}
+
+#[test]
+fn deepest_tables_keep_their_figures() {
+    const FEW: Amounts = Amounts {
+        time: 3,
+        bound: 1,
+        limit: 2,
+        symbols: 5,
+    };
+    let mut rng = Rng::new(306);
+    let mut demand = Demand3::default();
+    for _ in 0..4_000 {
+        let loops = rng.size(0..=8);
+        let mut tree = trees::spine(&mut rng, 32, loops);
+        let records = tree.records() + rng.size(0..=20);
+        trees::pad(&mut rng, &mut tree, records);
+        let wanted = rng.pick(&[0, 3, 30, 255]);
+        trees::put_limits(&mut rng, &mut tree, wanted);
+        FEW.set(&mut rng, &mut tree);
+        let desks = desks(&mut rng);
+        demand.compare(&mut rng, tree, &desks);
+    }
+    let deep = [2, 3, 4, 5, 6, 7, 9].map(|rule| demand.rules[rule]);
+    assert!(deep.iter().all(|&taken| taken > 300), "{demand:?}");
+}
+
+#[test]
+fn tables_that_are_too_large_get_no_figure_at_any_desk() {
+    let mut rng = Rng::new(307);
+    let mut demand = Demand3::default();
+    let mut refused = 0;
+    for _ in 0..40_000 {
+        let records = records(&mut rng);
+        let mut tree = trees::redundant(&mut rng, records);
+        enlarge(&mut tree);
+        let table = tree.encode();
+        let desks = desks(&mut rng);
+        match simplify(&table, 0, table.len()) {
+            Ok(_) => demand.compare(&mut rng, tree, &desks),
+            Err(question) => {
+                assert_eq!(question, 10);
+                refused += 1;
+                for values in desks {
+                    assert_eq!(figure(&table, &values), None, "{}", shown(&table));
+                    let raised = raised(&mut rng, &values);
+                    assert_eq!(figure(&table, &raised), None, "{}", shown(&table));
+                }
+            }
+        }
+    }
+    assert!(refused > 5_000, "{refused}");
+    demand.assert_reached(300);
+}
+
+/// Makes times so large that few of them reach the ceiling.
+fn enlarge(tree: &mut Tree) {
+    if let Kind::Block(Amount::Plain(time)) = &mut tree.kind {
+        *time *= 100_000_000_000;
+    }
+    tree.children.iter_mut().for_each(enlarge);
+}
