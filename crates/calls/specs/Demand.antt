@@ -12,7 +12,7 @@ use Rattle.calls.specs.declared.Checked.{Checked}
 use Rattle.calls.specs.declared.Quote.{Quote}
 use Rattle.calls.specs.declared.Ending.{Ending}
 use Rattle.calls.specs.declared.Simplified.{Simplified}
-use Rattle.calls.specs.Answers.{figureAnswer, endingOf}
+use Rattle.calls.specs.Answers.{figureAnswer, quotedRefusal, quotedFigure, endingOf}
 
 -- w is none lower than v: each number is at least v's at the same place
 abbrev pub NoneLower : (v w : List ℕ) → Type 0
@@ -34,13 +34,13 @@ pub record Sold (b : List ℕ) (allowance : ℕ) (v w written : List ℕ) (count
   -- finished exactly where no rule fits the written tree
   pub ends : ending ≡ endingOf (isNone (step (decode written)))
   -- where sales' values are none lower and both get a figure, sales' is not below reception's
-  pub notBelow : NoneLower v w → (x y : ℕ) → reception ≡ Quote.Figure x → sales ≡ Quote.Figure y → x ≤ y
+  pub notBelow : NoneLower v w → quotedRefusal reception ≡ 0 → quotedRefusal sales ≡ 0 → quotedFigure reception ≤ quotedFigure sales
   -- where values are equal and reception gets a figure, sales get the same
-  pub sameFigure : v ≡ w → (x : ℕ) → reception ≡ Quote.Figure x → sales ≡ Quote.Figure x
+  pub sameFigure : v ≡ w → quotedRefusal reception ≡ 0 → (quotedRefusal sales ≡ 0) × (quotedFigure sales ≡ quotedFigure reception)
 
 -- too large: no values at all give the table a figure
 abbrev pub TooLarge : List ℕ → Type 0
-TooLarge b = (u : List ℕ) (x : ℕ) → figureAnswer b u ≡ Quote.Figure x → ⊥
+TooLarge b = (u : List ℕ) → quotedRefusal (figureAnswer b u) ≡ 0 → ⊥
 
 -- the bytes that sales are lent: those that simplifying wrote into the buffer, in the length that it answered
 unfoldable pub soldBytes : Simplified → (buffer : List ℕ) → List ℕ

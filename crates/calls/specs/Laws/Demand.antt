@@ -15,7 +15,7 @@ use Rattle.table.specs.Checking.{refusal}
 use Rattle.table.specs.Laws.RoundTrip.{length-encode}
 use Rattle.table.specs.Laws.Accepted.{IsTable, is-table}
 use Rattle.table.specs.Laws.NotRefused.{reads-back, not-refused}
-use Rattle.evaluate.specs.Evaluate.{valuesOf, fits, zeros}
+use Rattle.evaluate.specs.Evaluate.{valuesOf, figure, fits, zeros}
 use Rattle.evaluate.specs.Laws.Monotone.{figure-mono, fits-zeros}
 use Rattle.simplify.specs.Steps.{Made, isNone, step, steps}
 use Rattle.simplify.specs.Laws.Stepping.{Kept}
@@ -24,9 +24,9 @@ use Rattle.calls.specs.declared.Checked.{Checked}
 use Rattle.calls.specs.declared.Quote.{Quote}
 use Rattle.calls.specs.declared.Ending.{Ending}
 use Rattle.calls.specs.declared.Simplified.{Simplified}
-use Rattle.calls.specs.Answers.{checkAnswer, quoteOf, figureAnswer, simplifyRefusal, endingOf, made, simplifyAnswer, simplifyWrites, over}
+use Rattle.calls.specs.Answers.{checkAnswer, quoteOf, figureAnswer, quotedRefusal, quotedFigure, simplifyRefusal, endingOf, made, simplifyAnswer, simplifyWrites, over}
 use Rattle.calls.specs.Demand.{Sold, soldBytes, Demand3}
-use Rattle.calls.specs.Laws.Figures.{is-figure, figure-is, figure-of}
+use Rattle.calls.specs.Laws.Figures.{figure-is, figure-of, figured}
 
 take-over : (front buffer : List ℕ) → take (length front) (over front buffer) ≡ front
 unfolding over
@@ -47,6 +47,7 @@ spent-not false e = refl
 
 module _ (b : List ℕ) (n : ℕ) (v w : List ℕ) (h : AreBytes b) (e : refusal b ≡ 0) where
   sold : T (fits zeros (decode b)) → Sold b n v w (encode (steps n (decode b) .tree)) (steps n (decode b) .taken) (endingOf (steps n (decode b) .finished)) (figureAnswer b v) (figureAnswer (encode (steps n (decode b) .tree)) w)
+  unfolding quotedRefusal quotedFigure
   sold f =
       let t = decode b in
       let i : IsTable b = is-table b h e in
@@ -66,16 +67,18 @@ module _ (b : List ℕ) (n : ℕ) (v w : List ℕ) (h : AreBytes b) (e : refusal
         within = steps-within n t;
         spent = λ q. steps-spent n t (spent-not _ q);
         ends = ap endingOf (steps-finished n t ∙ ap (λ u. isNone (step u)) (sym back));
-        notBelow = λ q x y p z.
-            omega (arith, is-figure v t x (sym (figure-of b v e) ∙ p) .2, is-figure w (m .tree) y (sym (fs w) ∙ z) .2, k .sameFigure (valuesOf w), figure-mono (valuesOf v) (valuesOf w) q t);
-        sameFigure = λ q x p.
-            let (c, d, r) = is-figure v t x (sym (figure-of b v e) ∙ p) in
-            subst (λ u. figureAnswer (encode (m .tree)) u ≡ Quote.Figure x) q
-            (fs v ∙ figure-is v (m .tree) c (k .stillFits (valuesOf v) d) ∙ ap Quote.Figure (k .sameFigure (valuesOf v) ∙ r));
+        notBelow = λ q p z.
+            omega (arith, figured b v e p .2, figured _ w ok z .2, ap (figure (valuesOf w)) back, k .sameFigure (valuesOf w), figure-mono (valuesOf v) (valuesOf w) q t);
+        sameFigure = λ q p.
+            let (c, d, r) = figured b v e p in
+            let same : figureAnswer (encode (m .tree)) w ≡ Quote.Figure (figure (valuesOf v) t) =
+            subst (λ u. figureAnswer (encode (m .tree)) u ≡ Quote.Figure (figure (valuesOf v) t)) q
+            (fs v ∙ figure-is v (m .tree) c (k .stillFits (valuesOf v) d) ∙ ap Quote.Figure (k .sameFigure (valuesOf v))) in
+            (ap quotedRefusal same, ap quotedFigure same ∙ sym r);
       }
 
-  too-large : fits zeros (decode b) ≡ false → (u : List ℕ) (x : ℕ) → figureAnswer b u ≡ Quote.Figure x → ⊥
-  too-large z u x p = subst T z (fits-zeros (valuesOf u) (decode b) (is-figure u (decode b) x (sym (figure-of b u e) ∙ p) .1))
+  too-large : fits zeros (decode b) ≡ false → (u : List ℕ) → quotedRefusal (figureAnswer b u) ≡ 0 → ⊥
+  too-large z u p = subst T z (fits-zeros (valuesOf u) (decode b) (figured b u e p .1))
 
   refusal-is : (out : List ℕ) → simplifyRefusal b out ≡ cond (leb (length b) (length out)) (cond (fits zeros (decode b)) 0 10) 8
   unfolding simplifyRefusal
