@@ -159,13 +159,20 @@ fn go_round(
 }
 
 // A choice takes the lists' members together; the others are added.
-fn join_onto(kind: Kind, a: &Pairs, al: usize, b: &Pairs, bl: usize, out: &mut Pairs) -> usize
-    requires { ⌜ Addable (listIn (now a) al) (listIn (now b) bl) ⌝ ∗ ⌜ Mergeable (listIn (now a) al) (listIn (now b) bl) ⌝ ∗ ⌜ Roomy (now out) ⌝ }
-    ensures { λ r. ⌜ Is (listIn (now (out .exit)) r) (joinPairs kind (pairsOf (listIn (now (a .entry)) al)) (pairsOf (listIn (now (b .entry)) bl))) ⌝ }
+fn join_lists(
+    kind: Kind,
+    a: &mut Pairs,
+    al: usize,
+    b: &Pairs,
+    bl: usize,
+    spare: &mut Pairs,
+) -> usize
+    requires { ⌜ Addable (listIn (now a) al) (listIn (now b) bl) ⌝ ∗ ⌜ Mergeable (listIn (now a) al) (listIn (now b) bl) ⌝ ∗ ⌜ Roomy (now spare) ⌝ }
+    ensures { λ r. ⌜ Is (listIn (now (a .exit)) r) (joinPairs kind (pairsOf (listIn (now (a .entry)) al)) (pairsOf (listIn (now (b .entry)) bl))) ⌝ ∗ ⌜ Roomy (now (spare .exit)) ⌝ }
 {
     match kind {
-        Kind::Choice => lists::merge_onto(a, al, b, bl, out),
-        _ => lists::add_onto(a, al, b, bl, out),
+        Kind::Choice => lists::merge_in(a, al, b, bl, spare),
+        _ => lists::add_in(a, al, b, bl, spare),
     }
 }
 
@@ -186,8 +193,7 @@ fn join_in(
     if MOST_PAIRS < al + bl - 1 {
         return Valued::UNFIT;
     }
-    let n = join_onto(kind, out, al, list, bl, spare);
-    lists::copy_onto(spare, n, out);
+    let n = join_lists(kind, out, al, list, bl, spare);
     check_top(
         out,
         n,

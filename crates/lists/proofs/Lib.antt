@@ -7,3 +7,4 @@ pub mod Merges
 pub mod Groups
 pub mod Caps
 pub mod Totals
+pub mod InPlace

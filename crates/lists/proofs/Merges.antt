@@ -1,5 +1,5 @@
 -- The turns of a union: its first pair by the first pairs of the two lists, and the rest.
-use mathlib.Core.Path.{_∙_, _≡_, ap, ap₂, refl, sym}
+use mathlib.Core.Path.{_∙_, _≡_, ap₂, refl}
 use mathlib.Core.Bool.{Bool, cond, false, true}
 use mathlib.Core.List.{List}
 use Prim.Native.Nat.{_*_, _+_, _<_, _^_, _≤_, suc, zero, ℕ}
@@ -13,17 +13,13 @@ use Rattle.lists.specs.declared.Head.{Head}
 use Rattle.lists.specs.declared.List.{List as Listed}
 use Rattle.lists.specs.Pairs.{Canonical, Pairs, top}
 use Rattle.lists.specs.Operations.{count, joined, make, mergePairs, rest}
-use Rattle.lists.specs.Laws.Pairs.{unique-pairs}
 use Rattle.lists.specs.Laws.Expand.{make-run}
-use Rattle.lists.specs.Laws.Union.{Merged, both-pairs, flip, front-pair, merge-facts, rest-canonical}
+use Rattle.lists.specs.Laws.Union.{Merged, both-pairs, flip, front-pair, merge-facts, merge-unique, rest-canonical}
 use Rattle.lists.specs.Reading.{Is, Mergeable, Proper, countAt, headOf, listIn, mostPairs, pairsOf, runsThen, stored, valueAt}
 use Rattle.lists.proofs.Stored.{length-stored, put, put-last}
 use Rattle.lists.proofs.Suffix.{count-few, len-is, more, suffix, suffix-canonical, suffix-count, suffix-inner, suffix-top, suffix-whole}
 
 -- ---- the first pair of a union, and the rest
-
-merge-unique : (r s t u : Pairs) → Merged r s t → Merged r s u → t ≡ u
-merge-unique r s t u a b = unique-pairs t u (a .canonical) (b .canonical) (λ i. ap (λ f. f i) (a .members ∙ sym (b .members)))
 
 -- without its first pair, or whole
 unfoldable after : ℕ → Pairs → Pairs

@@ -28,7 +28,7 @@ suffix-inner l i h =
     let e : l .len - 1 - i ≡ suc (l .len - 1 - suc i) = omega arith in
     rw e
 
-suffix-end : (l : Listed) (i : ℕ) → suc i ≡ l .len → suffix l i ≡ ever (valueAt (l .pairs) i)
+pub suffix-end : (l : Listed) (i : ℕ) → suc i ≡ l .len → suffix l i ≡ ever (valueAt (l .pairs) i)
 unfolding suffix runsThen
 suffix-end l i h =
     let e : l .len - 1 - i ≡ 0 = omega arith in
@@ -36,7 +36,7 @@ suffix-end l i h =
     rw (e, e₁)
 
 -- a place is the last or not
-by-place : (l : Listed) (i : ℕ) (Q : Type 0) → i < l .len → (suc i < l .len → Q) → (suc i ≡ l .len → Q) → Q
+pub by-place : (l : Listed) (i : ℕ) (Q : Type 0) → i < l .len → (suc i < l .len → Q) → (suc i ≡ l .len → Q) → Q
 by-place l i Q h f g = go (ltb (suc i) (l .len)) refl
   where
     go : (b : Bool) → ltb (suc i) (l .len) ≡ b → Q

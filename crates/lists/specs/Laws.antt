@@ -10,4 +10,5 @@ pub mod Expand
 pub mod Cap
 pub mod Add
 pub mod Union
+pub mod Short
 pub mod Group

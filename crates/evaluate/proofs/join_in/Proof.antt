@@ -1,4 +1,4 @@
--- By the room for both lists' pairs: nothing, or the joined list, copied and checked.
+-- By the room for both lists' pairs: nothing, or the joined list, checked.
 use native.Mathlib.Omega.{arith}
 use borrow.Author.Needs.{needs}
 use Rattle.evaluate.specs.Shown.{foundIn}
@@ -18,17 +18,14 @@ returns c =
     let (s, (d, l)) = c .before .pre in
     (unfit-shown (s .room) (joined-wide _ _ _ (omega (arith, len-width (s .proper), len-width (d .proper)))), l)
 
-join-onto-requires : tie.Need-join-onto-requires
-join-onto-requires c κs =
+join-lists-requires : tie.Need-join-lists-requires
+join-lists-requires c κs =
     let (s, (d, l)) = c .before .before .before .pre in
     let w = len-width (s .proper) in
     let x = len-width (d .proper) in (
       record { left = s .proper; right = d .proper; narrow = omega arith; low = omega (arith, s .low, d .low) },
       (record { left = s .proper; right = d .proper; narrow = omega arith; few = omega (arith, s .near, s .few, d .near, d .few) }, l),
     )
-
-copy-onto-requires : tie.Need-copy-onto-requires
-copy-onto-requires c κs = search needs
 
 inner-of-requires : tie.Need-inner-of-requires
 inner-of-requires c κs = search needs
@@ -42,13 +39,12 @@ check-top-requires c κs = search needs
 returns-2 : tie.Need-returns-2
 returns-2 c =
     let inner = c .before .before .before in
-    let copy = inner .before .before in
-    let join = copy .before .before .before in
+    let join = inner .before .before in
     let start = join .before .before .before .before in
     let a = start .args in
     let (s, (d, l)) = start .pre in
     let room = joined-room (a .kind) (foundIn (a .done) (a .out .now)) (foundIn (a .child) (a .list .now)) (omega (arith, len-width (s .proper), len-width (d .proper))) in
-    (rw (room, ← inner .inner-of .ensures, ← join .join-onto .ensures .pairs, ← copy .copy-onto .ensures .pairs) (c .check-top .ensures), join .join-onto .ensures .proper .long)
+    (rw (room, ← inner .inner-of .ensures, ← join .join-lists .ensures .0 .pairs) (c .check-top .ensures), join .join-lists .ensures .1)
 
 pub join-in-spec : {M : Type 1} → statement M
 join-in-spec =
@@ -57,8 +53,7 @@ join-in-spec =
     add-if1
     sub-if1
     returns
-    join-onto-requires
-    copy-onto-requires
+    join-lists-requires
     inner-of-requires
     add-check-top
     check-top-requires

@@ -12,6 +12,7 @@ use Rattle.lists.specs.Streams.{Stream, merge, S, cap, const}
 use Rattle.lists.specs.Laws.Add.{width-zero}
 use Rattle.lists.specs.Laws.Expand.{by-run, expand-first, first-zero, run-past, run-within, expand-falls, expand-le, by-first, make-run}
 use Rattle.lists.specs.Laws.Merge.{merge-falls}
+use Rattle.lists.specs.Laws.Pairs.{unique-pairs}
 use Rattle.lists.specs.Laws.MergeLaws.{merge-assoc, merge-comm, IsMerge, Met, is-merge, unique}
 use Rattle.lists.specs.Laws.Sums.{Falls, S-cap, S-const, S-grows, cap-falls, const-falls}
 
@@ -237,3 +238,7 @@ merge-facts r s h k = within-merges (width r + width s) r s h k (omega arith)
 -- a union's pairs expand to the merge of what the pairs expand to
 pub merge-is : (r s : Pairs) → Canonical r → Canonical s → expand (mergePairs r s) ≡ merge (expand r) (expand s)
 merge-is r s h k = merge-facts r s h k .members
+
+-- unions are fixed by their members
+pub merge-unique : (r s t u : Pairs) → Merged r s t → Merged r s u → t ≡ u
+merge-unique r s t u a b = unique-pairs t u (a .canonical) (b .canonical) (λ i. ap (λ f. f i) (a .members ∙ sym (b .members)))
