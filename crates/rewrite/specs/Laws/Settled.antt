@@ -74,7 +74,7 @@ module _ (b : List ℕ) (s : Simplifiable b) (i : ℕ) (l : i < recordCount b) w
 
 -- ---- when the rule fits
 
-free-is : (t : Tree) → eqb (symbols t) 0 ≡ symbolFree t
+pub free-is : (t : Tree) → eqb (symbols t) 0 ≡ symbolFree t
 unfolding symbols
 free-is t = go (symbolFree t)
   where

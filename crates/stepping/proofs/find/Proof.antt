@@ -1,50 +1,57 @@
+-- The invariant: no rule fits before record i. The measure: the records left.
+use mathlib.Core.Path.{_≡_, refl}
+use Prim.Native.Nat.{_-_}
+use native.Mathlib.Omega.{arith}
+use borrow.Author.Needs.{needs}
+use lib.ListN.{length}
+use Rattle.stepping.specs.Laws.Search.{Sought, sought-end, sought-found, sought-next, sought-none}
 use Rattle.stepping.proofs.find.Statement.{statement}
 use Rattle.stepping.proofs.find.Tie as tie
-use Rattle.stepping.proofs.find.Reads as reads
-use Rattle.stepping.proofs.find.Lts as lts
-use Rattle.stepping.proofs.rule_at.Reads as rule-at-reads
 
 abbrev Inv-loop : tie.InvT-loop
-Inv-loop table extents marks out₀ n i₀ out i = ?
+Inv-loop table extents marks out₀ n i₀ out i = Sought table i × (length out ≡ length out₀)
 
 abbrev μ-loop : tie.MeasureT-loop
-μ-loop table extents marks out₀ n i₀ out i = ?
+μ-loop table extents marks out₀ n i₀ out i = n - i
 
--- src/lib.rt:87:5
 loop-holds : tie.Need-loop-holds Inv-loop μ-loop
-loop-holds c = ?
+loop-holds c = (sought-none _, refl)
 
--- src/lib.rt:88:13
 rule-at-requires : tie.Need-rule-at-requires Inv-loop μ-loop
-rule-at-requires c κs = ?
+rule-at-requires c κs = search needs
 
--- src/lib.rt:90:13
 same-length : tie.Need-same-length Inv-loop μ-loop
-same-length c = ?
+same-length c = search needs
 
--- src/lib.rt:90:13
 returns : tie.Need-returns Inv-loop μ-loop
-returns c = ?
+returns c =
+    let call = c .before .before .before in
+    let turn = call .before .before in
+    let start = turn .before .before .before .before .before .before in
+    let s = start .pre .0 .sizes .simplifiable in
+    sought-found _ s _ _ _ (turn .loop-test .taken) (turn .before .loop .inv .0) (c .if1 .taken) (call .rule-at .ensures)
 
--- src/lib.rt:92:9
 add-i : tie.Need-add-i Inv-loop μ-loop
-add-i c = ?
+add-i c = search needs
 
--- src/lib.rt:87:5
 loop-less : tie.Need-loop-less Inv-loop μ-loop
-loop-less c = ?
+loop-less c = search needs
 
--- src/lib.rt:87:5
 loop-again : tie.Need-loop-again Inv-loop μ-loop
-loop-again c = ?
+loop-again c =
+    let call = c .before .before .before in
+    let turn = call .before .before in
+    let start = turn .before .before .before .before .before .before in
+    let s = start .pre .0 .sizes .simplifiable in
+    (sought-next _ s _ _ (turn .loop-test .taken) (turn .before .loop .inv .0) (rw (c .if1 .left) at (call .rule-at .ensures)), search needs)
 
--- src/lib.rt:81:1
 same-length-2 : tie.Need-same-length-2 Inv-loop μ-loop
-same-length-2 c = ?
+same-length-2 c = search needs
 
--- src/lib.rt:81:1
 returns-2 : tie.Need-returns-2 Inv-loop μ-loop
-returns-2 c = ?
+returns-2 c =
+    let start = c .before .before .before .before .before .before in
+    sought-end _ (start .pre .0 .sizes .simplifiable) _ _ _ (c .loop-test .left) (c .before .loop .inv .0)
 
 pub find-spec : {M : Type 1} → statement M
 find-spec =

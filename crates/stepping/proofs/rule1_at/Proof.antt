@@ -1,57 +1,64 @@
+-- By the two tests; the evaluator gives the block's time.
+use mathlib.Core.Path.{_∙_}
+use native.Mathlib.Omega.{arith}
+use Rattle.lists.specs.Reading.{valueAt}
+use Rattle.subtrees.specs.Laws.Parts.{length-is}
+use Rattle.stepping.specs.Laws.Whole.{block-written, first-is, has-symbol, not-long, some-record, that-already}
 use borrow.Author.Needs.{needs}
 use Rattle.stepping.proofs.rule1_at.Statement.{statement}
 use Rattle.stepping.proofs.rule1_at.Tie as tie
-use Rattle.stepping.proofs.rule1_at.Reads as reads
-use Rattle.stepping.proofs.rule1_at.Lts as lts
-use Rattle.evaluate.proofs.evaluate.Reads as evaluate-reads
-use Rattle.lists.proofs.List.zero.Reads as zero-reads
-use Rattle.lists.proofs.value_at.Reads as value-at-reads
-use Rattle.rewrite.proofs.is_bare.Reads as is-bare-reads
-use Rattle.rewrite.proofs.put_node.Reads as put-node-reads
 
--- src/lib.rt:102:8
 shared-slice-read-if1 : tie.Need-shared-slice-read-if1
 shared-slice-read-if1 c = search needs
 
--- src/lib.rt:103:9
 returns : tie.Need-returns
-returns c = ?
+returns c =
+    let start = c .before .before .before .before .before in
+    has-symbol _ (start .pre .0) _ _ (start .pre .1 .0) (c .if1 .taken)
 
--- src/lib.rt:105:8
 is-bare-requires : tie.Need-is-bare-requires
-is-bare-requires c κs = ?
+is-bare-requires c κs =
+    let start = c .before .before .before .before .before in
+    (start .pre .0, some-record _ (start .pre .0))
 
--- src/lib.rt:106:9
 returns-2 : tie.Need-returns-2
-returns-2 c = ?
+returns-2 c =
+    let start = c .before .before .before .before .before .before .before in
+    that-already _ (start .pre .0) _ _ (c .before .is-bare .ensures) (c .if2 .taken)
 
--- src/lib.rt:109:20
 zero-requires : tie.Need-zero-requires
 zero-requires c κs = search needs
 
--- src/lib.rt:110:31
 slice-aggregate-evaluate : tie.Need-slice-aggregate-evaluate
 slice-aggregate-evaluate c = search needs
 
--- src/lib.rt:110:5
 evaluate-requires : tie.Need-evaluate-requires
-evaluate-requires c κs = ?
+evaluate-requires c κs =
+    let zero = c .before .before in
+    let start = zero .before .before .before .before .before .before .before .before in
+    (not-long _ (start .pre .0), zero .zero .ensures .proper .long)
 
--- src/lib.rt:111:30
 value-at-requires : tie.Need-value-at-requires
 value-at-requires c κs = search needs
 
--- src/lib.rt:112:5
 put-node-requires : tie.Need-put-node-requires
-put-node-requires c κs = ?
+put-node-requires c κs =
+    let start = c .before .before .before .before .before .before .before .before .before .before .before .before .before .before .before in
+    omega (arith, start .pre .1 .1 .1, length-is _ (start .pre .0), some-record _ (start .pre .0))
 
--- src/lib.rt:98:1
 same-length : tie.Need-same-length
 same-length c = search needs
 
--- src/lib.rt:98:1
 returns-3 : tie.Need-returns-3
-returns-3 c = ?
+unfolding valueAt
+returns-3 c =
+    let put = c .before .before in
+    let value = put .before .before in
+    let walk = value .before .before .before in
+    let bare = walk .before .before .before .before .before in
+    let start = bare .before .before .before .before .before .before in
+    block-written _ (start .pre .0) _ _ _ _ _ (start .pre .1 .0) (bare .before .if1 .left) (bare .is-bare .ensures) (walk .before .before .before .before .if2 .left)
+    (value .value-at .ensures ∙ first-is _ (start .pre .0) (walk .evaluate .ensures)) (put .put-node .ensures .0) (put .put-node .ensures .1)
 
 pub rule1-at-spec : {M : Type 1} → statement M
 rule1-at-spec =

@@ -1,72 +1,72 @@
+-- One rule or else another.
+use Rattle.simplify.specs.Rules.{rule2, rule3, rule4}
+use Rattle.stepping.specs.Spots.{laterRule}
+use Rattle.stepping.specs.Laws.Search.{block-at, from3, from4, or-none, or-some, rule-is}
 use borrow.Author.Needs.{needs}
 use Rattle.stepping.proofs.rule_at.Statement.{statement}
 use Rattle.stepping.proofs.rule_at.Tie as tie
-use Rattle.stepping.proofs.rule_at.Reads as reads
-use Rattle.stepping.proofs.rule_at.Lts as lts
-use Rattle.rewrite.proofs.rule2_at.Reads as rule2-at-reads
-use Rattle.rewrite.proofs.rule3_at.Reads as rule3-at-reads
-use Rattle.rewrite.proofs.rule4_at.Reads as rule4-at-reads
-use Rattle.stepping.proofs.later_rule_at.Reads as later-rule-at-reads
 
--- src/lib.rt:38:14
 mul-if1 : tie.Need-mul-if1
 mul-if1 c = search needs
 
--- src/lib.rt:38:8
 shared-slice-read-if1 : tie.Need-shared-slice-read-if1
 shared-slice-read-if1 c = search needs
 
--- src/lib.rt:39:9
 returns : tie.Need-returns
-returns c = ?
+returns c =
+    let start = c .before .before .before .before .before .before in
+    block-at _ (start .pre .0 .sizes .simplifiable) _ _ (start .pre .1 .0) (c .if1 .taken)
 
--- src/lib.rt:41:9
 rule2-at-requires : tie.Need-rule2-at-requires
 rule2-at-requires c κs = search needs
 
--- src/lib.rt:43:9
 same-length : tie.Need-same-length
 same-length c = search needs
 
--- src/lib.rt:43:9
 returns-2 : tie.Need-returns-2
-returns-2 c = ?
+returns-2 c = rw rule-is (or-some rule2 from3 _ _ _ (c .if2 .taken) (c .before .before .before .rule2-at .ensures))
 
--- src/lib.rt:45:9
 rule3-at-requires : tie.Need-rule3-at-requires
 rule3-at-requires c κs = search needs
 
--- src/lib.rt:47:9
 same-length-2 : tie.Need-same-length-2
 same-length-2 c = search needs
 
--- src/lib.rt:47:9
 returns-3 : tie.Need-returns-3
-returns-3 c = ?
+returns-3 c =
+    let e₂ = c .before .before .before .before .before in
+    rw rule-is (or-none rule2 from3 _ _ _ _ _ (e₂ .if2 .left) (e₂ .before .before .before .rule2-at .ensures)
+    (or-some rule3 from4 _ _ _ (c .if3 .taken) (c .before .before .before .rule3-at .ensures)))
 
--- src/lib.rt:49:9
 rule4-at-requires : tie.Need-rule4-at-requires
 rule4-at-requires c κs = search needs
 
--- src/lib.rt:51:9
 same-length-3 : tie.Need-same-length-3
 same-length-3 c = search needs
 
--- src/lib.rt:51:9
 returns-4 : tie.Need-returns-4
-returns-4 c = ?
+returns-4 c =
+    let e₃ = c .before .before .before .before .before in
+    let e₂ = e₃ .before .before .before .before .before in
+    rw rule-is (or-none rule2 from3 _ _ _ _ _ (e₂ .if2 .left) (e₂ .before .before .before .rule2-at .ensures)
+    (or-none rule3 from4 _ _ _ _ _ (e₃ .if3 .left) (e₃ .before .before .before .rule3-at .ensures)
+    (or-some rule4 laterRule _ _ _ (c .if4 .taken) (c .before .before .before .rule4-at .ensures))))
 
--- src/lib.rt:53:5
 later-rule-at-requires : tie.Need-later-rule-at-requires
 later-rule-at-requires c κs = search needs
 
--- src/lib.rt:34:1
 same-length-4 : tie.Need-same-length-4
 same-length-4 c = search needs
 
--- src/lib.rt:34:1
 returns-5 : tie.Need-returns-5
-returns-5 c = ?
+returns-5 c =
+    let last = c .before .before in
+    let e₄ = last .before .before in
+    let e₃ = e₄ .before .before .before .before .before in
+    let e₂ = e₃ .before .before .before .before .before in
+    rw rule-is (or-none rule2 from3 _ _ _ _ _ (e₂ .if2 .left) (e₂ .before .before .before .rule2-at .ensures)
+    (or-none rule3 from4 _ _ _ _ _ (e₃ .if3 .left) (e₃ .before .before .before .rule3-at .ensures)
+    (or-none rule4 laterRule _ _ _ _ _ (e₄ .if4 .left) (e₄ .before .before .before .rule4-at .ensures) (last .later-rule-at .ensures))))
 
 pub rule-at-spec : {M : Type 1} → statement M
 rule-at-spec =

@@ -6,12 +6,12 @@ use mathlib.Core.Option.{Option, none, some}
 use Prim.Native.Nat.{ℕ, _+_, _*_, _-_, _<_, _≤_, suc}
 use native.Mathlib.Omega.{arith}
 use lib.Dec.{T}
-use lib.ListN.{drop, take}
+use lib.ListN.{drop, getD, take}
 use native.Mathlib.Numerals.{add-one}
 use lib.Seq.{take-add, take-at}
 use Rattle.table.specs.Laws.RoundTrip.{length-bytes}
 use Rattle.table.specs.Numbers.{recordLength}
-use Rattle.table.specs.Table.{decode, encode, encodes, recordBytes, recordCount}
+use Rattle.table.specs.Table.{decode, encode, encodes, kindByte, recordBytes, recordCount}
 use Rattle.table.specs.Trees.{Forest, Tree, nil, node, _▸_, _⧺_, recordsIn, size}
 use Rattle.table.specs.Laws.Trees.{some-records}
 use Rattle.booleans.specs.Tests.{_and_}
@@ -23,9 +23,10 @@ use Rattle.simplify.specs.Same.{sameKind}
 use Rattle.subtrees.specs.Parts.{Simplifiable, treesAt}
 use Rattle.subtrees.specs.Laws.Forests.{encodes-⧺}
 use Rattle.subtrees.specs.Laws.Parts.{Here, here-at, records-at, root-at}
+use Rattle.subtrees.specs.Laws.Survey.{kind-at}
 use Rattle.rewrite.specs.Writing.{Wrote, front, ruleAt}
-use Rattle.stepping.specs.Nodes.{Block, Limit, Node, Number}
-use Rattle.stepping.specs.Spots.{Rewritten, stepped}
+use Rattle.stepping.specs.Nodes.{Block, Choice, Kind, Limit, Loop, Node, Number, Sequence}
+use Rattle.stepping.specs.Spots.{Rewritten, laterRule, stepped}
 
 -- ---- a step in a row of trees
 
@@ -151,6 +152,30 @@ module _ (p q : Node → Forest → Option Tree) where
   or-none nil r s mid out e w v = v
   or-none (node m f ▸ g) r s mid out e w v = then-or (p m f) (q m f) g r mid out (rw e at w) v
 
+-- rules 2 to 9, and 5 to 9, in their order
+abbrev pub from4 : Node → Forest → Option Tree
+from4 = either rule4 laterRule
+
+abbrev pub from3 : Node → Forest → Option Tree
+from3 = either rule3 from4
+
+pub rule-is : rule ≡ either rule2 from3
+unfolding rule laterRule
+rule-is = refl
+
+abbrev pub from8 : Node → Forest → Option Tree
+from8 = either rule8 rule9
+
+abbrev pub from7 : Node → Forest → Option Tree
+from7 = either rule7 from8
+
+abbrev pub from6 : Node → Forest → Option Tree
+from6 = either rule6 from7
+
+pub later-is : laterRule ≡ either rule5 from6
+unfolding laterRule
+later-is = refl
+
 -- no rule fits a block
 block-none : (t : Number) (l : Limit) (f : Forest) → rule (record { kind = Block t; limit = l }) f ≡ none
 unfolding rule rule2 rule3 rule4 rule5 rule6 rule7 rule8 rule9 when isSum isBlock sameKind orElse _and_
@@ -273,3 +298,18 @@ module _ (b : List ℕ) (s : Simplifiable b) where
 
   pub by-search : (at n : ℕ) (out mid : List ℕ) → Wrote (also (λ u. u ▸ nil) (rule1 (decode b))) 0 mid → Rewritten (insideIn (treesAt b 0)) b at n out → Rewritten (stepped (decode b)) b at n out
   by-search at n out mid w v = rw (whole-row (decode b)) (rule1-not b _ at n out mid (rule1 (decode b)) w (rw (root-at b s) at v))
+
+-- ---- a block, by its first byte
+
+block-row : (b : List ℕ) (i : ℕ) (h : Here b i) (k : Kind) → h .own .kind ≡ k → kindByte k ≡ 0 → ruleAt rule (treesAt b i) ≡ none
+unfolding kindByte also
+block-row b i h (Block t) e z = rule-here b i h ∙ ap (also (λ u. u ▸ h .later)) (ap (λ x. rule (record { kind = x; limit = h .own .limit }) (h .kids)) e ∙ block-none t (h .own .limit) (h .kids))
+block-row b i h Sequence e z = absurd (omega arith)
+block-row b i h Choice e z = absurd (omega arith)
+block-row b i h (Loop n) e z = absurd (omega arith)
+
+pub block-at : (b : List ℕ) → Simplifiable b → (i : ℕ) (out : List ℕ) → i < recordCount b → getD b (recordLength * i) 0 ≡ 0 → Wrote (ruleAt rule (treesAt b i)) 0 out
+unfolding Wrote
+block-at b s i out l z =
+    let h = here-at b s i l in
+    rw (block-row b i h (h .own .kind) refl (sym (kind-at b i h) ∙ z)) refl

@@ -1,0 +1,76 @@
+-- Rule 1: the whole table as one block.
+use mathlib.Core.Path.{_≡_, refl, ap, sym, _∙_}
+use mathlib.Core.Bool.{Bool, false, not, true}
+use mathlib.Core.List.{List, _++_, [], append-nil}
+use mathlib.Core.Option.{Option, none, some}
+use Prim.Native.Nat.{ℕ, _+_, _*_, _<_, _≤_}
+use native.Mathlib.Omega.{arith}
+use lib.Dec.{T, eqb}
+use lib.ListN.{getD, length}
+use borrow.Author.Tests.{eq-eqb, ne-eqb}
+use Rattle.booleans.specs.Tests.{_and_}
+use Rattle.table.specs.Numbers.{mostDepth, mostRecords, recordLength}
+use Rattle.table.specs.Table.{decode, encode, encodes, recordBytes, recordCount, top}
+use Rattle.table.specs.Trees.{Forest, Tree, nil, _▸_, records, recordsIn, size}
+use Rattle.table.specs.Laws.RoundTrip.{length-encode}
+use Rattle.table.specs.Laws.Trees.{some-records}
+use Rattle.evaluate.specs.Closed.{symbolFree}
+use Rattle.evaluate.specs.Evaluate.{figure, zeros}
+use Rattle.evaluate.specs.Evaluator.{evaluateNode}
+use Rattle.evaluate.specs.Shown.{Shows}
+use Rattle.evaluate.specs.Laws.Evaluator.{Evaluated, evaluated}
+use Rattle.evaluate.specs.Laws.Shown.{first-top}
+use Rattle.evaluate.specs.declared.Valued.{Valued}
+use Rattle.lists.specs.Pairs.{top as topPair}
+use Rattle.simplify.specs.Rules.{bare, leaf, rule1, when}
+use Rattle.simplify.specs.Steps.{also}
+use Rattle.subtrees.specs.Facts.{MarkedAt, marksEach, symbols}
+use Rattle.subtrees.specs.Parts.{Simplifiable, subtree}
+use Rattle.subtrees.specs.Laws.Parts.{few-records, length-is, root-at}
+use Rattle.rewrite.specs.Writing.{Wrote, front, nodeOf}
+use Rattle.rewrite.specs.Laws.Settled.{free-is}
+use Rattle.stepping.specs.Nodes.{Block, Plain, Unlimited}
+
+unfit : (t : Tree) (out : List ℕ) → (symbolFree t and not (bare t)) ≡ false → Wrote (also (λ u. u ▸ nil) (rule1 t)) 0 out
+unfolding rule1 when also Wrote
+unfit t out e = rw e refl
+
+module _ (b : List ℕ) (s : Simplifiable b) where
+  whole : subtree b 0 ≡ decode b
+  unfolding subtree top
+  whole = ap top (root-at b s)
+
+  pub some-record : 0 < recordCount b
+  some-record = omega (arith, length-encode (decode b), ap length (s .back), some-records (decode b))
+
+  pub not-long : length b ≤ recordLength * mostRecords
+  not-long = omega (arith, length-is b s, few-records b s)
+
+  free : (marks : List ℕ) → MarkedAt b marks 0 → symbolFree (decode b) ≡ eqb (getD marks 0 0) 0
+  free marks m = sym (free-is (decode b)) ∙ ap (λ t. eqb (symbols t) 0) (sym whole) ∙ ap (λ x. eqb x 0) (sym (m .symbols))
+
+  pub has-symbol : (marks out : List ℕ) → MarkedAt b marks 0 → (getD marks 0 0 ≡ 0 → ⊥) → Wrote (also (λ u. u ▸ nil) (rule1 (decode b))) 0 out
+  unfolding _and_
+  has-symbol marks out m n = unfit (decode b) out (rw (free marks m ∙ ne-eqb (getD marks 0 0) 0 n) refl)
+
+  pub that-already : (x : Bool) (out : List ℕ) → x ≡ bare (subtree b 0) → x ≡ true → Wrote (also (λ u. u ▸ nil) (rule1 (decode b))) 0 out
+  that-already x out e y = unfit (decode b) out (rw (ap bare (sym whole) ∙ sym e ∙ y) (no (symbolFree (decode b))))
+    where
+      no : (x : Bool) → (x and not true) ≡ false
+      no true = unfold _and_ in refl
+      no false = unfold _and_ in refl
+
+  pub first-is : {r : Valued} {a : List ℕ} → Shows r a (evaluateNode zeros mostDepth b) → getD a 0 0 ≡ figure zeros (decode b)
+  first-is {r} {a} w =
+      let t = s .accepted in
+      let e : Evaluated zeros (decode b) (evaluateNode zeros mostDepth b) =
+        evaluated zeros (λ k q. omega arith) (decode b) 0 mostDepth b [] (sym (append-nil (encode (decode b)) ∙ s .back))
+        (record { listed = t .listed; nested = t .nested; named = t .named; weighed = t .weighed }) (t .deep) in
+      let is = w .list (w .fits ∙ e .holds (s .fits) .fits) in
+      sym (first-top (is .proper)) ∙ ap topPair (is .pairs) ∙ e .figure (s .fits)
+
+  pub block-written : (marks out : List ℕ) (x : Bool) (v r : ℕ) → MarkedAt b marks 0 → getD marks 0 0 ≡ 0 → x ≡ bare (subtree b 0) → x ≡ false → v ≡ figure zeros (decode b)
+      → r ≡ 1 → front r out ≡ recordBytes (nodeOf (Block (Plain v)) Unlimited) 0 → Wrote (also (λ u. u ▸ nil) (rule1 (decode b))) r out
+  unfolding rule1 when also Wrote _and_ recordsIn records encode encodes leaf size
+  block-written marks out x v r m z e y f n w =
+      rw (free marks m ∙ eq-eqb (getD marks 0 0) 0 z, ap bare (sym whole) ∙ sym e ∙ y, ← f) (omega arith, w ∙ rw (append-nil, append-nil) refl)
