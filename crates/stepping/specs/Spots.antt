@@ -2,9 +2,9 @@
 use mathlib.Core.Path.{_≡_}
 use mathlib.Core.List.{List, _++_}
 use mathlib.Core.Option.{Option, none, some}
-use Prim.Native.Nat.{ℕ, _<_, _≤_}
+use Prim.Native.Nat.{ℕ, _+_, _<_, _≤_}
 use Rattle.table.specs.Table.{encodes, recordCount}
-use Rattle.table.specs.Trees.{Forest, Tree, nil, _▸_}
+use Rattle.table.specs.Trees.{Forest, Tree, nil, _▸_, recordsIn}
 use Rattle.simplify.specs.Rules.{rule5, rule6, rule7, rule8, rule9}
 use Rattle.simplify.specs.Steps.{also, orElse, step}
 use Rattle.stepping.specs.Nodes.{Node}
@@ -13,12 +13,11 @@ use Rattle.rewrite.specs.Writing.{front}
 -- From record `at` on, b becomes the n records at the front of a buffer, and then is the table of these trees; or, where there are none, n is 0.
 unfoldable pub Rewritten : Option Forest → (b : List ℕ) (at n : ℕ) (out : List ℕ) → Type 0
 Rewritten none b at n out = n ≡ 0
-Rewritten (some g) b at n out = (0 < n) × (at ≤ recordCount b) × (front at b ++ front n out ≡ encodes g)
+Rewritten (some g) b at n out = (0 < n) × (at + n ≡ recordsIn g) × (at ≤ recordCount b) × (front at b ++ front n out ≡ encodes g)
 
 -- a step of a table's tree, as a row of trees
 unfoldable pub stepped : Tree → Option Forest
 stepped t = also (λ u. u ▸ nil) (step t)
-
 
 -- rules 5 to 9 at a node
 unfoldable pub laterRule : Node → Forest → Option Tree

@@ -1,24 +1,27 @@
 -- Steps up to an allowance, one after the other, each an edit of the table's bytes.
 use mathlib.Core.Path.{_≡_, refl, ap, sym, subst, _∙_}
-use mathlib.Core.Bool.{Bool, true, false}
+use mathlib.Core.Bool.{Bool, true, false, not, _&&_}
 use mathlib.Core.List.{List, _++_, append-nil}
 use mathlib.Core.Option.{Option, none, some}
 use Prim.Native.Nat.{ℕ, _+_, _*_, _-_, _<_, _≤_, suc, zero}
 use native.Mathlib.Nat.{add-zero, sub-zero, zero-add}
 use native.Mathlib.Omega.{arith}
-use lib.Dec.{T}
-use lib.ListN.{length}
+use lib.Dec.{T, eqb, ltb}
+use lib.ListN.{drop, length, take}
+use lib.Seq.{length-take-le, take-take}
+use borrow.Author.Tests.{eqb-false, eqb-true, ltb-false, ltb-true}
 use Rattle.table.specs.Numbers.{recordLength}
 use Rattle.table.specs.Questions.{Accepted}
 use Rattle.table.specs.Table.{decode, encode, encodes, recordCount}
-use Rattle.table.specs.Trees.{Forest, Tree, nil, _▸_, records}
+use Rattle.table.specs.Trees.{Forest, Tree, nil, _▸_, records, recordsIn}
 use Rattle.table.specs.Laws.NotRefused.{reads-back}
 use Rattle.table.specs.Laws.RoundTrip.{length-encode}
 use Rattle.evaluate.specs.Evaluate.{fits, zeros}
 use Rattle.simplify.specs.Steps.{Made, also, isNone, onward, step, steps}
 use Rattle.simplify.specs.Laws.Stepping.{Kept, Steps, ends, goes, last, step-steps}
+use Rattle.subtrees.specs.Facts.{marksEach}
 use Rattle.subtrees.specs.Parts.{Simplifiable}
-use Rattle.rewrite.specs.Writing.{front}
+use Rattle.rewrite.specs.Writing.{front, slice}
 use Rattle.stepping.specs.Spots.{Rewritten, stepped}
 
 -- after k steps, what is made of the rest
@@ -46,12 +49,13 @@ pub record Next (b : List ℕ) (at n : ℕ) (out : List ℕ) : Type 0 where
   pub tree : Tree
   pub is : step (decode b) ≡ some tree
   pub inside : at ≤ recordCount b
+  pub count : at + n ≡ records tree
   pub bytes : front at b ++ front n out ≡ encode tree
 
 next-of : (b : List ℕ) (at n : ℕ) (out : List ℕ) (x : Option Tree) → step (decode b) ≡ x → (n ≡ 0 → ⊥) → Rewritten (also (λ u. u ▸ nil) x) b at n out → Next b at n out
-unfolding also Rewritten encodes
+unfolding also Rewritten encodes recordsIn
 next-of b at n out none e z w = absurd (z w)
-next-of b at n out (some u) e z w = record { tree = u; is = e; inside = w .1; bytes = w .2 ∙ append-nil (encode u) }
+next-of b at n out (some u) e z w = record { tree = u; is = e; inside = w .2; count = omega (arith, w .1); bytes = w .3 ∙ append-nil (encode u) }
 
 pub next-step : (b : List ℕ) (at n : ℕ) (out : List ℕ) → (n ≡ 0 → ⊥) → Rewritten (stepped (decode b)) b at n out → Next b at n out
 unfolding stepped
@@ -136,3 +140,83 @@ pub ends-spent : (b₀ : List ℕ) (n : ℕ) (b : List ℕ) (k : ℕ) → Going 
 ends-spent b₀ n b k g l x =
     let none-left : n - k ≡ 0 = omega arith in
     ends-by b₀ n b k false g (rw none-left (used (decode b) (x .tree) (x .is)))
+
+-- ---- on the table in the first bytes of a buffer
+
+-- k steps made the table in the first `long` bytes of work, and the next one is told by a spot and the buffer out
+pub record Stage (b₀ : List ℕ) (n : ℕ) (work : List ℕ) (long k at m : ℕ) (out : List ℕ) : Type 0 where
+  pub going : Going b₀ n (take long work) k
+  pub next : Rewritten (stepped (decode (take long work))) (take long work) at m out
+  pub room : long ≤ length work
+
+-- what `&work[0..n]` holds
+pub part-is : (work : List ℕ) (n : ℕ) → take (n - 0) (drop 0 work) ≡ take n work
+part-is work n = ap (λ k. take k work) (sub-zero n)
+
+-- a part of a buffer, ready for a step: facts, marks and a second buffer have room for a table of so many bytes
+pub part-ready : (work : List ℕ) (n bytes facts marks out : ℕ) → Simplifiable (take n work) → n ≤ length work → n ≤ bytes → bytes ≤ recordLength * facts → marksEach * bytes ≤ recordLength * marks → bytes ≤ out
+    → let b = take (n - 0) (drop 0 work) in Simplifiable b × (((recordCount b ≤ facts) × (marksEach * recordCount b ≤ marks)) × (length b ≤ out))
+part-ready work n bytes facts marks out s l e f g h =
+    let long = length-take-le n work l in
+    rw (part-is work n) (s, ((omega arith, omega arith), omega arith))
+
+module _ (b₀ : List ℕ) (n : ℕ) (work : List ℕ) (long k at m : ℕ) (out : List ℕ) (s : Stage b₀ n work long k at m out) where
+  long-is : length (take long work) ≡ long
+  long-is = length-take-le long work (s .room)
+
+  pub stage-short : long ≤ length b₀
+  stage-short = omega (arith, s .going .noLonger, long-is)
+
+  module _ (z : m ≡ 0 → ⊥) where
+    next-one : Next (take long work) at m out
+    next-one = next-step _ at m out z (s .next)
+
+    -- the step leaves no more records
+    pub stage-fewer : recordLength * (at + m) ≤ long
+    stage-fewer =
+        let t = s .going .simplifiable in
+        omega (arith, next-one .count, kept-step _ _ (next-one .is) .noMore (t .fits) (t .accepted), length-encode (decode (take long work)), ap length (t .back), long-is)
+
+    front-same : front at (take long work) ≡ front at work
+    front-same = take-take (recordLength * at) long work (omega (arith, stage-fewer))
+
+    pub stage-next : k < n → (new : List ℕ) (r : ℕ) → r ≡ at + m → front r new ≡ front at work ++ slice out 0 m → Going b₀ n (take (recordLength * r) new) (k + 1)
+    stage-next l new r e w = rw (w, ← front-same) (going-next b₀ n (take long work) k (s .going) l next-one)
+
+    pub stage-spent : n ≤ k → Ends b₀ n (take long work) k false
+    stage-spent l = ends-spent b₀ n (take long work) k (s .going) l next-one
+
+  pub stage-finished : m ≡ 0 → Ends b₀ n (take long work) k true
+  stage-finished e = ends-finished b₀ n (take long work) k at out (s .going) (rw e at (s .next))
+
+  -- by the loop's test
+  pub stage-ends : (not (eqb m 0) && ltb k n) ≡ false → Ends b₀ n (take long work) k (eqb m 0)
+  stage-ends e = go (eqb m 0) refl (ltb k n) refl e
+    where
+      go : (x : Bool) → eqb m 0 ≡ x → (y : Bool) → ltb k n ≡ y → (not x && y) ≡ false → Ends b₀ n (take long work) k x
+      go true p y q e = stage-finished (eqb-true m 0 p)
+      go false p true q e = absurd (subst T e tt)
+      go false p false q e = stage-spent (eqb-false m 0 p) (ltb-false k n q)
+
+  -- and where it goes on
+  pub stage-on : (not (eqb m 0) && ltb k n) ≡ true → (m ≡ 0 → ⊥) × (k < n)
+  stage-on e = go (eqb m 0) refl (ltb k n) refl e
+    where
+      go : (x : Bool) → eqb m 0 ≡ x → (y : Bool) → ltb k n ≡ y → (not x && y) ≡ true → (m ≡ 0 → ⊥) × (k < n)
+      go true p y q e = absurd (subst T (sym e) tt)
+      go false p true q e = (eqb-false m 0 p, ltb-true k n q)
+      go false p false q e = absurd (subst T (sym e) tt)
+
+-- what holds in a turn of the loop
+pub record Turn (work : List ℕ) (bytes n k at m : ℕ) : Type 0 where
+  pub some : m ≡ 0 → ⊥
+  pub more : k < n
+  pub fewer : recordLength * (at + m) ≤ bytes
+  pub room : recordLength * (at + m) ≤ length work
+
+pub turn-of : (start : List ℕ) (bytes : ℕ) {n : ℕ} {work : List ℕ} {long k at m : ℕ} {out : List ℕ} → bytes ≤ length start → Stage (take bytes start) n work long k at m out → (not (eqb m 0) && ltb k n) ≡ true
+    → Turn work bytes n k at m
+turn-of start bytes {n} {work} {long} {k} {at} {m} {out} l s e =
+    let (z, o) = stage-on _ n work long k at m out s e in
+    let f = stage-fewer _ n work long k at m out s z in
+    record { some = z; more = o; fewer = omega (arith, stage-short _ n work long k at m out s, length-take-le bytes start l); room = omega (arith, s .room) }

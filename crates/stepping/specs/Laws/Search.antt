@@ -6,10 +6,10 @@ use mathlib.Core.Option.{Option, none, some}
 use Prim.Native.Nat.{ℕ, _+_, _*_, _-_, _<_, _≤_, suc}
 use native.Mathlib.Omega.{arith}
 use lib.Dec.{T}
-use lib.ListN.{drop, getD, take}
+use lib.ListN.{drop, getD, length, length-append, take}
 use native.Mathlib.Numerals.{add-one}
-use lib.Seq.{take-add, take-at}
-use Rattle.table.specs.Laws.RoundTrip.{length-bytes}
+use lib.Seq.{length-take-le, take-add, take-at}
+use Rattle.table.specs.Laws.RoundTrip.{length-bytes, length-encodes}
 use Rattle.table.specs.Numbers.{recordLength}
 use Rattle.table.specs.Table.{decode, encode, encodes, kindByte, recordBytes, recordCount}
 use Rattle.table.specs.Trees.{Forest, Tree, nil, node, _▸_, _⧺_, recordsIn, size}
@@ -22,7 +22,7 @@ use Rattle.simplify.specs.Steps.{also, inside, insideIn, orElse, rule, step}
 use Rattle.simplify.specs.Same.{sameKind}
 use Rattle.subtrees.specs.Parts.{Simplifiable, treesAt}
 use Rattle.subtrees.specs.Laws.Forests.{encodes-⧺}
-use Rattle.subtrees.specs.Laws.Parts.{Here, here-at, records-at, root-at}
+use Rattle.subtrees.specs.Laws.Parts.{Here, here-at, length-is, records-at, root-at}
 use Rattle.subtrees.specs.Laws.Survey.{kind-at}
 use Rattle.rewrite.specs.Writing.{Wrote, front, ruleAt}
 use Rattle.stepping.specs.Nodes.{Block, Choice, Kind, Limit, Loop, Node, Number, Sequence}
@@ -215,20 +215,20 @@ module _ (b : List ℕ) (s : Simplifiable b) where
       let h = here-at b s i l in
       let no : rule (h .own) (h .kids) ≡ none = none-first (h .later) _ (sym (rule-here b i h) ∙ some-first rule (treesAt b i) out w) in
       let over : also encodes (insideIn (treesAt b i)) ≡ also (λ z. recordBytes (h .own) (size (h .kids)) ++ z) (also encodes (insideIn (treesAt b (i + 1)))) =
-        rw (h .here, add-one, h .next) (step-over (h .own) (h .kids) (h .later) no) in
+      rw (h .here, add-one, h .next) (step-over (h .own) (h .kids) (h .later) no) in
       record {
         within = omega arith;
         same = q .same ∙ ap (also (λ z. front i b ++ z)) over ∙ also-append (front i b) (recordBytes (h .own) (size (h .kids))) (also encodes (insideIn (treesAt b (i + 1)))) ∙ ap (λ x. also (λ z. x ++ z) (also encodes (insideIn (treesAt b (i + 1))))) (sym (front-next b i h));
       }
 
-  by-bytes : (x : Option Forest) (z : List ℕ) (at n : ℕ) (out : List ℕ) → also encodes x ≡ some z → 0 < n → at ≤ recordCount b → front at b ++ front n out ≡ z → Rewritten x b at n out
+  by-bytes : (x : Option Forest) (z : List ℕ) (at n : ℕ) (out : List ℕ) → also encodes x ≡ some z → 0 < n → recordLength * (at + n) ≡ length z → at ≤ recordCount b → front at b ++ front n out ≡ z → Rewritten x b at n out
   unfolding also Rewritten
-  by-bytes none z at n out e l m w = absurd (subst isNone e tt)
+  by-bytes none z at n out e l k m w = absurd (subst isNone e tt)
     where
       isNone : Option (List ℕ) → Type 0
       isNone none = Unit {0}
       isNone (some z) = ⊥
-  by-bytes (some g) z at n out e l m w = (l, m, w ∙ sym (ap bytes e))
+  by-bytes (some g) z at n out e l k m w = (l, omega (arith, length-encodes g, ap (λ x. length (bytes x)) e), m, w ∙ sym (ap bytes e))
     where
       bytes : Option (List ℕ) → List ℕ
       bytes none = z
@@ -243,13 +243,16 @@ module _ (b : List ℕ) (s : Simplifiable b) where
       isSome none = ⊥
       isSome (some z) = Unit {0}
 
+  long : (i r : ℕ) (g : Forest) (t : Tree) → i ≤ recordCount b → r ≡ recordsIn (t ▸ g) → recordLength * (i + r) ≡ length (front i b ++ encodes (t ▸ g))
+  long i r g t l e = rw (length-append, length-take-le (recordLength * i) b (omega (arith, length-is b s)), length-encodes (t ▸ g)) (omega arith)
+
   -- a rule that fits at record i
   found-here : (i r : ℕ) (out : List ℕ) (n : Node) (f g : Forest) (t : Tree) → treesAt b i ≡ node n f ▸ g → Sought b i → rule n f ≡ some t
       → Wrote (some (t ▸ g)) r out → Rewritten (insideIn (treesAt b 0)) b i r out
   unfolding also Wrote recordsIn
   found-here i r out n f g t e q k w =
       let at : insideIn (treesAt b i) ≡ some (t ▸ g) = ap insideIn e ∙ step-here n f g t k in
-      by-bytes _ _ i r out (q .same ∙ ap (λ x. also (λ z. front i b ++ z) (also encodes x)) at) (omega (arith, w .0, some-records t)) (q .within) (ap (λ z. front i b ++ z) (w .1))
+      by-bytes _ _ i r out (q .same ∙ ap (λ x. also (λ z. front i b ++ z) (also encodes x)) at) (omega (arith, w .0, some-records t)) (long i r g t (q .within) (w .0)) (q .within) (ap (λ z. front i b ++ z) (w .1))
 
   pub sought-found : (i r : ℕ) (out : List ℕ) → i < recordCount b → Sought b i → (r ≡ 0 → ⊥) → Wrote (ruleAt rule (treesAt b i)) r out → Rewritten (insideIn (treesAt b 0)) b i r out
   sought-found i r out l q n w = go (rule (h .own) (h .kids)) refl (subst (λ x. Wrote x r out) (rule-here b i h) w)
@@ -285,7 +288,7 @@ whole-row t = go (rule1 t) (inside t)
 rule1-fits : (b : List ℕ) (y : Option Forest) (r : ℕ) (out : List ℕ) (x : Option Tree) → (r ≡ 0 → ⊥) → Wrote (also (λ u. u ▸ nil) x) r out → Rewritten (orElse (also (λ u. u ▸ nil) x) y) b 0 r out
 unfolding also orElse Wrote Rewritten
 rule1-fits b y r out none n w = absurd (n w)
-rule1-fits b y r out (some u) n w = (omega (arith, n), omega arith, w .1)
+rule1-fits b y r out (some u) n w = (omega (arith, n), omega (arith, w .0), omega arith, w .1)
 
 rule1-not : (b : List ℕ) (y : Option Forest) (at n : ℕ) (out mid : List ℕ) (x : Option Tree) → Wrote (also (λ u. u ▸ nil) x) 0 mid → Rewritten y b at n out → Rewritten (orElse (also (λ u. u ▸ nil) x) y) b at n out
 unfolding also orElse Wrote recordsIn

@@ -64,8 +64,8 @@ module _ (b : List ℕ) (s : Simplifiable b) where
   first-is {r} {a} w =
       let t = s .accepted in
       let e : Evaluated zeros (decode b) (evaluateNode zeros mostDepth b) =
-        evaluated zeros (λ k q. omega arith) (decode b) 0 mostDepth b [] (sym (append-nil (encode (decode b)) ∙ s .back))
-        (record { listed = t .listed; nested = t .nested; named = t .named; weighed = t .weighed }) (t .deep) in
+      evaluated zeros (λ k q. omega arith) (decode b) 0 mostDepth b [] (sym (append-nil (encode (decode b)) ∙ s .back))
+      (record { listed = t .listed; nested = t .nested; named = t .named; weighed = t .weighed }) (t .deep) in
       let is = w .list (w .fits ∙ e .holds (s .fits) .fits) in
       sym (first-top (is .proper)) ∙ ap topPair (is .pairs) ∙ e .figure (s .fits)
 
