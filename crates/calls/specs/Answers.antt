@@ -108,12 +108,36 @@ endingOf false = Ending.Spent
 unfoldable pub made : List ℕ → ℕ → Made
 made b n = steps n (decode b)
 
+unfoldable pub madeAnswer : (table : List ℕ) (allowance : ℕ) → Simplified
+madeAnswer b n = Simplified.Written (length (encode (made b n .tree))) (made b n .taken) (endingOf (made b n .finished))
+
 unfoldable pub simplifyAnswer : (table : List ℕ) (allowance : ℕ) (out : List ℕ) → Simplified
 simplifyAnswer b n out =
     cond (eqb (simplifyRefusal b out) 0)
-    (Simplified.Written (length (encode (made b n .tree))) (made b n .taken) (endingOf (made b n .finished)))
+    (madeAnswer b n)
     (Simplified.Refused (simplifyRefusal b out))
 
 -- the bytes it writes: none where it is refused
 unfoldable pub simplifyWrites : (table : List ℕ) (allowance : ℕ) (out : List ℕ) → List ℕ
 simplifyWrites b n out = cond (eqb (simplifyRefusal b out) 0) (encode (made b n .tree)) []
+
+-- document 01's number for each case, 0 for none, and the values, 0 where it is refused: the length, the steps, and 1 for finished
+unfoldable pub simplifiedRefusal : Simplified → ℕ
+simplifiedRefusal (Simplified.Written long count ending) = 0
+simplifiedRefusal (Simplified.Refused q) = q
+
+unfoldable pub simplifiedLength : Simplified → ℕ
+simplifiedLength (Simplified.Written long count ending) = long
+simplifiedLength (Simplified.Refused q) = 0
+
+unfoldable pub simplifiedSteps : Simplified → ℕ
+simplifiedSteps (Simplified.Written long count ending) = count
+simplifiedSteps (Simplified.Refused q) = 0
+
+unfoldable pub finishedNumber : Ending → ℕ
+finishedNumber Ending.Finished = 1
+finishedNumber Ending.Spent = 0
+
+unfoldable pub simplifiedFinished : Simplified → ℕ
+simplifiedFinished (Simplified.Written long count ending) = finishedNumber ending
+simplifiedFinished (Simplified.Refused q) = 0

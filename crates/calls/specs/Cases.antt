@@ -24,7 +24,7 @@ use Rattle.calls.specs.Nodes.{Plain, Symbol, Unlimited, AtMost, Block, S
 use Rattle.calls.specs.declared.Quote.{Quote}
 use Rattle.calls.specs.declared.Ending.{Ending}
 use Rattle.calls.specs.declared.Simplified.{Simplified}
-use Rattle.calls.specs.Answers.{ceiling, ranged, question9, quoteOf, figureAnswer, simplifyRefusal, endingOf, made, simplifyAnswer, simplifyWrites}
+use Rattle.calls.specs.Answers.{ceiling, ranged, question9, quoteOf, figureAnswer, simplifyRefusal, endingOf, made, madeAnswer, simplifyAnswer, simplifyWrites}
 
 -- ---- trees, as the document writes them
 
@@ -151,7 +151,7 @@ starred =
 
 -- to unfold this is to unfold all that the cases compute with
 unfoldable pub computed : ℕ
-unfolding block symbol _/_at_ sequence both either loop noughts isFigure samePairs sameNumbers isFinished hasWritten holds allHold _and_ _⧺_ size rest around records S const add cap group shift merge next taken amount inner outward seen name limit rounds turns join start list figure fits arity timeInRange countInRange kindInRange limitInRange listed depth loops nameOk named share weight stays closed isPlain plainKind plainLimit symbolFree sameNumber sameLimit sameKind same isUnlimited isBlock isSum limitOf children relimit leaf bare timeOfKind timeOf when rule1 gives anyGives giveWay rule2 alone rule3 rule4 isZero anyZero without rule5 bares others total largest rule6 atFirst rule7 isPair headOf tailOf firstOf secondOf allPairs firsts shares sharedOut rule8 exit rule9 orElse also rule inside step isNone onward steps toBytes fromBytes flag numFrom kindByte valueNum kindFrom loopByte limitNum limitFrom recordBytes encode firstNode childByte firstOnes afterOnes forest top decode formTrees each limitCount recordInRange firstNo question1 question2 question3 question4 question5 question6 question7 refusal placeOf turned place inFront tail pairs listPairs ceiling ranged question9 quoteOf figureAnswer simplifyRefusal endingOf made simplifyAnswer simplifyWrites
+unfolding block symbol _/_at_ sequence both either loop noughts isFigure samePairs sameNumbers isFinished hasWritten holds allHold _and_ _⧺_ size rest around records S const add cap group shift merge next taken amount inner outward seen name limit rounds turns join start list figure fits arity timeInRange countInRange kindInRange limitInRange listed depth loops nameOk named share weight stays closed isPlain plainKind plainLimit symbolFree sameNumber sameLimit sameKind same isUnlimited isBlock isSum limitOf children relimit leaf bare timeOfKind timeOf when rule1 gives anyGives giveWay rule2 alone rule3 rule4 isZero anyZero without rule5 bares others total largest rule6 atFirst rule7 isPair headOf tailOf firstOf secondOf allPairs firsts shares sharedOut rule8 exit rule9 orElse also rule inside step isNone onward steps toBytes fromBytes flag numFrom kindByte valueNum kindFrom loopByte limitNum limitFrom recordBytes encode firstNode childByte firstOnes afterOnes forest top decode formTrees each limitCount recordInRange firstNo question1 question2 question3 question4 question5 question6 question7 refusal placeOf turned place inFront tail pairs listPairs ceiling ranged question9 quoteOf figureAnswer simplifyRefusal endingOf made madeAnswer simplifyAnswer simplifyWrites
 computed = 0
 
 pub starred-hold : allHold starred ≡ true

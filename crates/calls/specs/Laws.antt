@@ -6,3 +6,4 @@ pub mod Figures
 pub mod Evaluated
 pub mod Promises
 pub mod Demand
+pub mod Simplifying

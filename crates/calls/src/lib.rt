@@ -1,14 +1,18 @@
 // The outside calls. Each answers with an enum: one case with what was asked for, one with the number of the question that says no.
+use subtrees::MARKS;
 use table::FIRST_TIME_SYMBOL;
 use table::MOST_COUNT;
+use table::MOST_RECORDS;
 use table::MOST_TIME;
 use table::RECORD_LENGTH;
 ghost use mathlib.Core.Path.{_≡_};
 ghost use Prim.Native.Nat.{_<_, _≤_, _%_, _*_};
 ghost use lib.ListN.{drop, length, take};
+ghost use Rattle.table.specs.Table.{encode};
+ghost use Rattle.subtrees.specs.Parts.{Simplifiable};
 ghost use Rattle.table.specs.Numbers.{howManyValues, listRoom};
 ghost use Rattle.calls.specs.Promises.{Promises};
-ghost use Rattle.calls.specs.Answers.{checkAnswer, ceiling, figureAnswer, listAnswer, listWrites, over, question9};
+ghost use Rattle.calls.specs.Answers.{checkAnswer, ceiling, endingOf, figureAnswer, listAnswer, listWrites, made, madeAnswer, over, question9, simplifyAnswer, simplifyWrites};
 ghost use Rattle.calls.specs.Files.{absent, filesAnswer, valueIn, valueLength, valuesFrom, valuesWhole};
 
 // How many values a desk holds.
@@ -146,6 +150,77 @@ pub fn list(table: &[u8], values: &[u64], out: &mut [u64]) -> Listed
         Listed::Pairs(n)
     } else {
         Listed::Refused(10)
+    }
+}
+
+// ---- Simplifying
+
+// Writes the first n bytes of a table over the front of a buffer.
+fn write_bytes(table: &[u8], n: usize, out: &mut [u8])
+    requires { ⌜ (n ≤ length (now table)) × (n ≤ length (now out)) ⌝ }
+    ensures { λ _. ⌜ now (out .exit) ≡ over (take n (now (table .entry))) (now (out .entry)) ⌝ }
+{
+    let mut i = 0;
+    while i < n {
+        out[i] = table[i];
+        i += 1;
+    }
+}
+
+fn ending_of(finished: bool) -> Ending
+    ensures { λ r. ⌜ r ≡ endingOf finished ⌝ }
+{
+    if finished {
+        Ending::Finished
+    } else {
+        Ending::Spent
+    }
+}
+
+// Steps on a table that simplifying accepts. They are made in a copy, and only the answer's length of `out` is written.
+fn make_steps(table: &[u8], allowance: u64, out: &mut [u8]) -> Simplified
+    requires { ⌜ Simplifiable (now table) ⌝ ∗ ⌜ length (now table) ≤ length (now out) ⌝ }
+    ensures { λ r. ⌜ (r ≡ madeAnswer (now (table .entry)) allowance) × (now (out .exit) ≡ over (encode (made (now (table .entry)) allowance .tree)) (now (out .entry))) ⌝ }
+{
+    let len = table.len();
+    let mut work = [0; RECORD_LENGTH * MOST_RECORDS];
+    let mut spare = [0; RECORD_LENGTH * MOST_RECORDS];
+    let mut extents = [0; MOST_RECORDS];
+    let mut marks = [0; MARKS * MOST_RECORDS];
+    write_bytes(table, len, &mut work);
+    let run = stepping::steps_in(
+        &mut work,
+        len,
+        allowance,
+        &mut extents,
+        &mut marks,
+        &mut spare,
+    );
+    let n = run.len;
+    write_bytes(&work, n, out);
+    Simplified::Written(n, run.steps, ending_of(run.finished))
+}
+
+// The table of a tree after as many steps of simplification as the allowance has, or until no rule fits, written over the front of `out`: questions 1
+// to 8, then 10 with every symbol 0.
+pub fn simplify(table: &[u8], allowance: u64, out: &mut [u8]) -> Simplified
+    ensures answer { λ r. ⌜ r ≡ simplifyAnswer (now (table .entry)) allowance (now (out .entry)) ⌝ }
+    ensures written { λ r. ⌜ now (out .exit) ≡ over (simplifyWrites (now (table .entry)) allowance (now (out .entry))) (now (out .entry)) ⌝ }
+{
+    let number = table::refusal_of(table);
+    if number != 0 {
+        return Simplified::Refused(number);
+    }
+    if out.len() < table.len() {
+        return Simplified::Refused(8);
+    }
+    let zeros = [0; 0];
+    let mut list = [0; LIST_ROOM];
+    let found = evaluate::evaluate(table, &zeros, &mut list);
+    if found.fits {
+        make_steps(table, allowance, out)
+    } else {
+        Simplified::Refused(10)
     }
 }
 

@@ -24,7 +24,7 @@ use Rattle.calls.specs.declared.Checked.{Checked}
 use Rattle.calls.specs.declared.Quote.{Quote}
 use Rattle.calls.specs.declared.Ending.{Ending}
 use Rattle.calls.specs.declared.Simplified.{Simplified}
-use Rattle.calls.specs.Answers.{checkAnswer, quoteOf, figureAnswer, quotedRefusal, quotedFigure, simplifyRefusal, endingOf, made, simplifyAnswer, simplifyWrites, over}
+use Rattle.calls.specs.Answers.{checkAnswer, quoteOf, figureAnswer, quotedRefusal, quotedFigure, simplifyRefusal, endingOf, made, madeAnswer, simplifyAnswer, simplifyWrites, over}
 use Rattle.calls.specs.Demand.{Sold, soldBytes, Demand3}
 use Rattle.calls.specs.Laws.Figures.{figure-is, figure-of, figured}
 
@@ -103,7 +103,7 @@ module _ (b : List ℕ) (n : ℕ) (v w : List ℕ) (h : AreBytes b) (e : refusal
   accepted : (out : List ℕ) (k : ℕ)
       → Demand3 b n v w (over (simplifyWrites b n out) out) (Checked.Accepted k) (simplifyAnswer b n out)
       (figureAnswer b v) (figureAnswer (soldBytes (simplifyAnswer b n out) (over (simplifyWrites b n out) out)) w)
-  unfolding simplifyAnswer simplifyWrites made
+  unfolding simplifyAnswer madeAnswer simplifyWrites made
   accepted out k = rw (refusal-is out) (by-answer out k (leb (length b) (length out)) (fits zeros (decode b)) (λ f. f) (λ q. q))
 
 -- for every table, every allowance, every output buffer and whatever values the two desks hold
