@@ -7,7 +7,7 @@ use native.Mathlib.Omega.{arith}
 use lib.Dec.{T, leb, eqb}
 use lib.ListN.{length, take, drop, length-append}
 use lib.Seq.{take-at}
-use borrow.Author.Tests.{eqb-true}
+use borrow.Author.Tests.{eqb-false, eqb-true}
 use Rattle.table.specs.Bytes.{AreBytes}
 use Rattle.table.specs.Table.{encode, decode, recordCount}
 use Rattle.table.specs.Questions.{Accepted}
@@ -22,10 +22,9 @@ use Rattle.simplify.specs.Laws.Stepping.{Kept}
 use Rattle.simplify.specs.Laws.Stepwise.{steps-kept, steps-made, steps-within, steps-spent, steps-finished}
 use Rattle.calls.specs.declared.Checked.{Checked}
 use Rattle.calls.specs.declared.Quote.{Quote}
-use Rattle.calls.specs.declared.Ending.{Ending}
 use Rattle.calls.specs.declared.Simplified.{Simplified}
-use Rattle.calls.specs.Answers.{checkAnswer, quoteOf, figureAnswer, quotedRefusal, quotedFigure, simplifyRefusal, endingOf, made, madeAnswer, simplifyAnswer, simplifyWrites, over}
-use Rattle.calls.specs.Demand.{Sold, soldBytes, Demand3}
+use Rattle.calls.specs.Answers.{checkAnswer, checkedRefusal, endingOf, figureAnswer, finishedNumber, made, madeAnswer, over, quoteOf, quotedFigure, quotedRefusal, simplifiedFinished, simplifiedLength, simplifiedRefusal, simplifiedSteps, simplifyAnswer, simplifyRefusal, simplifyWrites}
+use Rattle.calls.specs.Demand.{Asked, Demand3, Sold, soldBytes}
 use Rattle.calls.specs.Laws.Figures.{figure-is, figure-of, figured}
 
 take-over : (front buffer : List ℕ) → take (length front) (over front buffer) ≡ front
@@ -36,17 +35,13 @@ long-over : (front buffer : List ℕ) → length front ≤ length (over front bu
 unfolding over
 long-over front buffer = rw length-append (omega arith)
 
-spent-not : (finished : Bool) → endingOf finished ≡ Ending.Spent → finished ≡ false
-unfolding endingOf
-spent-not true e = absurd (subst T (ap isFinished e) tt)
-  where
-    isFinished : Ending → Bool
-    isFinished Ending.Finished = true
-    isFinished Ending.Spent = false
+spent-not : (finished : Bool) → finishedNumber (endingOf finished) ≡ 0 → finished ≡ false
+unfolding endingOf finishedNumber
+spent-not true e = absurd (omega arith)
 spent-not false e = refl
 
 module _ (b : List ℕ) (n : ℕ) (v w : List ℕ) (h : AreBytes b) (e : refusal b ≡ 0) where
-  sold : T (fits zeros (decode b)) → Sold b n v w (encode (steps n (decode b) .tree)) (steps n (decode b) .taken) (endingOf (steps n (decode b) .finished)) (figureAnswer b v) (figureAnswer (encode (steps n (decode b) .tree)) w)
+  sold : T (fits zeros (decode b)) → Sold b n v w (encode (steps n (decode b) .tree)) (steps n (decode b) .taken) (finishedNumber (endingOf (steps n (decode b) .finished))) (figureAnswer b v) (figureAnswer (encode (steps n (decode b) .tree)) w)
   unfolding quotedRefusal quotedFigure
   sold f =
       let t = decode b in
@@ -66,7 +61,7 @@ module _ (b : List ℕ) (n : ℕ) (v w : List ℕ) (h : AreBytes b) (e : refusal
         noLonger = omega (arith, length-encode (m .tree), length-encode t, k .noMore f (i .accepted));
         within = steps-within n t;
         spent = λ q. steps-spent n t (spent-not _ q);
-        ends = ap endingOf (steps-finished n t ∙ ap (λ u. isNone (step u)) (sym back));
+        ends = ap (λ x. finishedNumber (endingOf x)) (steps-finished n t ∙ ap (λ u. isNone (step u)) (sym back));
         notBelow = λ q p z.
             omega (arith, figured b v e p .2, figured _ w ok z .2, ap (figure (valuesOf w)) back, k .sameFigure (valuesOf w), figure-mono (valuesOf v) (valuesOf w) q t);
         sameFigure = λ q p.
@@ -91,20 +86,28 @@ module _ (b : List ℕ) (n : ℕ) (v w : List ℕ) (h : AreBytes b) (e : refusal
       let a = cond (eqb q 0) (Simplified.Written (length (encode (m .tree))) (m .taken) (endingOf (m .finished))) (Simplified.Refused q) in
       let buffer = over (cond (eqb q 0) (encode (m .tree)) []) out in
       Demand3 b n v w buffer (Checked.Accepted k) a (figureAnswer b v) (figureAnswer (soldBytes a buffer) w)
-  unfolding Demand3 soldBytes
+  unfolding simplifiedRefusal simplifiedLength simplifiedSteps simplifiedFinished
   by-answer out k true true f g =
-      let m = steps n (decode b) in (
-        long-over (encode (m .tree)) out,
-        subst (λ s. Sold b n v w s (m .taken) (endingOf (m .finished)) (figureAnswer b v) (figureAnswer s w)) (sym (take-over (encode (m .tree)) out)) (sold (f tt)),
-      )
-  by-answer out k true false f g = λ q. too-large (g refl)
-  by-answer out k false y f g = λ q. absurd (omega arith)
+      let m = steps n (decode b) in
+      record {
+        inside = λ c s. long-over (encode (m .tree)) out;
+        sold = λ c s.
+            subst (λ x. Sold b n v w x (m .taken) (finishedNumber (endingOf (m .finished))) (figureAnswer b v) (figureAnswer x w)) (sym (take-over (encode (m .tree)) out)) (sold (f tt));
+        tooLarge = λ c s. absurd (omega arith);
+      }
+  by-answer out k true false f g = record { inside = λ c s. absurd (omega arith); sold = λ c s. absurd (omega arith); tooLarge = λ c s. too-large (g refl) }
+  by-answer out k false y f g = record { inside = λ c s. absurd (omega arith); sold = λ c s. absurd (omega arith); tooLarge = λ c s. absurd (omega arith) }
 
   accepted : (out : List ℕ) (k : ℕ)
       → Demand3 b n v w (over (simplifyWrites b n out) out) (Checked.Accepted k) (simplifyAnswer b n out)
       (figureAnswer b v) (figureAnswer (soldBytes (simplifyAnswer b n out) (over (simplifyWrites b n out) out)) w)
   unfolding simplifyAnswer madeAnswer simplifyWrites made
   accepted out k = rw (refusal-is out) (by-answer out k (leb (length b) (length out)) (fits zeros (decode b)) (λ f. f) (λ q. q))
+
+-- a table that is not accepted
+not-accepted : (b : List ℕ) (n : ℕ) (v w buffer : List ℕ) (q : ℕ) (answer : Simplified) (reception sales : Quote) → (q ≡ 0 → ⊥) → Demand3 b n v w buffer (Checked.Refused q) answer reception sales
+unfolding checkedRefusal
+not-accepted b n v w buffer q answer reception sales z = record { inside = λ c s. absurd (z c); sold = λ c s. absurd (z c); tooLarge = λ c s. absurd (z c) }
 
 -- for every table, every allowance, every output buffer and whatever values the two desks hold
 pub demand3 : (b : List ℕ) → AreBytes b → (n : ℕ) (v w out : List ℕ)
@@ -123,4 +126,19 @@ demand3 b h n v w out = go (eqb (refusal b) 0) refl
     go : (x : Bool) → eqb (refusal b) 0 ≡ x
         → Demand3 b n v w buffer (cond x (Checked.Accepted (recordCount b)) (Checked.Refused (refusal b))) (simplifyAnswer b n out) (figureAnswer b v) sales
     go true e = accepted b n v w h (eqb-true (refusal b) 0 e) out (recordCount b)
-    go false e = unfold Demand3 in tt
+    go false e = not-accepted b n v w buffer (refusal b) _ _ sales (eqb-false (refusal b) 0 e)
+
+-- and so of the four calls, whatever they were lent
+pub demand-asked : {b : List ℕ} {n : ℕ} {v w out buffer : List ℕ} {checked : Checked} {answer : Simplified} {reception sales : Quote} → AreBytes b
+    → Asked b n v w out buffer checked answer reception sales → Demand3 b n v w buffer checked answer reception sales
+demand-asked {b} {n} {v} {w} {out} h a = rw (a .sells, a .quotes, a .writes, a .simplifies, a .checks) (demand3 b h n v w out)
+
+-- what simplifying wrote stands within the buffer
+pub written-within : (b : List ℕ) (n : ℕ) (out buffer : List ℕ) (answer : Simplified) → answer ≡ simplifyAnswer b n out → buffer ≡ over (simplifyWrites b n out) out → simplifiedLength answer ≤ length buffer
+unfolding simplifyAnswer simplifyWrites madeAnswer
+written-within b n out buffer answer e w = rw (e, w) (go (eqb (simplifyRefusal b out) 0))
+  where
+    go : (x : Bool) → simplifiedLength (cond x (Simplified.Written (length (encode (made b n .tree))) (made b n .taken) (endingOf (made b n .finished))) (Simplified.Refused (simplifyRefusal b out)))
+        ≤ length (over (cond x (encode (made b n .tree)) []) out)
+    go true = unfold simplifiedLength in long-over (encode (made b n .tree)) out
+    go false = unfold simplifiedLength in omega arith
