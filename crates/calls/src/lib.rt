@@ -11,8 +11,9 @@ ghost use lib.ListN.{drop, length, take};
 ghost use Rattle.table.specs.Table.{encode};
 ghost use Rattle.subtrees.specs.Parts.{Simplifiable};
 ghost use Rattle.table.specs.Numbers.{howManyValues, listRoom};
+ghost use Rattle.calls.specs.Demand.{Asked, Demand3};
 ghost use Rattle.calls.specs.Promises.{Promises};
-ghost use Rattle.calls.specs.Answers.{checkAnswer, ceiling, endingOf, figureAnswer, listAnswer, listWrites, made, madeAnswer, over, question9, simplifyAnswer, simplifyWrites};
+ghost use Rattle.calls.specs.Answers.{checkAnswer, ceiling, endingOf, figureAnswer, listAnswer, listWrites, made, madeAnswer, over, question9, simplifiedLength, simplifyAnswer, simplifyWrites};
 ghost use Rattle.calls.specs.Files.{absent, filesAnswer, valueIn, valueLength, valuesFrom, valuesWhole};
 
 // How many values a desk holds.
@@ -221,6 +222,51 @@ pub fn simplify(table: &[u8], allowance: u64, out: &mut [u8]) -> Simplified
         make_steps(table, allowance, out)
     } else {
         Simplified::Refused(10)
+    }
+}
+
+// ---- The calls together
+
+// What checking, simplifying and the figure call answer both desks.
+pub struct BothDesks {
+    pub checked: Checked,
+    pub simplified: Simplified,
+    pub reception: Quote,
+    pub sales: Quote,
+}
+
+// How many bytes simplifying wrote.
+fn length_of(answer: Simplified) -> usize
+    ensures { λ r. ⌜ r ≡ simplifiedLength answer ⌝ }
+{
+    match answer {
+        Simplified::Written(n, _, _) => n,
+        Simplified::Refused(_) => 0,
+    }
+}
+
+// Demand 3. Checks a table and simplifies it into `out`. Reception quotes the table with its values; sales quote with theirs and are lent the written
+// bytes alone.
+pub fn both_desks(
+    table: &[u8],
+    allowance: u64,
+    out: &mut [u8],
+    reception: &[u64],
+    sales: &[u64],
+) -> BothDesks
+    ensures demand { λ r. ⌜ Demand3 (now (table .entry)) allowance (now (reception .entry)) (now (sales .entry)) (now (out .exit)) (r .checked) (r .simplified) (r .reception) (r .sales) ⌝ }
+    ensures answers { λ r. ⌜ Asked (now (table .entry)) allowance (now (reception .entry)) (now (sales .entry)) (now (out .entry)) (now (out .exit)) (r .checked) (r .simplified) (r .reception) (r .sales) ⌝ }
+{
+    let checked = check(table);
+    let simplified = simplify(table, allowance, out);
+    let n = length_of(simplified);
+    let quoted = figure(table, reception);
+    let sold = figure(&out[0..n], sales);
+    BothDesks {
+        checked: checked,
+        simplified: simplified,
+        reception: quoted,
+        sales: sold,
     }
 }
 

@@ -2,7 +2,7 @@
 use mathlib.Core.Path.{_≡_, refl, sym, ap, _∙_, subst}
 use mathlib.Core.Bool.{Bool, true, false, cond}
 use mathlib.Core.List.{List, []}
-use Prim.Native.Nat.{ℕ, _≤_}
+use Prim.Native.Nat.{ℕ, _-_, _≤_}
 use native.Mathlib.Omega.{arith}
 use lib.Dec.{T, leb, eqb}
 use lib.ListN.{length, take, drop, length-append}
@@ -20,6 +20,7 @@ use Rattle.evaluate.specs.Laws.Monotone.{figure-mono, fits-zeros}
 use Rattle.simplify.specs.Steps.{Made, isNone, step, steps}
 use Rattle.simplify.specs.Laws.Stepping.{Kept}
 use Rattle.simplify.specs.Laws.Stepwise.{steps-kept, steps-made, steps-within, steps-spent, steps-finished}
+use Rattle.stepping.specs.Laws.Budget.{part-is}
 use Rattle.calls.specs.declared.Checked.{Checked}
 use Rattle.calls.specs.declared.Quote.{Quote}
 use Rattle.calls.specs.declared.Simplified.{Simplified}
@@ -128,10 +129,14 @@ demand3 b h n v w out = go (eqb (refusal b) 0) refl
     go true e = accepted b n v w h (eqb-true (refusal b) 0 e) out (recordCount b)
     go false e = not-accepted b n v w buffer (refusal b) _ _ sales (eqb-false (refusal b) 0 e)
 
--- and so of the four calls, whatever they were lent
-pub demand-asked : {b : List ℕ} {n : ℕ} {v w out buffer : List ℕ} {checked : Checked} {answer : Simplified} {reception sales : Quote} → AreBytes b
-    → Asked b n v w out buffer checked answer reception sales → Demand3 b n v w buffer checked answer reception sales
-demand-asked {b} {n} {v} {w} {out} h a = rw (a .sells, a .quotes, a .writes, a .simplifies, a .checks) (demand3 b h n v w out)
+-- and so of the four calls, where sales are lent the first k bytes of the buffer
+pub both-asked : (b : List ℕ) (n : ℕ) (v w out buffer : List ℕ) (checked : Checked) (answer : Simplified) (reception sales : Quote) (k : ℕ) → AreBytes b
+    → checked ≡ checkAnswer b → answer ≡ simplifyAnswer b n out → buffer ≡ over (simplifyWrites b n out) out → reception ≡ figureAnswer b v
+    → k ≡ simplifiedLength answer → sales ≡ figureAnswer (take (k - 0) (drop 0 buffer)) w
+    → Demand3 b n v w buffer checked answer reception sales × Asked b n v w out buffer checked answer reception sales
+both-asked b n v w out buffer checked answer reception sales k h c a o r e s =
+    let lent : sales ≡ figureAnswer (soldBytes answer buffer) w = s ∙ ap (λ x. figureAnswer x w) (part-is buffer k ∙ ap (λ x. take x buffer) e) in
+    (rw (lent, r, o, a, c) (demand3 b h n v w out), record { checks = c; simplifies = a; writes = o; quotes = r; sells = lent })
 
 -- what simplifying wrote stands within the buffer
 pub written-within : (b : List ℕ) (n : ℕ) (out buffer : List ℕ) (answer : Simplified) → answer ≡ simplifyAnswer b n out → buffer ≡ over (simplifyWrites b n out) out → simplifiedLength answer ≤ length buffer
