@@ -42,6 +42,19 @@ typedef struct {
 vf_list_answer vf_list(const uint8_t *table, size_t table_len, const uint64_t *values, size_t values_len, uint64_t *out,
                        size_t out_len);
 
+/* What simplifying answers. */
+typedef struct {
+    uint64_t refused;  /* 0 if a table was written, else the number of the first question that says no */
+    uint64_t length;   /* how many bytes were written, 0 if it is refused */
+    uint64_t steps;    /* how many steps were taken, 0 if it is refused */
+    uint64_t finished; /* 1 if no rule fits the written tree, 0 if the allowance is used and a rule fits, or if it is refused */
+} vf_simplified;
+
+/* Puts questions 1 to 8, then 10 with every symbol 0, and writes the table over the front of out after as many steps of
+   simplification as the allowance has, or until no rule fits. out is at least as long as the table. Nothing of out past the
+   written bytes changes, and nothing at all on a refusal. */
+vf_simplified vf_simplify(const uint8_t *table, size_t table_len, uint64_t allowance, uint8_t *out, size_t out_len);
+
 #ifdef __cplusplus
 }
 #endif

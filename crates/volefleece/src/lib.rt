@@ -1,11 +1,15 @@
 // The C interface: thin wrappers of the outside calls, whose answers become structs of numbers. include/volefleece.h declares them.
 use calls::Checked;
+use calls::Ending;
 use calls::Listed;
 use calls::Quote;
+use calls::Simplified;
 ghost use mathlib.Core.Path.{_≡_};
 ghost use Rattle.calls.specs.Answers.{checkAnswer, checkedRefusal, checkedRecords};
 ghost use Rattle.calls.specs.Answers.{figureAnswer, quotedRefusal, quotedFigure};
 ghost use Rattle.calls.specs.Answers.{listAnswer, listedRefusal, listedPairs, listWrites, over};
+ghost use Rattle.calls.specs.Answers.{finishedNumber, simplifyAnswer, simplifyWrites};
+ghost use Rattle.volefleece.specs.Simplified.{Numbers};
 
 #[repr(C)]
 pub struct VfChecked {
@@ -73,6 +77,46 @@ pub extern "C" fn vf_list(table: &[u8], values: &[u64], out: &mut [u64]) -> VfLi
         Listed::Refused(number) => VfListAnswer {
             refused: number,
             pairs: 0,
+        },
+    }
+}
+
+#[repr(C)]
+pub struct VfSimplified {
+    pub refused: u64,
+    pub length: u64,
+    pub steps: u64,
+    pub finished: u64,
+}
+
+// Document 01's number for an ending.
+fn number_of(ending: Ending) -> u64
+    ensures { λ r. ⌜ r ≡ finishedNumber ending ⌝ }
+{
+    match ending {
+        Ending::Finished => 1,
+        Ending::Spent => 0,
+    }
+}
+
+#[no_mangle]
+pub extern "C" fn vf_simplify(table: &[u8], allowance: u64, out: &mut [u8]) -> VfSimplified
+    ensures answer { λ r. ⌜ Numbers r (simplifyAnswer (now (table .entry)) allowance (now (out .entry))) ⌝ }
+    ensures written { λ r. ⌜ now (out .exit) ≡ over (simplifyWrites (now (table .entry)) allowance (now (out .entry))) (now (out .entry)) ⌝ }
+{
+    let answer = calls::simplify(table, allowance, out);
+    match answer {
+        Simplified::Written(length, steps, ending) => VfSimplified {
+            refused: 0,
+            length: length as u64,
+            steps: steps,
+            finished: number_of(ending),
+        },
+        Simplified::Refused(number) => VfSimplified {
+            refused: number,
+            length: 0,
+            steps: 0,
+            finished: 0,
         },
     }
 }
