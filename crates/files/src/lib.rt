@@ -1,4 +1,4 @@
-// Files read whole into lent buffers, for the programs.
+// Whole files read into lent buffers and written from them, for the programs.
 ghost use Rattle.io.specs.Counts.{Counts};
 
 // How much of a buffer a file fills, and whether it could be read.
@@ -45,4 +45,22 @@ fn at_end(fd: i32, path: &[u8], full: bool) -> bool {
         os::fail(path);
     }
     got == 0
+}
+
+// Writes the bytes as the whole file, which is made where it is missing, and answers true; or says on standard error why it cannot, when some of them may have been written.
+pub fn save(path: &[u8], bytes: &[u8]) -> bool {
+    let fd = os::open_overwrite(path);
+    if fd < 0 {
+        os::fail(path);
+        return false;
+    }
+    let written = io::write_all(fd, bytes);
+    if !written {
+        os::fail(path);
+    }
+    let closed = libc::close(fd) == 0;
+    if written & !closed {
+        os::fail(path);
+    }
+    written & closed
 }
