@@ -1,0 +1,37 @@
+-- What simplifying answers, beside the buffer that it wrote to.
+use mathlib.Core.Path.{_≡_, subst}
+use mathlib.Core.Bool.{Bool, true, false, cond}
+use mathlib.Core.List.{List, [], _++_}
+use Prim.Native.Nat.{ℕ}
+use native.Mathlib.Omega.{arith}
+use lib.Dec.{eqb}
+use lib.ListN.{length, drop, length-append, length-take}
+use Rattle.io.specs.Counts.{Counts}
+use Rattle.table.specs.Table.{encode}
+use Rattle.calls.specs.declared.Ending.{Ending}
+use Rattle.calls.specs.declared.Simplified.{Simplified}
+use Rattle.calls.specs.Answers.{over, made, endingOf, simplifyRefusal, simplifyAnswer, simplifyWrites}
+
+-- a written table stands at the buffer's front
+unfoldable pub Within : Simplified → (buffer : List ℕ) → Type 0
+Within (Simplified.Written n steps ending) x = Counts n x
+Within (Simplified.Refused number) x = Unit {0}
+
+pub within-counts : {r : Simplified} {n steps : ℕ} {ending : Ending} (x : List ℕ) → r ≡ Simplified.Written n steps ending → Within r x → Counts n x
+unfolding Within
+within-counts x e h = subst (λ (r : Simplified). Within r x) e h
+
+-- what the call promises of its answer and its buffer says so
+pub answer-within : (b : List ℕ) (n : ℕ) (out x : List ℕ) (r : Simplified) → r ≡ simplifyAnswer b n out → x ≡ over (simplifyWrites b n out) out → Within r x
+unfolding Within simplifyAnswer simplifyWrites over
+answer-within b n out x r e w = rw (e, w) (go (eqb (simplifyRefusal b out) 0))
+  where
+    front : (f : List ℕ) → Counts (length f) (f ++ drop (length f) out)
+    front f = (simp length-append (omega arith), simp (length-take, length-append) (omega arith))
+
+    go : (t : Bool)
+        → Within
+        (cond t (Simplified.Written (length (encode (made b n .tree))) (made b n .taken) (endingOf (made b n .finished))) (Simplified.Refused (simplifyRefusal b out)))
+        (cond t (encode (made b n .tree)) [] ++ drop (length (cond t (encode (made b n .tree)) [])) out)
+    go true = front (encode (made b n .tree))
+    go false = tt
