@@ -1,0 +1,402 @@
+//! The sales desk's program as a process: its arguments, its two files and its one line, against the
+//! second simplifier. The program is `../target/bin/sales`, built by `rt check sales`, or the one that
+//! `VOLEFLEECE_SALES` names.
+
+use std::ffi::{OsStr, OsString};
+use std::os::unix::ffi::OsStringExt;
+use std::os::unix::fs::symlink;
+use std::path::{Path, PathBuf};
+use std::process::{Command, Stdio};
+use std::sync::atomic::{AtomicUsize, Ordering};
+use std::{env, fs, process};
+use volefleece_tests::cases::cases;
+use volefleece_tests::compare::shown;
+use volefleece_tests::faults;
+use volefleece_tests::rng::Rng;
+use volefleece_tests::simplifier::{simplify, Simplified};
+use volefleece_tests::tables::*;
+use volefleece_tests::trees;
+
+const PROGRAM: &str = "VOLEFLEECE_SALES";
+const TREE: &str = "tree.tab";
+const SIMPLE: &str = "simple.tab";
+
+/// No argument.
+const NONE: [&str; 0] = [];
+
+/// What may stand in simple.tab before.
+const OLD: &[u8] = b"old";
+
+fn program() -> PathBuf {
+    let built = || Path::new(env!("CARGO_MANIFEST_DIR")).join("../target/bin/sales");
+    let path = env::var_os(PROGRAM).map_or_else(built, PathBuf::from);
+    assert!(
+        path.is_file(),
+        "{} is missing: build it with `rt check sales`, or set {PROGRAM}",
+        path.display()
+    );
+    path
+}
+
+/// A folder for the program to run in, which goes with its owner.
+struct Folder(PathBuf);
+
+impl Folder {
+    fn new() -> Self {
+        static MADE: AtomicUsize = AtomicUsize::new(0);
+        let number = MADE.fetch_add(1, Ordering::Relaxed);
+        let name = format!("volefleece-sales-{}-{number}", process::id());
+        let path = env::temp_dir().join(name);
+        fs::create_dir(&path).expect("a new folder");
+        Folder(path)
+    }
+
+    fn with_tree(table: &[u8]) -> Self {
+        let folder = Folder::new();
+        folder.write(TREE, table);
+        folder
+    }
+
+    fn path(&self, name: &str) -> PathBuf {
+        self.0.join(name)
+    }
+
+    fn write(&self, name: &str, bytes: &[u8]) {
+        fs::write(self.path(name), bytes).expect("written");
+    }
+
+    /// The file's bytes, if there is one.
+    fn read(&self, name: &str) -> Option<Vec<u8>> {
+        let path = self.path(name);
+        path.is_file().then(|| fs::read(path).expect("read"))
+    }
+
+    fn run<A: AsRef<OsStr>>(&self, arguments: &[A]) -> Written {
+        let output = Command::new(program())
+            .args(arguments)
+            .current_dir(&self.0)
+            .stdin(Stdio::null())
+            .output()
+            .expect("the program starts");
+        assert!(output.status.success(), "{}", output.status);
+        let text = |bytes| String::from_utf8(bytes).expect("text");
+        Written {
+            output: text(output.stdout),
+            error: text(output.stderr),
+        }
+    }
+
+    /// It answers what the second simplifier does with that allowance, and leaves the tree as it was.
+    #[track_caller]
+    fn expect<A: AsRef<OsStr>>(&self, arguments: &[A], allowance: u64) {
+        let tree = self.read(TREE);
+        let before = self.read(SIMPLE);
+        let table = tree.clone().unwrap_or_default();
+        let answer = simplify(&table, allowance, table.len());
+        let written = self.run(arguments);
+        assert_eq!(written.error, "", "{}", shown(&table));
+        assert_eq!(written.output, line(&answer), "{}", shown(&table));
+        let simple = answer.map_or(before, |made| Some(made.bytes));
+        assert_eq!(self.read(SIMPLE), simple, "{}", shown(&table));
+        assert_eq!(self.read(TREE), tree);
+    }
+
+    /// It says why it does nothing, on standard error alone.
+    #[track_caller]
+    fn expect_complaint<A: AsRef<OsStr>>(&self, arguments: &[A], start: &str) {
+        let written = self.run(arguments);
+        assert_eq!(written.output, "");
+        assert!(
+            written.error.starts_with(start) && written.error.ends_with('\n'),
+            "{}",
+            written.error
+        );
+    }
+}
+
+impl Drop for Folder {
+    fn drop(&mut self) {
+        fs::remove_dir_all(&self.0).expect("the folder is still there");
+    }
+}
+
+/// What a run has written to standard output and standard error.
+struct Written {
+    output: String,
+    error: String,
+}
+
+fn line(answer: &Result<Simplified, u64>) -> String {
+    match answer {
+        Ok(made) => {
+            let ending = if made.finished { "finished" } else { "spent" };
+            let bytes = made.bytes.len();
+            format!("simplified {bytes} steps {} {ending}\n", made.steps)
+        }
+        Err(question) => format!("refused {question}\n"),
+    }
+}
+
+/// ((5, X), 0, C(3/n@255 | 2 | 1), 4, (6)), which takes five steps.
+fn five_steps() -> Vec<u8> {
+    sequence(&[
+        sequence(&[block(5), symbol_block(16)]),
+        block(0),
+        choice(&[symbol_limited(block(3), 1, 255), block(2), block(1)]),
+        block(4),
+        sequence(&[block(6)]),
+    ])
+}
+
+// Arguments.
+
+#[test]
+fn without_an_argument_there_is_no_end() {
+    let folder = Folder::with_tree(&five_steps());
+    folder.expect(&NONE, u64::MAX);
+    let simple = folder.read(SIMPLE).expect("a simple tree");
+    let again = Folder::with_tree(&simple);
+    let written = again.run(&NONE);
+    let unchanged = format!("simplified {} steps 0 finished\n", simple.len());
+    assert_eq!(written.output, unchanged);
+    assert_eq!(again.read(SIMPLE), Some(simple));
+}
+
+#[test]
+fn the_argument_is_the_allowance() {
+    let table = five_steps();
+    assert_eq!(
+        simplify(&table, u64::MAX, 8_192).map(|made| made.steps),
+        Ok(5)
+    );
+    for allowance in (0..=7).chain([10, 1_000, u64::MAX - 1, u64::MAX]) {
+        let folder = Folder::with_tree(&table);
+        folder.expect(&[allowance.to_string()], allowance);
+    }
+}
+
+#[test]
+fn leading_zeros_change_nothing() {
+    let folder = Folder::with_tree(&five_steps());
+    folder.expect(&["00"], 0);
+    folder.expect(&["003"], 3);
+    folder.expect(&["018446744073709551615"], u64::MAX);
+    // Linux passes arguments of up to 131,071 bytes.
+    folder.expect(&["0".repeat(131_070) + "2"], 2);
+}
+
+#[test]
+fn other_arguments_are_refused() {
+    let words = [
+        "",
+        "-1",
+        "-0",
+        "+1",
+        " 1",
+        "1 ",
+        "1\n",
+        "1.0",
+        "1e3",
+        "0x10",
+        "1_000",
+        "1,000",
+        "one",
+        "/",
+        ":",
+        "\u{661}",
+        "18446744073709551616",
+        "18446744073709551620",
+        "28446744073709551615",
+        "99999999999999999999",
+        "100000000000000000000",
+        "184467440737095516150",
+        "00018446744073709551616",
+    ];
+    let long = ["9".repeat(1_000), "9".repeat(131_071)];
+    let bytes = OsString::from_vec(vec![b'1', 0xff]);
+    let words = words.iter().map(OsString::from);
+    let long = long.iter().map(OsString::from);
+    for word in words.chain(long).chain([bytes]) {
+        expect_refused(&[word]);
+    }
+}
+
+#[test]
+fn more_arguments_are_refused() {
+    expect_refused(&["1", "2"]);
+    expect_refused(&["1", ""]);
+    expect_refused(&["", ""]);
+    expect_refused(&["1", "2", "3"]);
+}
+
+/// Nothing is written, with or without an old file.
+#[track_caller]
+fn expect_refused<A: AsRef<OsStr>>(arguments: &[A]) {
+    let folder = Folder::with_tree(&five_steps());
+    folder.expect_complaint(arguments, "");
+    assert_eq!(folder.read(SIMPLE), None);
+    folder.write(SIMPLE, OLD);
+    folder.expect_complaint(arguments, "");
+    assert_eq!(folder.read(SIMPLE).as_deref(), Some(OLD));
+}
+
+// Files.
+
+#[test]
+fn a_missing_tree_is_empty() {
+    let folder = Folder::new();
+    let written = folder.run(&NONE);
+    assert_eq!(written.output, "refused 1\n");
+    assert_eq!(written.error, "");
+    assert_eq!(folder.read(SIMPLE), None);
+    assert!(!folder.path(TREE).exists());
+}
+
+#[test]
+fn a_tree_that_cannot_be_read_is_told() {
+    let folder = Folder::new();
+    fs::create_dir(folder.path(TREE)).expect("a new folder");
+    folder.expect_complaint(&NONE, "tree.tab: ");
+    assert_eq!(folder.read(SIMPLE), None);
+}
+
+#[test]
+fn a_simple_tree_that_cannot_be_written_is_told() {
+    let folder = Folder::with_tree(&five_steps());
+    fs::create_dir(folder.path(SIMPLE)).expect("a new folder");
+    folder.expect_complaint(&NONE, "simple.tab: ");
+
+    for place in ["/dev/full", "missing/simple.tab"] {
+        let folder = Folder::with_tree(&five_steps());
+        symlink(place, folder.path(SIMPLE)).expect("a new link");
+        folder.expect_complaint(&NONE, "simple.tab: ");
+    }
+}
+
+#[test]
+fn a_simple_tree_takes_the_place_of_an_old_one() {
+    for length in [0, 1, 16, 48, 100_000] {
+        let folder = Folder::with_tree(&five_steps());
+        folder.write(SIMPLE, &vec![7; length]);
+        folder.expect(&NONE, u64::MAX);
+    }
+}
+
+#[test]
+fn the_tree_may_be_the_simple_tree() {
+    let folder = Folder::new();
+    folder.write(SIMPLE, &five_steps());
+    symlink(SIMPLE, folder.path(TREE)).expect("a new link");
+    let answer = simplify(&five_steps(), 2, 8_192);
+    let written = folder.run(&["2"]);
+    assert_eq!(written.output, line(&answer));
+    assert_eq!(folder.read(SIMPLE), answer.ok().map(|made| made.bytes));
+}
+
+// Refusals.
+
+/// It is refused so, with every allowance, and no file is written.
+#[track_caller]
+fn refused(question: u64, table: &[u8]) {
+    assert_eq!(simplify(table, 0, table.len()), Err(question));
+    for old in [None, Some(OLD)] {
+        for arguments in [&[][..], &["0"], &["1"]] {
+            let folder = Folder::with_tree(table);
+            if let Some(old) = old {
+                folder.write(SIMPLE, old);
+            }
+            let written = folder.run(arguments);
+            assert_eq!(written.output, format!("refused {question}\n"));
+            assert_eq!(written.error, "");
+            assert_eq!(folder.read(SIMPLE).as_deref(), old);
+        }
+    }
+}
+
+#[test]
+fn refusals_write_no_file() {
+    refused(1, &[]);
+    refused(1, &block(7)[..15]);
+    refused(1, &[&block(7)[..], &[0]].concat());
+    refused(2, &[4; 16]);
+    refused(3, &block(1_000_000_000_001));
+    refused(4, &[block(1), block(2)].concat());
+    refused(5, &in_loops(9, 1, block(1)));
+    refused(6, &limited(block(1), 1, 1));
+    refused(7, &in_loops(8, 1, limited(block(1), 1, 255)));
+    refused(10, &sequence(&[block(1_000_000_000_000), block(1)]));
+}
+
+/// Question 10 is put with every symbol 0.
+#[test]
+fn values_are_not_read() {
+    let folder = Folder::with_tree(&sequence(&[block(1_000_000_000_000), symbol_block(16)]));
+    folder.write("values.tab", &[255; 256]);
+    folder.expect(&NONE, u64::MAX);
+    assert_eq!(folder.read("values.tab"), Some(vec![255; 256]));
+}
+
+#[test]
+fn long_files_are_refused_1() {
+    let wide = |children| sequence(&vec![symbol_block(16); children]);
+    let table = |records: usize| sequence(&[wide(255), wide(records - 259), block(1)]);
+    let longest = table(512);
+    assert_eq!(longest.len(), 8_192);
+    let folder = Folder::with_tree(&longest);
+    folder.expect(&NONE, u64::MAX);
+    refused(1, &table(513));
+    for longer in [1, 15, 16, 17, 100_000] {
+        refused(1, &[&longest[..], &vec![0; longer]].concat());
+    }
+}
+
+// Many tables.
+
+#[test]
+fn the_workshops_sample_becomes_the_houses() {
+    let samples = Path::new(env!("CARGO_MANIFEST_DIR")).join("../samples");
+    let read = |name| fs::read(samples.join(name).join(TREE)).expect("a sample");
+    let folder = Folder::with_tree(&read("workshop"));
+    let written = folder.run(&NONE);
+    assert_eq!(written.output, "simplified 192 steps 7 finished\n");
+    assert_eq!(folder.read(SIMPLE), Some(read("house")));
+}
+
+#[test]
+fn cases_are_simplified() {
+    for case in cases() {
+        let folder = Folder::with_tree(&case.table);
+        println!("case {}", case.name);
+        folder.expect(&["0"], 0);
+        folder.expect(&["1"], 1);
+        folder.expect(&NONE, u64::MAX);
+    }
+}
+
+#[test]
+fn random_tables_are_simplified() {
+    let mut rng = Rng::new(401);
+    let mut spent = 0;
+    for _ in 0..400 {
+        let records = rng.size(1..=60);
+        let table = trees::redundant(&mut rng, records).encode();
+        let steps = simplify(&table, u64::MAX, table.len()).map_or(0, |made| made.steps);
+        let allowance = rng.within(0..=steps + 1);
+        spent += u64::from(allowance < steps);
+        let folder = Folder::with_tree(&table);
+        folder.expect(&[allowance.to_string()], allowance);
+        folder.expect(&NONE, u64::MAX);
+    }
+    assert!(spent > 100, "{spent} allowances were spent");
+}
+
+#[test]
+fn random_tables_with_faults_are_refused() {
+    let mut rng = Rng::new(402);
+    for round in 0..140 {
+        let question = 1 + round % 7;
+        let tree = faults::tree(&mut rng, &[question]);
+        let table = faults::table(&mut rng, &tree, &[question]);
+        refused(question, &table);
+    }
+}
