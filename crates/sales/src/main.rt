@@ -7,20 +7,12 @@ use libc::STDOUT_FILENO;
 use table::MOST_RECORDS;
 use table::RECORD_LENGTH;
 ghost use Rattle.io.specs.Counts.{Counts};
-ghost use Rattle.sales.specs.Buffers.{Within};
 
 // One record more than a table may have, so that a longer file shows.
 const ROOM: usize = RECORD_LENGTH * (MOST_RECORDS + 1);
 
 // Linux passes no longer argument.
 const LONGEST_ARGUMENT: usize = 131_072;
-
-// Stands in for calls::simplify, which is called in its place once it is there.
-fn simplify(table: &[u8], allowance: u64, out: &mut [u8]) -> Simplified
-    ensures { λ r. ⌜ Within r (now (out .exit)) ⌝ }
-{
-    Simplified::Refused(1)
-}
 
 // The allowance that the arguments give: the largest where there is none. One that does not fit the buffer reads as empty, which is no number.
 fn allowance() -> Allowance {
@@ -70,8 +62,7 @@ fn refuse(number: u64) {
 
 // Simplifies the tree into the lent buffer, and delivers what was written there.
 fn simplify_into(tree: &[u8], allowance: u64, simple: &mut [u8]) {
-    // The line to replace, by calls::simplify(tree, allowance, simple).
-    let answer = simplify(tree, allowance, simple);
+    let answer = calls::simplify(tree, allowance, simple);
     match answer {
         Simplified::Written(len, steps, ending) => deliver(simple, len, steps, ending),
         Simplified::Refused(number) => refuse(number),

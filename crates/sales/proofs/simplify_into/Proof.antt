@@ -1,5 +1,5 @@
 use borrow.Author.Needs.{needs}
-use Rattle.sales.specs.Buffers.{within-counts}
+use Rattle.sales.specs.Buffers.{within-counts, answer-within}
 use Rattle.sales.proofs.simplify_into.Statement.{statement}
 use Rattle.sales.proofs.simplify_into.Tie as tie
 
@@ -10,7 +10,9 @@ enum-known-answer : tie.Need-enum-known-answer
 enum-known-answer c = search needs
 
 deliver-requires : tie.Need-deliver-requires
-deliver-requires c κs = within-counts _ (c .before .before .answer .given .1) (c .before .before .before .before .before .before .simplify .ensures)
+deliver-requires c κs =
+    let h = c .before .before .before .before .before .before .simplify .ensures in
+    within-counts _ (c .before .before .answer .given .1) (answer-within _ _ _ _ _ (h .0) (h .1))
 
 enum-known-answer-2 : tie.Need-enum-known-answer-2
 enum-known-answer-2 c = search needs
