@@ -2,8 +2,10 @@
 //! stay few and plain; the tests use the safe wrappers alone.
 
 mod figure;
+mod simplify;
 
 pub use figure::{figure, list, Figure, Listed};
+pub use simplify::{simplify, Simplified};
 
 /// The answer of `vf_check`.
 #[repr(C)]

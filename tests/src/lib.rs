@@ -13,6 +13,7 @@
 //! - `damage`, `faults`, `noise`: tables that are wrong in some way.
 //! - `compare`: one table, both readers.
 //! - `quotes`: one table with values, both evaluators.
+//! - `simplifications`: one table with an allowance and a buffer, both simplifiers.
 //! - `rng`: a small deterministic generator of random numbers.
 
 pub mod cases;
@@ -29,6 +30,7 @@ pub mod quotes;
 pub mod reader;
 pub mod rng;
 pub mod runs;
+pub mod simplifications;
 pub mod simplifier;
 pub mod tables;
 pub mod trees;

@@ -2,6 +2,7 @@
 
 use std::ops::RangeInclusive;
 
+#[derive(Clone, Debug)]
 pub struct Rng(u64);
 
 impl Rng {

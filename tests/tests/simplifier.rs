@@ -1,12 +1,12 @@
-//! The second simplifier on hand-written tables: document 01's cases, each rule where it fits and where
-//! it does not, the order of steps and of questions. All numbers here are literals. The library is not
-//! called.
+//! `vf_simplify` and the second simplifier on hand-written tables: document 01's cases, each rule where
+//! it fits and where it does not, the order of steps and of questions. All numbers here are literals.
 
 use volefleece_tests::cases::cases;
 use volefleece_tests::compare::shown;
 use volefleece_tests::evaluator;
 use volefleece_tests::reader;
-use volefleece_tests::simplifier::{simplify, step, Simplified};
+use volefleece_tests::simplifications::Simplifications;
+use volefleece_tests::simplifier::{step, Simplified};
 use volefleece_tests::tables::*;
 use volefleece_tests::trees::Tree;
 
@@ -17,6 +17,12 @@ fn read(table: &[u8]) -> Tree {
         Ok(tree) => tree,
         Err(question) => panic!("refused {question}: {}", shown(table)),
     }
+}
+
+/// What both simplifiers answer.
+#[track_caller]
+fn simplify(table: &[u8], allowance: u64, room: usize) -> Result<Simplified, u64> {
+    Simplifications::new(0).answer(table, allowance, room)
 }
 
 /// The first step takes that rule and makes that table.
@@ -31,6 +37,8 @@ fn becomes(before: &[u8], rule: usize, after: &[u8]) {
         shown(before),
         shown(&table)
     );
+    let answer = simplify(before, 1, before.len()).expect("small amounts");
+    assert_eq!((answer.steps, &answer.bytes[..]), (1, after));
 }
 
 /// No rule fits.
@@ -38,6 +46,8 @@ fn becomes(before: &[u8], rule: usize, after: &[u8]) {
 fn stays(table: &[u8]) {
     let taken = step(&mut read(table));
     assert_eq!(taken, None, "{}", shown(table));
+    let answer = simplify(table, u64::MAX, table.len()).expect("small amounts");
+    assert!(answer.steps == 0 && answer.finished && answer.bytes == table);
 }
 
 /// With steps enough, so many are taken and make that table, which stays.

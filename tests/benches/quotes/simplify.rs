@@ -1,0 +1,93 @@
+//! The simplifying call against plain Rust.
+
+use crate::quote::{quotes, LIMITS, SIZES};
+use crate::timing::{median, medians, Call};
+use std::hint::black_box;
+use volefleece_tests::ffi;
+use volefleece_tests::format::{MOST_RECORDS, RECORD_BYTES};
+use volefleece_tests::rng::Rng;
+use volefleece_tests::simplifier::{self, Simplified};
+use volefleece_tests::trees;
+
+const TABLES: usize = 16;
+const REPETITIONS: usize = 31;
+
+const HEADING: &str = "
+                                |          simplify
+records trees      steps   left |      lib     Rust ratio";
+
+pub fn measure() {
+    println!(
+        "Microseconds a call with steps enough, medians of {REPETITIONS} repetitions over {TABLES} tables, the"
+    );
+    println!(
+        "library's time by plain Rust's, and the medians of the steps taken and the records left. The"
+    );
+    println!(
+        "trees are those above by their limits, and some with much to simplify. The library's buffer is"
+    );
+    println!("used again and not cleared; plain Rust makes a new table.");
+    println!("{HEADING}");
+    for records in SIZES {
+        for limits in LIMITS {
+            let quotes = quotes(TABLES, records, limits).into_iter();
+            let tables: Vec<Vec<u8>> = quotes.map(|quote| quote.table).collect();
+            measure_tables(records, limits.name(), &tables);
+        }
+        measure_tables(records, "redundant", &redundant(records));
+    }
+}
+
+/// Tables of so many records that take some steps, the same in every run.
+fn redundant(records: usize) -> Vec<Vec<u8>> {
+    let mut rng = Rng::new(records as u64);
+    let random = || trees::redundant(&mut rng, records).encode();
+    let takes_steps = |table: &Vec<u8>| second(table).steps >= records as u64 / 8;
+    let tables = std::iter::repeat_with(random).filter(takes_steps);
+    tables.take(TABLES).collect()
+}
+
+fn measure_tables(records: usize, name: &str, tables: &[Vec<u8>]) {
+    let simplified: Vec<Simplified> = tables.iter().map(|table| agreed(table)).collect();
+    let steps = median(simplified.iter().map(|table| table.steps).collect());
+    let left = median(simplified.iter().map(|table| table.bytes.len()).collect()) / RECORD_BYTES;
+    let [library, rust] = times(tables);
+    println!(
+        "{records:7} {name:9} {steps:6} {left:6} | {library:8.2} {rust:8.2} {:5.2}",
+        library / rust
+    );
+}
+
+/// What both answer.
+fn agreed(table: &[u8]) -> Simplified {
+    let second = second(table);
+    let mut out = vec![0; table.len()];
+    let answer = ffi::simplify(table, u64::MAX, &mut out);
+    assert_eq!((answer.refused, answer.steps), (0, second.steps));
+    assert_eq!(out[..answer.length as usize], second.bytes);
+    second
+}
+
+fn second(table: &[u8]) -> Simplified {
+    simplifier::simplify(table, u64::MAX, table.len()).expect("small amounts")
+}
+
+/// The library's and plain Rust's time for a table.
+fn times(tables: &[Vec<u8>]) -> [f64; 2] {
+    let mut out = [0; MOST_RECORDS * RECORD_BYTES];
+    let calls = vec![
+        each(tables, |table| ffi::simplify(table, u64::MAX, &mut out)),
+        each(tables, second),
+    ];
+    let medians = medians(REPETITIONS, calls);
+    let microseconds = |call: usize| medians[call].as_secs_f64() * 1e6 / tables.len() as f64;
+    [microseconds(0), microseconds(1)]
+}
+
+fn each<'t, A>(tables: &'t [Vec<u8>], mut call: impl FnMut(&[u8]) -> A + 't) -> Call<'t> {
+    Box::new(move || {
+        for table in tables {
+            black_box(call(black_box(table)));
+        }
+    })
+}

@@ -1,0 +1,194 @@
+//! One table with an allowance and a buffer, both simplifiers: the call's answer and every byte that it
+//! writes must be the second simplifier's, and it may change nothing but the front of its buffer.
+
+use crate::compare::{lend, shown};
+use crate::ffi;
+use crate::rng::Rng;
+use crate::simplifier::{self, Simplified, Trace};
+use crate::trees::Tree;
+
+/// Bytes on both sides of the buffer, which no call may change.
+const SIDE: usize = 32;
+
+/// The library's answer with the table that it wrote, or its refusal, on a buffer of so many bytes.
+pub fn simplify(
+    rng: &mut Rng,
+    table: &[u8],
+    allowance: u64,
+    room: usize,
+) -> Result<Simplified, u64> {
+    let start = SIDE + rng.index(16);
+    let before = pattern(rng, start + room + SIDE);
+    let mut after = before.clone();
+    let out = &mut after[start..start + room];
+    let (shift, filler) = (rng.index(16), rng.pick(&[0, 1, 255]));
+    let answer = lend(table, shift, filler, |table| {
+        ffi::simplify(table, allowance, out)
+    });
+    let length = usize::try_from(answer.length).expect("a small number");
+    assert!(length <= room, "{answer:?}, with room for {room}");
+    let end = start + length;
+    assert!(
+        after[..start] == before[..start] && after[end..] == before[end..],
+        "{answer:?}, and bytes beside the table have changed"
+    );
+    match answer {
+        ffi::Simplified {
+            refused: 0,
+            steps,
+            finished: finished @ 0..=1,
+            ..
+        } => Ok(Simplified {
+            bytes: after[start..end].to_vec(),
+            steps,
+            finished: finished == 1,
+        }),
+        ffi::Simplified {
+            refused: 1..,
+            length: 0,
+            steps: 0,
+            finished: 0,
+        } => Err(answer.refused),
+        _ => panic!("no such answer: {answer:?}"),
+    }
+}
+
+/// Bytes of which each differs from the next ones, and from call to call.
+fn pattern(rng: &mut Rng, length: usize) -> Vec<u8> {
+    let mut byte = rng.byte();
+    let step = rng.byte() | 1;
+    let next = || {
+        byte = byte.wrapping_add(step);
+        byte
+    };
+    std::iter::repeat_with(next).take(length).collect()
+}
+
+/// Compares simplifyings and counts the answers, so that a test can assert what it has reached.
+#[derive(Debug)]
+pub struct Simplifications {
+    rng: Rng,
+    /// The answers, 0 or a refusal's number.
+    refused: [u64; 11],
+    finished: u64,
+    spent: u64,
+    /// How often each rule was on the way of a table that was compared at many allowances.
+    rules: [u64; 10],
+}
+
+impl Simplifications {
+    /// The seed decides the addresses and buffers, and which allowances are taken of many.
+    pub fn new(seed: u64) -> Self {
+        Simplifications {
+            rng: Rng::new(!seed),
+            refused: [0; 11],
+            finished: 0,
+            spent: 0,
+            rules: [0; 10],
+        }
+    }
+
+    /// What both simplifiers answer on a buffer of so many bytes.
+    pub fn answer(&mut self, table: &[u8], allowance: u64, room: usize) -> Result<Simplified, u64> {
+        let second = simplifier::simplify(table, allowance, room);
+        self.expect(table, allowance, room, &second);
+        second
+    }
+
+    /// The same where the answer itself does not matter.
+    pub fn compare(&mut self, table: &[u8], allowance: u64, room: usize) {
+        drop(self.answer(table, allowance, room));
+    }
+
+    /// The library's answer must be this.
+    pub fn expect(
+        &mut self,
+        table: &[u8],
+        allowance: u64,
+        room: usize,
+        expected: &Result<Simplified, u64>,
+    ) {
+        let answer = simplify(&mut self.rng, table, allowance, room);
+        assert!(
+            answer == *expected,
+            "allowance {allowance}, room {room}: the library {}\nnot {}\n{}",
+            shown_answer(&answer),
+            shown_answer(expected),
+            shown(table)
+        );
+        match answer {
+            Ok(Simplified { finished: true, .. }) => self.finished += 1,
+            Ok(_) => self.spent += 1,
+            Err(_) => {}
+        }
+        self.refused[answer.err().unwrap_or(0) as usize] += 1;
+    }
+
+    /// Compares a table that is not refused at every allowance from 0 to past the end.
+    pub fn compare_all(&mut self, tree: Tree) {
+        let trace = self.traced(tree);
+        let past = trace.rules.len() as u64 + 2;
+        for allowance in (0..=past).chain([u64::MAX]) {
+            self.compare_traced(&trace, allowance);
+        }
+    }
+
+    /// The same at both ends and at some allowances between them.
+    pub fn compare_some(&mut self, tree: Tree) {
+        let trace = self.traced(tree);
+        let end = trace.rules.len() as u64;
+        let last = end.saturating_sub(1);
+        for allowance in [0, 1, last, end, end + 1, u64::MAX] {
+            self.compare_traced(&trace, allowance);
+        }
+        for _ in 0..3 {
+            let allowance = self.rng.within(0..=end);
+            self.compare_traced(&trace, allowance);
+        }
+    }
+
+    fn traced(&mut self, tree: Tree) -> Trace {
+        let trace = simplifier::trace(tree);
+        for &rule in &trace.rules {
+            self.rules[rule] += 1;
+        }
+        trace
+    }
+
+    fn compare_traced(&mut self, trace: &Trace, allowance: u64) {
+        let table = &trace.tables[0];
+        let room = table.len() + self.rng.pick(&[0, 0, 1, 16, 40]);
+        self.expect(table, allowance, room, &Ok(trace.after(allowance)));
+    }
+
+    /// Asserts that each of these answers, 0 or a refusal's number, occurred at least so often.
+    pub fn assert_reached(&self, least: &[(usize, u64)]) {
+        for &(refused, times) in least {
+            let occurred = self.refused[refused];
+            assert!(occurred >= times, "answer {refused}: {self:?}");
+        }
+    }
+
+    /// Asserts that so many answers were finished, and as many spent.
+    pub fn assert_finished_and_spent(&self, times: u64) {
+        assert!(self.finished >= times && self.spent >= times, "{self:?}");
+    }
+
+    /// Asserts that each of these rules was on the way so often.
+    pub fn assert_rules(&self, rules: &[usize], times: u64) {
+        let mut rules = rules.iter();
+        assert!(rules.all(|&rule| self.rules[rule] >= times), "{self:?}");
+    }
+}
+
+fn shown_answer(answer: &Result<Simplified, u64>) -> String {
+    match answer {
+        Ok(simplified) => format!(
+            "takes {} steps, finished {}: {}",
+            simplified.steps,
+            simplified.finished,
+            shown(&simplified.bytes)
+        ),
+        Err(question) => format!("refuses {question}"),
+    }
+}

@@ -1,0 +1,338 @@
+//! `vf_simplify` on random tables, allowances and buffers, byte for byte against the second simplifier
+//! and, where an answer is known by construction, against that. Each test asserts that it has reached
+//! what it is for. The seeds are fixed: every run makes the same tables.
+
+use volefleece_tests::cases::cases;
+use volefleece_tests::compare::shown;
+use volefleece_tests::evaluator;
+use volefleece_tests::faults;
+use volefleece_tests::ffi::{self, Simplified};
+use volefleece_tests::noise;
+use volefleece_tests::reader;
+use volefleece_tests::rng::Rng;
+use volefleece_tests::simplifications::{self, Simplifications};
+use volefleece_tests::tables::*;
+use volefleece_tests::trees::{self, Amount, Amounts, Kind, Tree};
+
+const CEILING: u64 = 1_000_000_000_000;
+const ALL_RULES: [usize; 9] = [1, 2, 3, 4, 5, 6, 7, 8, 9];
+
+const SMALL: Amounts = Amounts {
+    time: 9,
+    bound: 3,
+    limit: 3,
+    symbols: 4,
+};
+
+fn start(seed: u64) -> (Rng, Simplifications) {
+    (Rng::new(seed), Simplifications::new(seed))
+}
+
+/// Mostly small, at times of a hundred records.
+fn records(rng: &mut Rng) -> usize {
+    let most = rng.pick(&[4, 8, 12, 12, 20, 20, 40, 100]);
+    rng.size(1..=most)
+}
+
+fn redundant_table(rng: &mut Rng) -> Vec<u8> {
+    let records = records(rng);
+    trees::redundant(rng, records).encode()
+}
+
+// Allowances.
+
+#[test]
+fn document_01s_cases_at_every_allowance() {
+    let (_, mut simplifications) = start(401);
+    for case in cases() {
+        println!("case {}", case.name);
+        for allowance in (0..5).chain([u64::MAX]) {
+            let answer = simplifications.answer(&case.table, allowance, case.table.len());
+            assert_eq!(answer.err(), case.answer.as_ref().err().copied());
+        }
+    }
+    simplifications.assert_reached(&[(0, 100), (1, 10), (3, 5), (5, 5), (7, 5), (10, 5)]);
+}
+
+#[test]
+fn small_tables_at_every_allowance() {
+    let (mut rng, mut simplifications) = start(402);
+    for _ in 0..150_000 {
+        let most = rng.pick(&[4, 8, 12, 16]);
+        let records = rng.size(1..=most);
+        simplifications.compare_all(trees::redundant(&mut rng, records));
+    }
+    simplifications.assert_rules(&ALL_RULES, 5_000);
+    simplifications.assert_finished_and_spent(200_000);
+}
+
+#[test]
+fn small_tables_of_any_shape_at_every_allowance() {
+    let (mut rng, mut simplifications) = start(403);
+    for _ in 0..60_000 {
+        let records = rng.size(1..=16);
+        let mut tree = trees::within_limits(&mut rng, records);
+        SMALL.set(&mut rng, &mut tree);
+        simplifications.compare_all(tree);
+    }
+    simplifications.assert_rules(&[1, 2, 3, 4, 5, 6, 7, 9], 1_000);
+    simplifications.assert_finished_and_spent(20_000);
+}
+
+#[test]
+fn tables_of_any_size_at_some_allowances() {
+    let (mut rng, mut simplifications) = start(404);
+    for _ in 0..15_000 {
+        let records = records(&mut rng);
+        simplifications.compare_some(trees::redundant(&mut rng, records));
+    }
+    simplifications.assert_rules(&ALL_RULES, 1_000);
+    simplifications.assert_finished_and_spent(30_000);
+}
+
+#[test]
+fn largest_tables() {
+    let (mut rng, mut simplifications) = start(405);
+    for _ in 0..300 {
+        simplifications.compare_some(trees::redundant(&mut rng, 512));
+    }
+    simplifications.assert_rules(&ALL_RULES, 30);
+    simplifications.assert_finished_and_spent(500);
+}
+
+#[test]
+fn crowded_lists() {
+    let (mut rng, mut simplifications) = start(406);
+    for _ in 0..300 {
+        simplifications.compare_some(trees::crowded(&mut rng));
+    }
+    simplifications.assert_rules(&[2, 5, 6, 7], 50);
+    simplifications.assert_finished_and_spent(500);
+}
+
+#[test]
+fn deepest_tables() {
+    const FEW: Amounts = Amounts {
+        time: 3,
+        bound: 1,
+        limit: 2,
+        symbols: 5,
+    };
+    let (mut rng, mut simplifications) = start(407);
+    for _ in 0..2_000 {
+        let loops = rng.size(0..=8);
+        let mut tree = trees::spine(&mut rng, 32, loops);
+        let records = tree.records() + rng.size(0..=20);
+        trees::pad(&mut rng, &mut tree, records);
+        let wanted = rng.pick(&[0, 3, 30, 255]);
+        trees::put_limits(&mut rng, &mut tree, wanted);
+        FEW.set(&mut rng, &mut tree);
+        simplifications.compare_some(tree);
+    }
+    simplifications.assert_rules(&[1, 2, 3, 4, 5, 6, 7, 9], 100);
+    simplifications.assert_finished_and_spent(3_000);
+}
+
+#[test]
+fn allowances_are_read_whole() {
+    let (mut rng, mut simplifications) = start(408);
+    for _ in 0..10_000 {
+        let table = redundant_table(&mut rng);
+        // With the low bytes alone these would be 0 or 1.
+        for bits in [8, 16, 31, 32, 33, 63] {
+            let allowance = (1 << bits) + rng.within(0..=1);
+            simplifications.compare(&table, allowance, table.len());
+        }
+    }
+    simplifications.assert_reached(&[(0, 50_000)]);
+}
+
+#[test]
+fn steps_may_be_taken_in_parts() {
+    let (mut rng, mut simplifications) = start(409);
+    let mut parted = 0;
+    for _ in 0..20_000 {
+        let table = redundant_table(&mut rng);
+        let room = table.len();
+        let whole = simplifications.answer(&table, u64::MAX, room);
+        let whole = whole.expect("small amounts");
+        let allowance = rng.within(0..=whole.steps);
+        let first = simplifications.answer(&table, allowance, room);
+        let first = first.expect("small amounts");
+        let rest = simplifications.answer(&first.bytes, u64::MAX, room);
+        let rest = rest.expect("the written table is not refused");
+        assert_eq!(first.steps + rest.steps, whole.steps, "{}", shown(&table));
+        assert_eq!(rest.bytes, whole.bytes, "{}", shown(&table));
+        parted += u64::from(first.steps > 0 && rest.steps > 0);
+    }
+    assert!(parted > 2_000, "{parted}");
+}
+
+// Desks.
+
+#[test]
+fn the_sales_desk_gets_receptions_figure() {
+    let (mut rng, _) = start(410);
+    let mut shorter = 0;
+    for _ in 0..30_000 {
+        let table = redundant_table(&mut rng);
+        let allowance = rng.pick(&[1, 2, 5, u64::MAX]);
+        let written = simplifications::simplify(&mut rng, &table, allowance, table.len());
+        let written = written.expect("small amounts").bytes;
+        shorter += u64::from(written.len() < table.len());
+        assert_eq!(ffi::check(&written).refused, 0, "{}", shown(&written));
+        let values = SMALL.values(&mut rng);
+        let reception = ffi::figure(&table, &values);
+        let sales = ffi::figure(&written, &values);
+        // Small amounts are seldom too large, but loops of loops may be.
+        if reception.refused == 0 {
+            assert_eq!(sales, reception, "{}", shown(&table));
+        }
+    }
+    assert!(shorter > 20_000, "{shorter}");
+}
+
+// Questions.
+
+#[test]
+fn buffers_of_every_length() {
+    let (mut rng, mut simplifications) = start(411);
+    for _ in 0..30_000 {
+        let table = redundant_table(&mut rng);
+        let length = table.len();
+        let room = match rng.index(4) {
+            0 => rng.pick(&[0, 1, length - 16, length - 1]),
+            1 => rng.pick(&[length, length + 1, length + 16, 8_192, 9_000]),
+            _ => rng.size(0..=2 * length),
+        };
+        let allowance = rng.pick(&[0, 1, 3, u64::MAX]);
+        let answer = simplifications.answer(&table, allowance, room);
+        assert_eq!(answer.err(), (room < length).then_some(8));
+    }
+    simplifications.assert_reached(&[(0, 10_000), (8, 10_000)]);
+    simplifications.assert_finished_and_spent(3_000);
+}
+
+#[test]
+fn nothing_lent() {
+    let refused = |refused| Simplified {
+        refused,
+        length: 0,
+        steps: 0,
+        finished: 0,
+    };
+    for allowance in [0, 1, u64::MAX] {
+        assert_eq!(ffi::simplify(&[], allowance, &mut []), refused(1));
+        let mut out = [7; 16];
+        assert_eq!(ffi::simplify(&[], allowance, &mut out), refused(1));
+        assert_eq!(out, [7; 16]);
+        assert_eq!(ffi::simplify(&block(3), allowance, &mut []), refused(8));
+    }
+    let mut out = [7; 16];
+    let answer = ffi::simplify(&block(3), 0, &mut out);
+    let expected = Simplified {
+        refused: 0,
+        length: 16,
+        steps: 0,
+        finished: 1,
+    };
+    assert_eq!((answer, &out[..]), (expected, &block(3)[..]));
+}
+
+#[test]
+fn tables_around_the_ceiling() {
+    let (mut rng, mut simplifications) = start(412);
+    for _ in 0..40_000 {
+        let records = records(&mut rng);
+        let mut tree = trees::redundant(&mut rng, records);
+        enlarge(&mut tree);
+        let table = tree.encode();
+        let allowance = rng.pick(&[0, 1, 3, u64::MAX]);
+        simplifications.compare(&table, allowance, table.len());
+    }
+    simplifications.assert_reached(&[(0, 10_000), (10, 5_000)]);
+}
+
+/// Makes times so large that few of them reach the ceiling.
+fn enlarge(tree: &mut Tree) {
+    if let Kind::Block(Amount::Plain(time)) = &mut tree.kind {
+        *time *= 100_000_000_000;
+    }
+    tree.children.iter_mut().for_each(enlarge);
+}
+
+#[test]
+fn question_10_is_put_with_every_symbol_0() {
+    let (mut rng, mut simplifications) = start(413);
+    for _ in 0..20_000 {
+        let records = rng.size(1..=20);
+        let tree = trees::redundant(&mut rng, records);
+        let evaluated = evaluator::evaluate(&tree, &[0; 32]);
+        let first = evaluated.expect("small amounts").list.first();
+        let over = rng.within(0..=1);
+        let rest = Tree::block((CEILING - first + over).min(CEILING));
+        let is_over = first >= over && over > 0;
+        let symbol = Tree::new(Kind::Block(Amount::Symbol(31)), Vec::new());
+        let table = Tree::new(Kind::Sequence, vec![tree, rest, symbol]).encode();
+        if reader::check(&table).is_ok() {
+            let answer = simplifications.answer(&table, u64::MAX, table.len());
+            assert_eq!(answer.err(), is_over.then_some(10), "{}", shown(&table));
+        }
+    }
+    simplifications.assert_reached(&[(0, 5_000), (10, 3_000)]);
+}
+
+#[test]
+fn of_many_faults_the_lowest_number_answers() {
+    let (mut rng, mut simplifications) = start(414);
+    for _ in 0..40_000 {
+        let often = rng.within(1..=10);
+        let put = [1, 2, 3, 4, 5, 6, 7, 8, 10].into_iter();
+        let faults: Vec<u64> = put.filter(|_| rng.once_in(often)).collect();
+        let table = faulty_table(&mut rng, &faults);
+        let room = if faults.contains(&8) {
+            rng.pick(&[0, table.len() / 2, table.len() - 1])
+        } else {
+            table.len() + rng.pick(&[0, 1, 100])
+        };
+        let allowance = rng.pick(&[0, 1, u64::MAX]);
+        let answer = simplifications.answer(&table, allowance, room);
+        assert_eq!(answer.err(), faults.first().copied());
+    }
+    let answers = [0, 1, 2, 3, 4, 5, 6, 7, 8, 10];
+    simplifications.assert_reached(&answers.map(|answer| (answer, 500)));
+}
+
+/// A table of small amounts that fails these of questions 1 to 7 and 10.
+fn faulty_table(rng: &mut Rng, faults: &[u64]) -> Vec<u8> {
+    let mut tree = faults::tree(rng, faults);
+    SMALL.set(rng, &mut tree);
+    if faults.contains(&10) {
+        let past = vec![Tree::block(CEILING), Tree::block(1)];
+        let place = rng.size(0..=tree.children.len());
+        tree.children.insert(place, Tree::new(Kind::Sequence, past));
+    }
+    faults::table(rng, &tree, faults)
+}
+
+#[test]
+fn noise_of_every_kind() {
+    let (mut rng, mut simplifications) = start(415);
+    let kinds = [
+        noise::bytes,
+        noise::whole_records,
+        noise::small_bytes,
+        noise::good_records,
+        noise::first_tree,
+        noise::first_tree,
+        noise::first_tree,
+    ];
+    for round in 0..40_000 {
+        let table = kinds[round % kinds.len()](&mut rng);
+        let allowance = rng.pick(&[0, 1, 3, u64::MAX]);
+        let room = table.len() + rng.pick(&[0, 0, 16]);
+        simplifications.compare(&table, allowance, room);
+    }
+    let answers = [(0, 5_000), (1, 2_000), (2, 2_000), (4, 2_000), (6, 500)];
+    simplifications.assert_reached(&answers);
+}
