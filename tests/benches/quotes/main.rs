@@ -16,11 +16,11 @@ fn main() {
     if stack::is_probe() {
         return stack::probe();
     }
-    if false { calls::measure(); }
+    calls::measure();
     println!();
     simplify::measure();
     println!();
     stack::measure();
     println!();
-    if false { processes::measure(); }
+    processes::measure();
 }
