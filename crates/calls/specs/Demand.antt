@@ -11,6 +11,7 @@ use Rattle.simplify.specs.Steps.{step, isNone, after}
 use Rattle.calls.specs.declared.Checked.{Checked}
 use Rattle.calls.specs.declared.Quote.{Quote}
 use Rattle.calls.specs.declared.Simplified.{Simplified}
+use Rattle.calls.specs.Promises.{Promises}
 use Rattle.calls.specs.Answers.{checkAnswer, checkedRefusal, endingOf, figureAnswer, finishedNumber, over, quotedFigure, quotedRefusal, simplifiedFinished, simplifiedLength, simplifiedRefusal, simplifiedSteps, simplifyAnswer, simplifyWrites}
 
 -- w is none lower than v: each number is at least v's at the same place
@@ -60,3 +61,6 @@ pub record Asked (b : List ℕ) (allowance : ℕ) (v w out buffer : List ℕ) (c
   pub writes : buffer ≡ over (simplifyWrites b allowance out) out
   pub quotes : reception ≡ figureAnswer b v
   pub sells : sales ≡ figureAnswer (soldBytes answer buffer) w
+  -- a figure is demand 2's
+  pub promised : Promises b v reception
+  pub promisedSales : Promises (soldBytes answer buffer) w sales

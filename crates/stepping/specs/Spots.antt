@@ -1,12 +1,13 @@
 -- A step as an edit of a table's bytes: what stands before a record stays, and the rest is written anew.
 use mathlib.Core.Path.{_≡_}
+use mathlib.Core.Bool.{Bool}
 use mathlib.Core.List.{List, _++_}
 use mathlib.Core.Option.{Option, none, some}
 use Prim.Native.Nat.{ℕ, _+_, _<_, _≤_}
-use Rattle.table.specs.Table.{encodes, recordCount}
+use Rattle.table.specs.Table.{decode, encode, encodes, recordCount}
 use Rattle.table.specs.Trees.{Forest, Tree, nil, _▸_, recordsIn}
 use Rattle.simplify.specs.Rules.{rule5, rule6, rule7, rule8, rule9}
-use Rattle.simplify.specs.Steps.{also, orElse, step}
+use Rattle.simplify.specs.Steps.{also, orElse, step, steps}
 use Rattle.stepping.specs.Nodes.{Node}
 use Rattle.rewrite.specs.Writing.{front}
 
@@ -22,3 +23,9 @@ stepped t = also (λ u. u ▸ nil) (step t)
 -- rules 5 to 9 at a node
 unfoldable pub laterRule : Node → Forest → Option Tree
 laterRule n f = orElse (rule5 n f) (orElse (rule6 n f) (orElse (rule7 n f) (orElse (rule8 n f) (rule9 n f))))
+
+-- the steps that an allowance of n makes of the table b₀ end at the table b, after k of them, finished or not
+pub record Ends (b₀ : List ℕ) (n : ℕ) (b : List ℕ) (k : ℕ) (finished : Bool) : Type 0 where
+  pub bytes : encode (steps n (decode b₀) .tree) ≡ b
+  pub taken : steps n (decode b₀) .taken ≡ k
+  pub ending : steps n (decode b₀) .finished ≡ finished

@@ -7,6 +7,9 @@ use calls::Simplified;
 ghost use mathlib.Core.Path.{_≡_};
 ghost use Rattle.calls.specs.Answers.{checkAnswer, checkedRefusal, checkedRecords};
 ghost use Rattle.calls.specs.Answers.{figureAnswer, quotedRefusal, quotedFigure};
+ghost use Rattle.calls.specs.Promises.{Promised};
+ghost use Rattle.evaluate.specs.Evaluate.{valuesOf};
+ghost use Rattle.table.specs.Table.{decode};
 ghost use Rattle.calls.specs.Answers.{listAnswer, listedRefusal, listedPairs, listWrites, over};
 ghost use Rattle.calls.specs.Answers.{finishedNumber, simplifyAnswer, simplifyWrites};
 ghost use Rattle.volefleece.specs.Simplified.{Numbers};
@@ -42,7 +45,8 @@ pub struct VfFigureAnswer {
 
 #[no_mangle]
 pub extern "C" fn vf_figure(table: &[u8], values: &[u64]) -> VfFigureAnswer
-    ensures { λ r. ⌜ (r .refused ≡ quotedRefusal (figureAnswer (now (table .entry)) (now (values .entry)))) × (r .figure ≡ quotedFigure (figureAnswer (now (table .entry)) (now (values .entry)))) ⌝ }
+    ensures promise { λ r. ⌜ (r .refused ≡ 0 → Promised (valuesOf (now (values .entry))) (decode (now (table .entry))) (r .figure)) ⌝ }
+    ensures answer { λ r. ⌜ (r .refused ≡ quotedRefusal (figureAnswer (now (table .entry)) (now (values .entry)))) × (r .figure ≡ quotedFigure (figureAnswer (now (table .entry)) (now (values .entry)))) ⌝ }
 {
     let answer = calls::figure(table, values);
     match answer {

@@ -25,6 +25,7 @@ use Rattle.calls.specs.declared.Checked.{Checked}
 use Rattle.calls.specs.declared.Quote.{Quote}
 use Rattle.calls.specs.declared.Simplified.{Simplified}
 use Rattle.calls.specs.Answers.{checkAnswer, checkedRefusal, endingOf, figureAnswer, finishedNumber, made, madeAnswer, over, quoteOf, quotedFigure, quotedRefusal, simplifiedFinished, simplifiedLength, simplifiedRefusal, simplifiedSteps, simplifyAnswer, simplifyRefusal, simplifyWrites}
+use Rattle.calls.specs.Promises.{Promises}
 use Rattle.calls.specs.Demand.{Asked, Demand3, Sold, soldBytes}
 use Rattle.calls.specs.Laws.Figures.{figure-is, figure-of, figured}
 
@@ -132,11 +133,14 @@ demand3 b h n v w out = go (eqb (refusal b) 0) refl
 -- and so of the four calls, where sales are lent the first k bytes of the buffer
 pub both-asked : (b : List ℕ) (n : ℕ) (v w out buffer : List ℕ) (checked : Checked) (answer : Simplified) (reception sales : Quote) (k : ℕ) → AreBytes b
     → checked ≡ checkAnswer b → answer ≡ simplifyAnswer b n out → buffer ≡ over (simplifyWrites b n out) out → reception ≡ figureAnswer b v
-    → k ≡ simplifiedLength answer → sales ≡ figureAnswer (take (k - 0) (drop 0 buffer)) w
+    → k ≡ simplifiedLength answer → sales ≡ figureAnswer (take (k - 0) (drop 0 buffer)) w → Promises b v reception → Promises (take (k - 0) (drop 0 buffer)) w sales
     → Demand3 b n v w buffer checked answer reception sales × Asked b n v w out buffer checked answer reception sales
-both-asked b n v w out buffer checked answer reception sales k h c a o r e s =
-    let lent : sales ≡ figureAnswer (soldBytes answer buffer) w = s ∙ ap (λ x. figureAnswer x w) (part-is buffer k ∙ ap (λ x. take x buffer) e) in
-    (rw (lent, r, o, a, c) (demand3 b h n v w out), record { checks = c; simplifies = a; writes = o; quotes = r; sells = lent })
+both-asked b n v w out buffer checked answer reception sales k h c a o r e s p q =
+    let part : take (k - 0) (drop 0 buffer) ≡ soldBytes answer buffer = part-is buffer k ∙ ap (λ x. take x buffer) e in
+    let lent : sales ≡ figureAnswer (soldBytes answer buffer) w = s ∙ ap (λ x. figureAnswer x w) part in (
+      rw (lent, r, o, a, c) (demand3 b h n v w out),
+      record { checks = c; simplifies = a; writes = o; quotes = r; sells = lent; promised = p; promisedSales = subst (λ x. Promises x w sales) part q },
+    )
 
 -- what simplifying wrote stands within the buffer
 pub written-within : (b : List ℕ) (n : ℕ) (out buffer : List ℕ) (answer : Simplified) → answer ≡ simplifyAnswer b n out → buffer ≡ over (simplifyWrites b n out) out → simplifiedLength answer ≤ length buffer

@@ -20,7 +20,7 @@ use Rattle.evaluate.specs.Laws.Evaluator.{Evaluated, evaluated-table}
 use Rattle.simplify.specs.Steps.{steps}
 use Rattle.subtrees.specs.Parts.{Simplifiable}
 use Rattle.subtrees.specs.Laws.Parts.{few-records, length-is}
-use Rattle.stepping.specs.Laws.Budget.{Ends}
+use Rattle.stepping.specs.Spots.{Ends}
 use Rattle.calls.specs.Answers.{endingOf, made, madeAnswer, over, simplifyAnswer, simplifyRefusal, simplifyWrites}
 use Rattle.calls.specs.declared.Ending.{Ending}
 use Rattle.calls.specs.declared.Simplified.{Simplified}
@@ -35,14 +35,14 @@ copy-is b work copy e = rw (e, take-length b) (take-at b _ (length b) refl)
 pub not-long : (b : List ℕ) → Simplifiable b → length b ≤ recordLength * mostRecords
 not-long b s = omega (arith, length-is b s, few-records b s)
 
-pub made-is : (b copy work out new : List ℕ) (n long count : ℕ) (finished : Bool) (ending : Ending) → copy ≡ b → Ends copy n (take long work) count finished → long ≤ length work
-    → ending ≡ endingOf finished → new ≡ over (take long work) out → (Simplified.Written long count ending ≡ madeAnswer b n) × (new ≡ over (encode (made b n .tree)) out)
+pub made-is : (b copy work out new : List ℕ) (n long count : ℕ) (finished : Bool) (end : Ending) → copy ≡ b → Ends copy n (take long work) count finished → long ≤ length work
+    → end ≡ endingOf finished → new ≡ over (take long work) out → (Simplified.Written long count end ≡ madeAnswer b n) × (new ≡ over (encode (made b n .tree)) out)
 unfolding made madeAnswer
-made-is b copy work out new n long count finished ending c e l f w =
+made-is b copy work out new n long count finished end c e l f w =
     let d : Ends b n (take long work) count finished = rw c at e in
     let size : long ≡ length (encode (steps n (decode b) .tree)) = sym (ap length (d .bytes) ∙ length-take-le long work l) in
-    let end : ending ≡ endingOf (steps n (decode b) .finished) = f ∙ ap endingOf (sym (d .finished′)) in
-    ((λ i. Simplified.Written (size i) (sym (d .taken) i) (end i)), w ∙ ap (λ x. over x out) (sym (d .bytes)))
+    let told : end ≡ endingOf (steps n (decode b) .finished) = f ∙ ap endingOf (sym (d .ending)) in
+    ((λ i. Simplified.Written (size i) (sym (d .taken) i) (told i)), w ∙ ap (λ x. over x out) (sym (d .bytes)))
 
 -- ---- the questions
 

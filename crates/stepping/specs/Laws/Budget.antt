@@ -22,7 +22,7 @@ use Rattle.simplify.specs.Laws.Stepping.{Kept, Steps, ends, goes, last, step-st
 use Rattle.subtrees.specs.Facts.{marksEach}
 use Rattle.subtrees.specs.Parts.{Simplifiable}
 use Rattle.rewrite.specs.Writing.{front, slice}
-use Rattle.stepping.specs.Spots.{Rewritten, stepped}
+use Rattle.stepping.specs.Spots.{Ends, Rewritten, stepped}
 
 -- after k steps, what is made of the rest
 abbrev pub added : ℕ → Made → Made
@@ -114,16 +114,10 @@ used : (t u : Tree) → step t ≡ some u → steps 0 t ≡ record { tree = t; t
 unfolding steps isNone
 used t u e = λ i. record { tree = t; taken = 0; finished = isNone (e i) }
 
--- what was made, where the steps end
-pub record Ends (b₀ : List ℕ) (n : ℕ) (b : List ℕ) (k : ℕ) (finished : Bool) : Type 0 where
-  pub bytes : encode (steps n (decode b₀) .tree) ≡ b
-  pub taken : steps n (decode b₀) .taken ≡ k
-  pub finished′ : steps n (decode b₀) .finished ≡ finished
-
 ends-by : (b₀ : List ℕ) (n : ℕ) (b : List ℕ) (k : ℕ) (finished : Bool) → Going b₀ n b k → steps (n - k) (decode b) ≡ record { tree = decode b; taken = 0; finished = finished } → Ends b₀ n b k finished
 ends-by b₀ n b k finished g e =
     let m = g .same ∙ ap (added k) e in
-    record { bytes = ap (λ x. encode (x .tree)) m ∙ g .simplifiable .back; taken = ap (λ x. x .taken) m ∙ add-zero k; finished′ = ap (λ x. x .finished) m }
+    record { bytes = ap (λ x. encode (x .tree)) m ∙ g .simplifiable .back; taken = ap (λ x. x .taken) m ∙ add-zero k; ending = ap (λ x. x .finished) m }
 
 none-of : (x : Option Tree) (b : List ℕ) (at : ℕ) (out : List ℕ) → Rewritten (also (λ u. u ▸ nil) x) b at 0 out → x ≡ none
 unfolding also Rewritten

@@ -1,5 +1,6 @@
 use mathlib.Core.Path.{refl, sym, _∙_}
 use borrow.Author.Needs.{needs}
+use Rattle.calls.specs.Promises.{Promises}
 use Rattle.calls.specs.Answers.{quotedRefusal, quotedFigure}
 use Rattle.volefleece.proofs.vf_figure.Statement.{statement}
 use Rattle.volefleece.proofs.vf_figure.Tie as tie
@@ -14,12 +15,18 @@ enum-known-answer-2 : tie.Need-enum-known-answer-2
 enum-known-answer-2 c = search needs
 
 returns : tie.Need-returns
-unfolding quotedRefusal quotedFigure
-returns c = rw (sym (c .before .before .before .figure .ensures .0) ∙ c .before .answer .given .1) (refl, refl)
+unfolding Promises quotedRefusal quotedFigure
+returns c =
+    let h = c .before .before .before .figure .ensures in
+    let told = c .before .answer .given .1 in
+    (rw told at (h .1), rw (sym (h .0) ∙ told) (refl, refl))
 
 returns-2 : tie.Need-returns-2
-unfolding quotedRefusal quotedFigure
-returns-2 c = rw (sym (c .before .before .before .figure .ensures .0) ∙ c .before .answer2 .given .1) (refl, refl)
+unfolding Promises quotedRefusal quotedFigure
+returns-2 c =
+    let h = c .before .before .before .figure .ensures in
+    let told = c .before .answer2 .given .1 in
+    (rw told at (h .1), rw (sym (h .0) ∙ told) (refl, refl))
 
 pub vf-figure-spec : {M : Type 1} → statement M
 vf-figure-spec =
