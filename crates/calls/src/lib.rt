@@ -12,7 +12,7 @@ ghost use Rattle.table.specs.Table.{encode};
 ghost use Rattle.subtrees.specs.Parts.{Simplifiable};
 ghost use Rattle.table.specs.Numbers.{howManyValues, listRoom};
 ghost use Rattle.calls.specs.Demand.{Asked, Demand3};
-ghost use Rattle.calls.specs.Promises.{Promises};
+ghost use Rattle.calls.specs.Promises.{ListPromises, Promises};
 ghost use Rattle.calls.specs.Answers.{checkAnswer, ceiling, endingOf, figureAnswer, listAnswer, listWrites, made, madeAnswer, over, question9, simplifiedLength, simplifyAnswer, simplifyWrites};
 ghost use Rattle.calls.specs.Files.{absent, filesAnswer, valueIn, valueLength, valuesFrom, valuesWhole};
 
@@ -132,6 +132,7 @@ pub fn figure(table: &[u8], values: &[u64]) -> Quote
 pub fn list(table: &[u8], values: &[u64], out: &mut [u64]) -> Listed
     ensures answer { λ r. ⌜ r ≡ listAnswer (now (table .entry)) (now (values .entry)) (now (out .entry)) ⌝ }
     ensures written { λ r. ⌜ now (out .exit) ≡ over (listWrites (now (table .entry)) (now (values .entry)) (now (out .entry))) (now (out .entry)) ⌝ }
+    ensures promise { λ r. ⌜ ListPromises (now (table .entry)) (now (values .entry)) r (now (out .exit)) ⌝ }
 {
     let number = table::refusal_of(table);
     if number != 0 {

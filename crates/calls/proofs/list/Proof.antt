@@ -8,6 +8,7 @@ use Rattle.table.specs.Laws.Refusal.{accepted-short}
 use Rattle.lists.specs.Laws.Numbers.{list-width, list-numbers}
 use Rattle.calls.specs.declared.Listed.{Listed}
 use Rattle.calls.specs.Answers.{over}
+use Rattle.calls.specs.Laws.Promises.{list-kept}
 use Rattle.calls.specs.Laws.Evaluated.{untouched, written, list-refused, list-short, list-values, list-large, list-found}
 use Rattle.calls.proofs.list.Statement.{statement}
 use Rattle.calls.proofs.list.Tie as tie
@@ -19,12 +20,12 @@ returns : tie.Need-returns
 returns c =
     let r = c .before in
     let (a, w) = untouched _ _ _ _ (list-refused _ _ _ (λ z. c .if1 .taken (r .refusal-of .ensures ∙ z))) in
-    (ap Listed.Refused (r .refusal-of .ensures) ∙ a, w)
+    list-kept _ _ _ (ap Listed.Refused (r .refusal-of .ensures) ∙ a, w)
 
 returns-2 : tie.Need-returns-2
 returns-2 c =
     let e₁ = c .before in
-    untouched _ _ _ _ (list-short _ _ _ (sym (e₁ .before .refusal-of .ensures) ∙ e₁ .if1 .left) (c .if2 .taken))
+    list-kept _ _ _ (untouched _ _ _ _ (list-short _ _ _ (sym (e₁ .before .refusal-of .ensures) ∙ e₁ .if1 .left) (c .if2 .taken)))
 
 values-allowed-requires : tie.Need-values-allowed-requires
 values-allowed-requires c κs = search needs
@@ -33,8 +34,8 @@ returns-3 : tie.Need-returns-3
 returns-3 c =
     let e₂ = c .before .before in
     let e₁ = e₂ .before in
-    untouched _ _ _ _
-    (list-values _ _ _ (sym (e₁ .before .refusal-of .ensures) ∙ e₁ .if1 .left) (e₂ .if2 .left) (sym (c .before .values-allowed .ensures) ∙ not-true _ (c .if3 .taken)))
+    list-kept _ _ _ (untouched _ _ _ _
+    (list-values _ _ _ (sym (e₁ .before .refusal-of .ensures) ∙ e₁ .if1 .left) (e₂ .if2 .left) (sym (c .before .values-allowed .ensures) ∙ not-true _ (c .if3 .taken))))
 
 evaluate-requires : tie.Need-evaluate-requires
 evaluate-requires c κs =
@@ -71,7 +72,7 @@ returns-4 c =
     let found = list-found _ _ _ (sym (e₁ .before .refusal-of .ensures) ∙ e₁ .if1 .left) (e₂ .if2 .left) bytes
     (sym (e₃ .before .values-allowed .ensures) ∙ not-false _ (e₃ .if3 .left)) (sym (walk .fits) ∙ t .if4 .taken) in
     let (a, o) = written _ _ _ _ _ _ found (w .write-front .ensures ∙ ap (λ ns. over ns (known .before .args .out .now)) (list-numbers _ _ (walk .room) is)) in
-    (ap Listed.Pairs (list-width _ _ is) ∙ a, o)
+    list-kept _ _ _ (ap Listed.Pairs (list-width _ _ is) ∙ a, o)
 
 returns-5 : tie.Need-returns-5
 returns-5 c =
@@ -81,8 +82,8 @@ returns-5 c =
     let e₁ = e₂ .before in
     let known = e₁ .before .before .before .before in
     let bytes : AreBytes (known .before .args .table .now) = λ i. omega (arith, known .shared-slice-known .given i) in
-    untouched _ _ _ _
-    (list-large _ _ _ (sym (e₁ .before .refusal-of .ensures) ∙ e₁ .if1 .left) (e₂ .if2 .left) bytes (sym (e₃ .before .values-allowed .ensures) ∙ not-false _ (e₃ .if3 .left)) (sym (walk .fits) ∙ c .if4 .left))
+    list-kept _ _ _ (untouched _ _ _ _
+    (list-large _ _ _ (sym (e₁ .before .refusal-of .ensures) ∙ e₁ .if1 .left) (e₂ .if2 .left) bytes (sym (e₃ .before .values-allowed .ensures) ∙ not-false _ (e₃ .if3 .left)) (sym (walk .fits) ∙ c .if4 .left)))
 
 pub list-spec : {M : Type 1} → statement M
 list-spec =

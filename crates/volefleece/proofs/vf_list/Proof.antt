@@ -20,7 +20,7 @@ returns : tie.Need-returns
 unfolding listedRefusal listedPairs
 returns c =
     let h = c .before .before .before .before .before .list .ensures in
-    (rw (sym (h .0) ∙ c .before .answer .given .1) (refl, refl), h .1)
+    (rw (sym (h .0) ∙ c .before .answer .given .1) (refl, refl), h .1 .0)
 
 same-length-2 : tie.Need-same-length-2
 same-length-2 c = search needs
@@ -29,7 +29,7 @@ returns-2 : tie.Need-returns-2
 unfolding listedRefusal listedPairs
 returns-2 c =
     let h = c .before .before .before .before .before .list .ensures in
-    (rw (sym (h .0) ∙ c .before .answer2 .given .1) (refl, refl), h .1)
+    (rw (sym (h .0) ∙ c .before .answer2 .given .1) (refl, refl), h .1 .0)
 
 pub vf-list-spec : {M : Type 1} → statement M
 vf-list-spec =
