@@ -14,6 +14,7 @@
 //! - `compare`: one table, both readers.
 //! - `quotes`: one table with values, both evaluators.
 //! - `simplifications`: one table with an allowance and a buffer, both simplifiers.
+//! - `programs`: the programs as processes, and their files.
 //! - `rng`: a small deterministic generator of random numbers.
 
 pub mod cases;
@@ -26,6 +27,7 @@ pub mod fits;
 pub mod format;
 pub mod members;
 pub mod noise;
+pub mod programs;
 pub mod quotes;
 pub mod reader;
 pub mod rng;

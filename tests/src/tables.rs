@@ -52,6 +52,12 @@ pub fn in_sequences(sequences: usize, inner: Vec<u8>) -> Vec<u8> {
     (0..sequences).fold(inner, |child, _| sequence(&[child]))
 }
 
+/// A tree of so many records, from 260 on: one 1 and symbol 16 in all other blocks.
+pub fn long(records: usize) -> Vec<u8> {
+    let wide = |children| sequence(&vec![symbol_block(16); children]);
+    sequence(&[wide(255), wide(records - 259), block(1)])
+}
+
 /// A record without a limit.
 fn record(kind: u8, flags: u8, children: usize, value: u64) -> Vec<u8> {
     let children = u8::try_from(children).expect("at most 255 children");

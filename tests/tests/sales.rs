@@ -5,125 +5,38 @@
 use std::ffi::{OsStr, OsString};
 use std::os::unix::ffi::OsStringExt;
 use std::os::unix::fs::symlink;
-use std::path::{Path, PathBuf};
-use std::process::{Command, Stdio};
-use std::sync::atomic::{AtomicUsize, Ordering};
-use std::{env, fs, process};
 use volefleece_tests::cases::cases;
 use volefleece_tests::compare::shown;
 use volefleece_tests::faults;
+use volefleece_tests::programs::{sample, Folder, NONE, TREE, VALUES};
 use volefleece_tests::rng::Rng;
 use volefleece_tests::simplifier::{simplify, Simplified};
 use volefleece_tests::tables::*;
 use volefleece_tests::trees;
 
-const PROGRAM: &str = "VOLEFLEECE_SALES";
-const TREE: &str = "tree.tab";
+const SALES: &str = "sales";
 const SIMPLE: &str = "simple.tab";
-
-/// No argument.
-const NONE: [&str; 0] = [];
 
 /// What may stand in simple.tab before.
 const OLD: &[u8] = b"old";
 
-fn program() -> PathBuf {
-    let built = || Path::new(env!("CARGO_MANIFEST_DIR")).join("../target/bin/sales");
-    let path = env::var_os(PROGRAM).map_or_else(built, PathBuf::from);
-    assert!(
-        path.is_file(),
-        "{} is missing: build it with `rt check sales`, or set {PROGRAM}",
-        path.display()
-    );
-    path
+fn with_tree(table: &[u8]) -> Folder {
+    Folder::with_tree(SALES, table)
 }
 
-/// A folder for the program to run in, which goes with its owner.
-struct Folder(PathBuf);
-
-impl Folder {
-    fn new() -> Self {
-        static MADE: AtomicUsize = AtomicUsize::new(0);
-        let number = MADE.fetch_add(1, Ordering::Relaxed);
-        let name = format!("volefleece-sales-{}-{number}", process::id());
-        let path = env::temp_dir().join(name);
-        fs::create_dir(&path).expect("a new folder");
-        Folder(path)
-    }
-
-    fn with_tree(table: &[u8]) -> Self {
-        let folder = Folder::new();
-        folder.write(TREE, table);
-        folder
-    }
-
-    fn path(&self, name: &str) -> PathBuf {
-        self.0.join(name)
-    }
-
-    fn write(&self, name: &str, bytes: &[u8]) {
-        fs::write(self.path(name), bytes).expect("written");
-    }
-
-    /// The file's bytes, if there is one.
-    fn read(&self, name: &str) -> Option<Vec<u8>> {
-        let path = self.path(name);
-        path.is_file().then(|| fs::read(path).expect("read"))
-    }
-
-    fn run<A: AsRef<OsStr>>(&self, arguments: &[A]) -> Written {
-        let output = Command::new(program())
-            .args(arguments)
-            .current_dir(&self.0)
-            .stdin(Stdio::null())
-            .output()
-            .expect("the program starts");
-        assert!(output.status.success(), "{}", output.status);
-        let text = |bytes| String::from_utf8(bytes).expect("text");
-        Written {
-            output: text(output.stdout),
-            error: text(output.stderr),
-        }
-    }
-
-    /// It answers what the second simplifier does with that allowance, and leaves the tree as it was.
-    #[track_caller]
-    fn expect<A: AsRef<OsStr>>(&self, arguments: &[A], allowance: u64) {
-        let tree = self.read(TREE);
-        let before = self.read(SIMPLE);
-        let table = tree.clone().unwrap_or_default();
-        let answer = simplify(&table, allowance, table.len());
-        let written = self.run(arguments);
-        assert_eq!(written.error, "", "{}", shown(&table));
-        assert_eq!(written.output, line(&answer), "{}", shown(&table));
-        let simple = answer.map_or(before, |made| Some(made.bytes));
-        assert_eq!(self.read(SIMPLE), simple, "{}", shown(&table));
-        assert_eq!(self.read(TREE), tree);
-    }
-
-    /// It says why it does nothing, on standard error alone.
-    #[track_caller]
-    fn expect_complaint<A: AsRef<OsStr>>(&self, arguments: &[A], start: &str) {
-        let written = self.run(arguments);
-        assert_eq!(written.output, "");
-        assert!(
-            written.error.starts_with(start) && written.error.ends_with('\n'),
-            "{}",
-            written.error
-        );
-    }
-}
-
-impl Drop for Folder {
-    fn drop(&mut self) {
-        fs::remove_dir_all(&self.0).expect("the folder is still there");
-    }
-}
-
-/// What a run has written to standard output and standard error.
-struct Written {
-    output: String,
-    error: String,
+/// It answers what the second simplifier does with that allowance, and leaves the tree as it was.
+#[track_caller]
+fn expect<A: AsRef<OsStr>>(folder: &Folder, arguments: &[A], allowance: u64) {
+    let tree = folder.read(TREE);
+    let before = folder.read(SIMPLE);
+    let table = tree.clone().unwrap_or_default();
+    let answer = simplify(&table, allowance, table.len());
+    let written = folder.run(arguments);
+    assert_eq!(written.error, "", "{}", shown(&table));
+    assert_eq!(written.output, line(&answer), "{}", shown(&table));
+    let simple = answer.map_or(before, |made| Some(made.bytes));
+    assert_eq!(folder.read(SIMPLE), simple, "{}", shown(&table));
+    assert_eq!(folder.read(TREE), tree);
 }
 
 fn line(answer: &Result<Simplified, u64>) -> String {
@@ -152,10 +65,10 @@ fn five_steps() -> Vec<u8> {
 
 #[test]
 fn without_an_argument_there_is_no_end() {
-    let folder = Folder::with_tree(&five_steps());
-    folder.expect(&NONE, u64::MAX);
+    let folder = with_tree(&five_steps());
+    expect(&folder, &NONE, u64::MAX);
     let simple = folder.read(SIMPLE).expect("a simple tree");
-    let again = Folder::with_tree(&simple);
+    let again = with_tree(&simple);
     let written = again.run(&NONE);
     let unchanged = format!("simplified {} steps 0 finished\n", simple.len());
     assert_eq!(written.output, unchanged);
@@ -170,19 +83,19 @@ fn the_argument_is_the_allowance() {
         Ok(5)
     );
     for allowance in (0..=7).chain([10, 1_000, u64::MAX - 1, u64::MAX]) {
-        let folder = Folder::with_tree(&table);
-        folder.expect(&[allowance.to_string()], allowance);
+        let folder = with_tree(&table);
+        expect(&folder, &[allowance.to_string()], allowance);
     }
 }
 
 #[test]
 fn leading_zeros_change_nothing() {
-    let folder = Folder::with_tree(&five_steps());
-    folder.expect(&["00"], 0);
-    folder.expect(&["003"], 3);
-    folder.expect(&["018446744073709551615"], u64::MAX);
+    let folder = with_tree(&five_steps());
+    expect(&folder, &["00"], 0);
+    expect(&folder, &["003"], 3);
+    expect(&folder, &["018446744073709551615"], u64::MAX);
     // Linux passes arguments of up to 131,071 bytes.
-    folder.expect(&["0".repeat(131_070) + "2"], 2);
+    expect(&folder, &["0".repeat(131_070) + "2"], 2);
 }
 
 #[test]
@@ -232,7 +145,7 @@ fn more_arguments_are_refused() {
 /// Nothing is written, with or without an old file.
 #[track_caller]
 fn expect_refused<A: AsRef<OsStr>>(arguments: &[A]) {
-    let folder = Folder::with_tree(&five_steps());
+    let folder = with_tree(&five_steps());
     folder.expect_complaint(arguments, "");
     assert_eq!(folder.read(SIMPLE), None);
     folder.write(SIMPLE, OLD);
@@ -244,7 +157,7 @@ fn expect_refused<A: AsRef<OsStr>>(arguments: &[A]) {
 
 #[test]
 fn a_missing_tree_is_empty() {
-    let folder = Folder::new();
+    let folder = Folder::new(SALES);
     let written = folder.run(&NONE);
     assert_eq!(written.output, "refused 1\n");
     assert_eq!(written.error, "");
@@ -254,20 +167,20 @@ fn a_missing_tree_is_empty() {
 
 #[test]
 fn a_tree_that_cannot_be_read_is_told() {
-    let folder = Folder::new();
-    fs::create_dir(folder.path(TREE)).expect("a new folder");
+    let folder = Folder::new(SALES);
+    folder.put_folder(TREE);
     folder.expect_complaint(&NONE, "tree.tab: ");
     assert_eq!(folder.read(SIMPLE), None);
 }
 
 #[test]
 fn a_simple_tree_that_cannot_be_written_is_told() {
-    let folder = Folder::with_tree(&five_steps());
-    fs::create_dir(folder.path(SIMPLE)).expect("a new folder");
+    let folder = with_tree(&five_steps());
+    folder.put_folder(SIMPLE);
     folder.expect_complaint(&NONE, "simple.tab: ");
 
     for place in ["/dev/full", "missing/simple.tab"] {
-        let folder = Folder::with_tree(&five_steps());
+        let folder = with_tree(&five_steps());
         symlink(place, folder.path(SIMPLE)).expect("a new link");
         folder.expect_complaint(&NONE, "simple.tab: ");
     }
@@ -276,15 +189,15 @@ fn a_simple_tree_that_cannot_be_written_is_told() {
 #[test]
 fn a_simple_tree_takes_the_place_of_an_old_one() {
     for length in [0, 1, 16, 48, 100_000] {
-        let folder = Folder::with_tree(&five_steps());
+        let folder = with_tree(&five_steps());
         folder.write(SIMPLE, &vec![7; length]);
-        folder.expect(&NONE, u64::MAX);
+        expect(&folder, &NONE, u64::MAX);
     }
 }
 
 #[test]
 fn the_tree_may_be_the_simple_tree() {
-    let folder = Folder::new();
+    let folder = Folder::new(SALES);
     folder.write(SIMPLE, &five_steps());
     symlink(SIMPLE, folder.path(TREE)).expect("a new link");
     let answer = simplify(&five_steps(), 2, 8_192);
@@ -301,7 +214,7 @@ fn refused(question: u64, table: &[u8]) {
     assert_eq!(simplify(table, 0, table.len()), Err(question));
     for old in [None, Some(OLD)] {
         for arguments in [&[][..], &["0"], &["1"]] {
-            let folder = Folder::with_tree(table);
+            let folder = with_tree(table);
             if let Some(old) = old {
                 folder.write(SIMPLE, old);
             }
@@ -330,21 +243,19 @@ fn refusals_write_no_file() {
 /// Question 10 is put with every symbol 0.
 #[test]
 fn values_are_not_read() {
-    let folder = Folder::with_tree(&sequence(&[block(1_000_000_000_000), symbol_block(16)]));
-    folder.write("values.tab", &[255; 256]);
-    folder.expect(&NONE, u64::MAX);
-    assert_eq!(folder.read("values.tab"), Some(vec![255; 256]));
+    let folder = with_tree(&sequence(&[block(1_000_000_000_000), symbol_block(16)]));
+    folder.write(VALUES, &[255; 256]);
+    expect(&folder, &NONE, u64::MAX);
+    assert_eq!(folder.read(VALUES), Some(vec![255; 256]));
 }
 
 #[test]
 fn long_files_are_refused_1() {
-    let wide = |children| sequence(&vec![symbol_block(16); children]);
-    let table = |records: usize| sequence(&[wide(255), wide(records - 259), block(1)]);
-    let longest = table(512);
+    let longest = long(512);
     assert_eq!(longest.len(), 8_192);
-    let folder = Folder::with_tree(&longest);
-    folder.expect(&NONE, u64::MAX);
-    refused(1, &table(513));
+    let folder = with_tree(&longest);
+    expect(&folder, &NONE, u64::MAX);
+    refused(1, &long(513));
     for longer in [1, 15, 16, 17, 100_000] {
         refused(1, &[&longest[..], &vec![0; longer]].concat());
     }
@@ -354,22 +265,20 @@ fn long_files_are_refused_1() {
 
 #[test]
 fn the_workshops_sample_becomes_the_houses() {
-    let samples = Path::new(env!("CARGO_MANIFEST_DIR")).join("../samples");
-    let read = |name| fs::read(samples.join(name).join(TREE)).expect("a sample");
-    let folder = Folder::with_tree(&read("workshop"));
+    let folder = with_tree(&sample("workshop", TREE));
     let written = folder.run(&NONE);
     assert_eq!(written.output, "simplified 192 steps 7 finished\n");
-    assert_eq!(folder.read(SIMPLE), Some(read("house")));
+    assert_eq!(folder.read(SIMPLE), Some(sample("house", TREE)));
 }
 
 #[test]
 fn cases_are_simplified() {
     for case in cases() {
-        let folder = Folder::with_tree(&case.table);
+        let folder = with_tree(&case.table);
         println!("case {}", case.name);
-        folder.expect(&["0"], 0);
-        folder.expect(&["1"], 1);
-        folder.expect(&NONE, u64::MAX);
+        expect(&folder, &["0"], 0);
+        expect(&folder, &["1"], 1);
+        expect(&folder, &NONE, u64::MAX);
     }
 }
 
@@ -383,9 +292,9 @@ fn random_tables_are_simplified() {
         let steps = simplify(&table, u64::MAX, table.len()).map_or(0, |made| made.steps);
         let allowance = rng.within(0..=steps + 1);
         spent += u64::from(allowance < steps);
-        let folder = Folder::with_tree(&table);
-        folder.expect(&[allowance.to_string()], allowance);
-        folder.expect(&NONE, u64::MAX);
+        let folder = with_tree(&table);
+        expect(&folder, &[allowance.to_string()], allowance);
+        expect(&folder, &NONE, u64::MAX);
     }
     assert!(spent > 100, "{spent} allowances were spent");
 }

@@ -8,6 +8,7 @@ use std::path::{Path, PathBuf};
 use std::process::{Command, Stdio};
 use std::time::{Duration, Instant};
 use std::{env, fs, process};
+use volefleece_tests::programs::{values_file, TREE, VALUES};
 
 const DESK: &str = "VOLEFLEECE_DESK";
 const LP_SOLVE: &str = "lp_solve";
@@ -113,15 +114,10 @@ impl Solver {
 }
 
 fn write_files(folder: &Path, quote: &Quote) {
-    let values: Vec<u8> = quote
-        .values
-        .iter()
-        .flat_map(|value| value.to_le_bytes())
-        .collect();
     let program = integer_program(&quote.tree, &quote.values);
     let write = |name, bytes: &[u8]| fs::write(folder.join(name), bytes).expect("written");
-    write("tree.tab", &quote.table);
-    write("values.tab", &values);
+    write(TREE, &quote.table);
+    write(VALUES, &values_file(&quote.values));
     write(INTEGER_PROGRAM, program.as_bytes());
 }
 
