@@ -1,0 +1,296 @@
+//! The desk program as a process: its two files and its one line, against the second evaluator. The
+//! program is `../target/bin/desk`, built by `rt check desk`, or the one that `VOLEFLEECE_DESK` names.
+
+use volefleece_tests::cases::{self, cases};
+use volefleece_tests::compare::shown;
+use volefleece_tests::evaluator;
+use volefleece_tests::faults;
+use volefleece_tests::programs::{sample, values_file, Folder, NONE, TREE, VALUES};
+use volefleece_tests::reader;
+use volefleece_tests::rng::Rng;
+use volefleece_tests::tables::*;
+use volefleece_tests::trees::{self, Amounts};
+
+const DESK: &str = "desk";
+
+/// Figures on both sides of the ceiling.
+const MIDDLING: Amounts = Amounts {
+    time: 10_000_000,
+    bound: 200,
+    limit: 1_000,
+    symbols: 3,
+};
+
+fn with_files(tree: &[u8], values: &[u8]) -> Folder {
+    let folder = Folder::with_tree(DESK, tree);
+    folder.write(VALUES, values);
+    folder
+}
+
+/// It writes exactly this line.
+#[track_caller]
+fn says(folder: &Folder, line: &str) {
+    let written = folder.run(&NONE);
+    assert_eq!(written.error, "");
+    assert_eq!(written.output, format!("{line}\n"));
+}
+
+/// It writes this line on these files, and leaves them as they were.
+#[track_caller]
+fn quotes(tree: &[u8], values: &[u8], line: &str) {
+    let folder = with_files(tree, values);
+    says(&folder, line);
+    assert_eq!(folder.read(TREE).as_deref(), Some(tree));
+    assert_eq!(folder.read(VALUES).as_deref(), Some(values));
+}
+
+/// It answers what the second evaluator does, whose figure or refusal is returned.
+#[track_caller]
+fn expect(tree: &[u8], values: &[u8]) -> Result<u64, u64> {
+    println!("values {values:?}\n{}", shown(tree));
+    let answer = match numbers(values) {
+        Some(numbers) => evaluator::figure(tree, &numbers),
+        None => reader::check(tree).and(Err(9)),
+    };
+    quotes(tree, values, &line(answer));
+    answer
+}
+
+/// The 32 values of a file, unless its length is refused.
+fn numbers(values: &[u8]) -> Option<[u64; 32]> {
+    let mut numbers = [0; 32];
+    let (whole, rest) = values.as_chunks();
+    if whole.len() > numbers.len() || !rest.is_empty() {
+        return None;
+    }
+    for (number, &bytes) in numbers.iter_mut().zip(whole) {
+        *number = u64::from_le_bytes(bytes);
+    }
+    Some(numbers)
+}
+
+fn line(answer: Result<u64, u64>) -> String {
+    match answer {
+        Ok(figure) => format!("figure {figure}"),
+        Err(question) => format!("refused {question}"),
+    }
+}
+
+/// (loop n of 1, X, Y), whose symbols are the first value and the last two.
+fn first_and_last() -> Vec<u8> {
+    sequence(&[
+        symbol_repeat(0, block(1), block(0)),
+        symbol_block(30),
+        symbol_block(31),
+    ])
+}
+
+/// Enough values for a file that is too long.
+fn many_values() -> Vec<u8> {
+    let mut values = [0; 40];
+    values[0] = 5;
+    values[30] = 200;
+    values[31] = 1_000;
+    values_file(&values)
+}
+
+/// Trees that fail questions 1 to 7, in this order.
+fn refused_trees() -> Vec<Vec<u8>> {
+    vec![
+        block(7)[..15].to_vec(),
+        vec![4; 16],
+        block(1_000_000_000_001),
+        [block(1), block(2)].concat(),
+        in_loops(9, 1, block(1)),
+        limited(block(1), 1, 1),
+        in_loops(8, 1, limited(block(1), 1, 255)),
+    ]
+}
+
+// Samples.
+
+#[test]
+fn the_sample_houses_figure() {
+    let (tree, values) = (sample("house", TREE), sample("house", VALUES));
+    quotes(&tree, &values, "figure 210910");
+}
+
+#[test]
+fn the_workshops_tree_has_the_houses_figure_before_and_after() {
+    let (tree, values) = (sample("workshop", TREE), sample("workshop", VALUES));
+    quotes(&tree, &values, "figure 210910");
+    let sales = Folder::with_tree("sales", &tree);
+    sales.run(&NONE);
+    let simple = sales.read("simple.tab").expect("a simple tree");
+    quotes(&simple, &values, "figure 210910");
+}
+
+// Files.
+
+#[test]
+fn a_missing_tree_is_empty() {
+    let folder = Folder::new(DESK);
+    says(&folder, "refused 1");
+    folder.write(VALUES, &many_values()[..256]);
+    says(&folder, "refused 1");
+    assert!(!folder.path(TREE).exists());
+}
+
+#[test]
+fn missing_values_are_0() {
+    let folder = Folder::with_tree(DESK, &sequence(&[block(7), first_and_last()]));
+    says(&folder, "figure 7");
+    assert!(!folder.path(VALUES).exists());
+}
+
+#[test]
+fn absent_last_values_are_0() {
+    let values = many_values();
+    let figures = [(0, 0), (8, 5), (240, 5), (248, 205), (256, 1_205)];
+    for (length, figure) in figures {
+        let line = format!("figure {figure}");
+        quotes(&first_and_last(), &values[..length], &line);
+    }
+}
+
+#[test]
+fn other_lengths_of_values_are_refused_9() {
+    let values = many_values();
+    for length in [1, 4, 7, 9, 15, 247, 249, 255, 257, 263, 264, 265, 272, 320] {
+        quotes(&first_and_last(), &values[..length], "refused 9");
+    }
+    quotes(&first_and_last(), &vec![0; 100_000], "refused 9");
+}
+
+#[test]
+fn long_trees_are_refused_1() {
+    let values = [0; 136];
+    let longest = long(512);
+    quotes(&longest, &values, "figure 1");
+    quotes(&long(513), &values, "refused 1");
+    quotes(&long(514), &values, "refused 1");
+    for longer in [1, 15, 16, 17, 100_000] {
+        let table = [&longest[..], &vec![0; longer]].concat();
+        quotes(&table, &values, "refused 1");
+    }
+}
+
+#[test]
+fn a_file_that_cannot_be_read_is_told() {
+    let folder = Folder::new(DESK);
+    folder.put_folder(TREE);
+    folder.expect_complaint(&NONE, "tree.tab: ");
+    folder.write(VALUES, &[0; 256]);
+    folder.expect_complaint(&NONE, "tree.tab: ");
+}
+
+/// Even where the tree alone would be refused.
+#[test]
+fn values_that_cannot_be_read_are_told() {
+    for tree in [block(7), block(7)[..15].to_vec(), Vec::new()] {
+        let folder = Folder::with_tree(DESK, &tree);
+        folder.put_folder(VALUES);
+        folder.expect_complaint(&NONE, "values.tab: ");
+    }
+    let folder = Folder::new(DESK);
+    folder.put_folder(VALUES);
+    folder.expect_complaint(&NONE, "values.tab: ");
+}
+
+// Questions.
+
+#[test]
+fn a_bad_trees_number_comes_before_the_values() {
+    let long = many_values();
+    let too_large = values_file(&[1_000_001]);
+    for (question, tree) in (1..).zip(refused_trees()) {
+        let line = format!("refused {question}");
+        for values in [&[][..], &long[..1], &long[..257], &long[..264], &too_large] {
+            quotes(&tree, values, &line);
+        }
+    }
+}
+
+#[test]
+fn too_large_values_are_refused_9() {
+    for (symbol, most) in [
+        (0, 1_000_000),
+        (15, 1_000_000),
+        (16, 1_000_000_000_000),
+        (31, 1_000_000_000_000),
+    ] {
+        let mut values = [0; 32];
+        values[symbol] = most;
+        quotes(&block(7), &values_file(&values), "figure 7");
+        for larger in [most + 1, u64::MAX] {
+            values[symbol] = larger;
+            quotes(&block(7), &values_file(&values), "refused 9");
+        }
+    }
+}
+
+#[test]
+fn question_10_comes_last() {
+    let tree = sequence(&[block(1_000_000_000_000), symbol_block(16)]);
+    let mut values = [0; 32];
+    quotes(&tree, &values_file(&values), "figure 1000000000000");
+    values[16] = 1;
+    let file = values_file(&values);
+    quotes(&tree, &file, "refused 10");
+    quotes(&tree, &[&file[..], &[0]].concat(), "refused 9");
+    values[31] = u64::MAX;
+    quotes(&tree, &values_file(&values), "refused 9");
+}
+
+// Many tables.
+
+#[test]
+fn cases_are_quoted() {
+    for case in cases() {
+        println!("case {}", case.name);
+        let answer = expect(&case.table, &values_file(&cases::VALUES));
+        assert_eq!(answer, case.answer.map(|pairs| pairs[0].0));
+    }
+}
+
+#[test]
+fn random_tables_are_quoted() {
+    let mut rng = Rng::new(501);
+    let (mut figures, mut too_large) = (0, 0);
+    for _ in 0..400 {
+        let records = rng.size(1..=60);
+        let mut tree = trees::within_limits(&mut rng, records);
+        MIDDLING.set(&mut rng, &mut tree);
+        let count = rng.size(0..=32);
+        let values = values_file(&MIDDLING.values(&mut rng)[..count]);
+        match expect(&tree.encode(), &values) {
+            Ok(figure) => figures += u64::from(figure > 0),
+            Err(question) => too_large += u64::from(question == 10),
+        }
+    }
+    assert!(figures > 100 && too_large > 20, "{figures}, {too_large}");
+}
+
+#[test]
+fn random_tables_with_faults_are_refused() {
+    let mut rng = Rng::new(502);
+    for round in 0..210 {
+        let question = 1 + round % 7;
+        let tree = faults::tree(&mut rng, &[question]);
+        let table = faults::table(&mut rng, &tree, &[question]);
+        let length = rng.size(0..=300);
+        assert_eq!(expect(&table, &vec![0; length]), Err(question));
+    }
+}
+
+#[test]
+fn random_lengths_of_values() {
+    let mut rng = Rng::new(503);
+    let mut refused = 0;
+    for _ in 0..200 {
+        let length = rng.size(0..=80) * rng.pick(&[1, 8]);
+        let values = values_file(&MIDDLING.values(&mut rng).repeat(3));
+        refused += u64::from(expect(&first_and_last(), &values[..length]) == Err(9));
+    }
+    assert!((50..=150).contains(&refused), "{refused}");
+}
