@@ -6,7 +6,7 @@ use volefleece_tests::cases::cases;
 use volefleece_tests::compare::shown;
 use volefleece_tests::evaluator;
 use volefleece_tests::faults;
-use volefleece_tests::ffi::{self, Simplified};
+use volefleece_tests::ffi::{self, Figure, Simplified};
 use volefleece_tests::noise;
 use volefleece_tests::reader;
 use volefleece_tests::rng::Rng;
@@ -16,6 +16,12 @@ use volefleece_tests::trees::{self, Amount, Amounts, Kind, Tree};
 
 const CEILING: u64 = 1_000_000_000_000;
 const ALL_RULES: [usize; 9] = [1, 2, 3, 4, 5, 6, 7, 8, 9];
+
+/// A figure call's refusal 10.
+const TOO_LARGE: Figure = Figure {
+    refused: 10,
+    figure: 0,
+};
 
 const SMALL: Amounts = Amounts {
     time: 9,
@@ -173,7 +179,7 @@ fn steps_may_be_taken_in_parts() {
 #[test]
 fn the_sales_desk_gets_receptions_figure() {
     let (mut rng, _) = start(410);
-    let mut shorter = 0;
+    let (mut shorter, mut higher) = (0, 0);
     for _ in 0..30_000 {
         let table = redundant_table(&mut rng);
         let allowance = rng.pick(&[1, 2, 5, u64::MAX]);
@@ -183,13 +189,65 @@ fn the_sales_desk_gets_receptions_figure() {
         assert_eq!(ffi::check(&written).refused, 0, "{}", shown(&written));
         let values = SMALL.values(&mut rng);
         let reception = ffi::figure(&table, &values);
-        let sales = ffi::figure(&written, &values);
         // Small amounts are seldom too large, but loops of loops may be.
-        if reception.refused == 0 {
-            assert_eq!(sales, reception, "{}", shown(&table));
+        if reception.refused != 0 {
+            continue;
+        }
+        let sales = ffi::figure(&written, &values);
+        assert_eq!(sales, reception, "{}", shown(&table));
+        let raised = ffi::figure(&written, &raised(&mut rng, &values));
+        if raised.refused == 0 {
+            assert!(raised.figure >= reception.figure, "{}", shown(&table));
+            higher += u64::from(raised.figure > reception.figure);
         }
     }
-    assert!(shorter > 20_000, "{shorter}");
+    assert!(shorter > 20_000 && higher > 5_000, "{shorter}, {higher}");
+}
+
+/// Values none lower, of which all, some or few are higher.
+fn raised(rng: &mut Rng, values: &[u64]) -> Vec<u64> {
+    let often = rng.pick(&[1, 3, 30]);
+    let most = rng.pick(&[1, 5, 100_000]);
+    let raise = |&value| {
+        if rng.once_in(often) {
+            value + rng.within(1..=most)
+        } else {
+            value
+        }
+    };
+    values.iter().map(raise).collect()
+}
+
+#[test]
+fn no_desk_gets_a_figure_of_a_tree_that_is_too_large() {
+    const LARGE: Amounts = Amounts {
+        time: CEILING,
+        bound: 1_000_000,
+        limit: 1_000_000,
+        symbols: 0,
+    };
+    let (mut rng, _) = start(416);
+    let (mut refused, mut accepted) = (0, 0);
+    for _ in 0..10_000 {
+        let records = records(&mut rng);
+        let mut tree = trees::redundant(&mut rng, records);
+        enlarge(&mut tree);
+        let table = tree.encode();
+        let allowance = rng.pick(&[0, 1, 3, u64::MAX]);
+        match simplifications::simplify(&mut rng, &table, allowance, table.len()) {
+            Ok(_) => accepted += 1,
+            Err(question) => {
+                assert_eq!(question, 10, "{}", shown(&table));
+                refused += 1;
+                let small = SMALL.values(&mut rng);
+                let large = LARGE.values(&mut rng);
+                for values in [&[0; 32][..], &small, &raised(&mut rng, &small), &large] {
+                    assert_eq!(ffi::figure(&table, values), TOO_LARGE, "{}", shown(&table));
+                }
+            }
+        }
+    }
+    assert!(refused > 2_000 && accepted > 2_000, "{refused}, {accepted}");
 }
 
 // Questions.
