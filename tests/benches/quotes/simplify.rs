@@ -7,7 +7,7 @@ use volefleece_tests::ffi;
 use volefleece_tests::format::{MOST_RECORDS, RECORD_BYTES};
 use volefleece_tests::rng::Rng;
 use volefleece_tests::simplifier::{self, Simplified};
-use volefleece_tests::trees;
+use volefleece_tests::trees::{self, Amount, Kind, Tree};
 
 const TABLES: usize = 16;
 const REPETITIONS: usize = 31;
@@ -24,9 +24,11 @@ pub fn measure() {
         "library's time by plain Rust's, and the medians of the steps taken and the records left. The"
     );
     println!(
-        "trees are those above by their limits, and some with much to simplify. The library's buffer is"
+        "trees are those above by their limits, some with much to simplify, and some of zeros, which go"
     );
-    println!("used again and not cleared; plain Rust makes a new table.");
+    println!(
+        "one at a step. The library's buffer is used again and not cleared; plain Rust makes a new table."
+    );
     println!("{HEADING}");
     for records in SIZES {
         for limits in LIMITS {
@@ -35,6 +37,7 @@ pub fn measure() {
             measure_tables(records, limits.name(), &tables);
         }
         measure_tables(records, "redundant", &redundant(records));
+        measure_tables(records, "zeros", &zeros(records));
     }
 }
 
@@ -45,6 +48,27 @@ fn redundant(records: usize) -> Vec<Vec<u8>> {
     let takes_steps = |table: &Vec<u8>| second(table).steps >= records as u64 / 8;
     let tables = std::iter::repeat_with(random).filter(takes_steps);
     tables.take(TABLES).collect()
+}
+
+/// Tables of so many records that take nearly as many steps. There cannot be more, as every step leaves
+/// fewer records, but for a limited block alone.
+fn zeros(records: usize) -> Vec<Vec<u8>> {
+    let mut rng = Rng::new(records as u64);
+    let blocks = records - 3;
+    let mut table = || {
+        // A choice, as a sequence would take its sequences in.
+        let children =
+            [blocks / 2, blocks.div_ceil(2)].map(|blocks| zeros_and_a_symbol(&mut rng, blocks));
+        Tree::new(Kind::Choice, children.into()).encode()
+    };
+    (0..TABLES).map(|_| table()).collect()
+}
+
+/// A sequence of so many blocks. The symbol, at a random place, keeps it from becoming a block at once.
+fn zeros_and_a_symbol(rng: &mut Rng, blocks: usize) -> Tree {
+    let mut children = vec![Tree::block(0); blocks];
+    children[rng.index(blocks)].kind = Kind::Block(Amount::Symbol(16));
+    Tree::new(Kind::Sequence, children)
 }
 
 fn measure_tables(records: usize, name: &str, tables: &[Vec<u8>]) {
