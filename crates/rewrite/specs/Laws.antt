@@ -1,5 +1,6 @@
 -- Laws, in the order in which they lean on each other.
 pub mod Writing
+pub mod Records
 pub mod Children
 pub mod Exit
 pub mod Settled

@@ -397,28 +397,6 @@ pub struct Bares {
     pub largest: u64,
 }
 
-fn is_sequence(kind: Kind) -> bool
-    ensures { λ r. ⌜ r ≡ sameKind kind Kind.Sequence ⌝ }
-{
-    match kind {
-        Kind::Block(_) => false,
-        Kind::Sequence => true,
-        Kind::Choice => false,
-        Kind::Loop(_) => false,
-    }
-}
-
-fn is_choice(kind: Kind) -> bool
-    ensures { λ r. ⌜ r ≡ sameKind kind Kind.Choice ⌝ }
-{
-    match kind {
-        Kind::Block(_) => false,
-        Kind::Sequence => false,
-        Kind::Choice => true,
-        Kind::Loop(_) => false,
-    }
-}
-
 // A plain block's time, else 0.
 fn plain_time(kind: Kind) -> u64
     ensures { λ r. ⌜ r ≡ timeOfKind kind ⌝ }
@@ -448,8 +426,7 @@ fn with_child(found: Bares, table: &[u8], p: usize) -> Bares
     if !is_bare(table, p) {
         return found;
     }
-    let start = RECORD_LENGTH * p;
-    let node = table::read_node(&table[start..]);
+    let node = node_at(table, p);
     let kind = node.kind;
     let time = plain_time(kind);
     Bares {
@@ -528,11 +505,10 @@ fn merge_bares(
     requires { ⌜ Parted (now table) i q bares ⌝ }
     ensures { λ r. ⌜ ((s : Parted (now (table .entry)) i q bares) → Wrote (some (merged time s)) r (now (out .exit))) ⌝ }
 {
-    let start = RECORD_LENGTH * i;
-    let node = table::read_node(&table[start..]);
+    let node = node_at(table, i);
     let kind = node.kind;
     let limit = node.limit;
-    let count = table::child_count(&table[start..]) - bares + 1;
+    let count = children_at(table, i) - bares + 1;
     let first = put_node(out, 0, kind, limit, (count % 256) as u8);
     let block = copy_records(table, i + 1, q - i - 1, out, first);
     let plain = Kind::Block(Number::Plain(time));
@@ -547,10 +523,9 @@ pub fn rule6_at(table: &[u8], extents: &[usize], i: usize, out: &mut [u8]) -> us
     requires { ⌜ Extents (now table) (now extents) ⌝ ∗ ⌜ i < recordCount (now table) ⌝ ∗ ⌜ length (now table) ≤ length (now out) ⌝ }
     ensures { λ r. ⌜ Wrote (ruleAt rule6 (treesAt (now (table .entry)) i)) r (now (out .exit)) ⌝ }
 {
-    let start = RECORD_LENGTH * i;
-    let node = table::read_node(&table[start..]);
+    let node = node_at(table, i);
     let kind = node.kind;
-    if !is_sequence(kind) {
+    if !same_kind(kind, Kind::Sequence) {
         return 0;
     }
     let found = bares_in(table, extents, i);
@@ -566,10 +541,9 @@ pub fn rule7_at(table: &[u8], extents: &[usize], i: usize, out: &mut [u8]) -> us
     requires { ⌜ Extents (now table) (now extents) ⌝ ∗ ⌜ i < recordCount (now table) ⌝ ∗ ⌜ length (now table) ≤ length (now out) ⌝ }
     ensures { λ r. ⌜ Wrote (ruleAt rule7 (treesAt (now (table .entry)) i)) r (now (out .exit)) ⌝ }
 {
-    let start = RECORD_LENGTH * i;
-    let node = table::read_node(&table[start..]);
+    let node = node_at(table, i);
     let kind = node.kind;
-    if !is_choice(kind) {
+    if !same_kind(kind, Kind::Choice) {
         return 0;
     }
     let found = bares_in(table, extents, i);
@@ -637,8 +611,7 @@ fn all_share(table: &[u8], extents: &[usize], i: usize, second: usize) -> bool
     requires { ⌜ Extents (now table) (now extents) ⌝ ∗ ⌜ i < recordCount (now table) ⌝ ∗ ⌜ second < recordCount (now table) ⌝ }
     ensures { λ r. ⌜ r ≡ allPairs (subtree (now (table .entry)) second) (children (subtree (now (table .entry)) i)) ⌝ }
 {
-    let start = RECORD_LENGTH * i;
-    let mut left = table::child_count(&table[start..]);
+    let mut left = children_at(table, i);
     let mut p = i + 1;
     while 0 < left {
         if !pair_shares(table, extents, p, second) {
@@ -703,11 +676,16 @@ fn put_tops(table: &[u8], i: usize, out: &mut [u8]) -> usize
     requires { ⌜ Simplifiable (now table) ⌝ ∗ ⌜ i < recordCount (now table) ⌝ ∗ ⌜ recordLength * 2 ≤ length (now out) ⌝ }
     ensures { λ r. ⌜ (r ≡ 2) × (front r (now (out .exit)) ≡ topBytes (subtree (now (table .entry)) i)) ⌝ }
 {
-    let start = RECORD_LENGTH * i;
-    let node = table::read_node(&table[start..]);
+    let node = node_at(table, i);
     let limit = node.limit;
     let next = put_node(out, 0, Kind::Sequence, limit, 2);
-    put_node(out, next, Kind::Choice, Limit::Unlimited, table[start + 2])
+    put_node(
+        out,
+        next,
+        Kind::Choice,
+        Limit::Unlimited,
+        table[RECORD_LENGTH * i + 2],
+    )
 }
 
 // 8. A choice of at least two unlimited two-child sequences with the same closed second child becomes a sequence of a choice of the first children and
@@ -720,8 +698,7 @@ pub fn rule8_at(table: &[u8], extents: &[usize], marks: &[u8], i: usize, out: &m
     if second == 0 {
         return 0;
     }
-    let start = RECORD_LENGTH * i;
-    let count = table::child_count(&table[start..]);
+    let count = children_at(table, i);
     let tops = put_tops(table, i, out);
     let firsts = copy_firsts(table, extents, i + 1, count, out, tops);
     let at = copy_records(table, second, extents[second], out, firsts);
@@ -776,11 +753,10 @@ fn settled_value(table: &[u8], i: usize) -> u64
     requires { ⌜ Simplifiable (now table) ⌝ ∗ ⌜ i < recordCount (now table) ⌝ ∗ ⌜ blockAt (treesAt (now table) i) ≡ false ⌝ }
     ensures { λ r. ⌜ r ≡ beforeAt (treesAt (now (table .entry)) i) ⌝ }
 {
-    let start = RECORD_LENGTH * i;
-    let node = table::read_node(&table[start..]);
+    let node = node_at(table, i);
     let kind = node.kind;
-    let count = table::child_count(&table[start..]);
-    let next = start + RECORD_LENGTH;
+    let count = children_at(table, i);
+    let next = RECORD_LENGTH * i + RECORD_LENGTH;
     let zeros = [0; 0];
     let mut list = List::zero();
     let mut spare = List::zero();
@@ -802,8 +778,7 @@ pub fn rule4_at(table: &[u8], extents: &[usize], marks: &[u8], i: usize, out: &m
     requires { ⌜ Surveyed (now table) (now extents) (now marks) ⌝ ∗ ⌜ i < recordCount (now table) ⌝ ∗ ⌜ length (now table) ≤ length (now out) ⌝ }
     ensures { λ r. ⌜ Wrote (ruleAt rule4 (treesAt (now (table .entry)) i)) r (now (out .exit)) ⌝ }
 {
-    let start = RECORD_LENGTH * i;
-    let node = table::read_node(&table[start..]);
+    let node = node_at(table, i);
     let kind = node.kind;
     let limit = node.limit;
     let m = MARKS * i;

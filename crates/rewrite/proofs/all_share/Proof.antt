@@ -1,60 +1,48 @@
 -- The invariant: the children from record p on are left to be looked at (`Shared`). The measure: how many they are.
 use native.Mathlib.Omega.{arith}
 use borrow.Author.Needs.{needs}
-use Rattle.subtrees.specs.Laws.Parts.{few-records}
-use Rattle.rewrite.specs.Laws.Sharing.{NextAt, Shared, shared-all, shared-next, shared-not, shared-start, shared-turn}
+use Rattle.subtrees.specs.Laws.Parts.{Next, few-records}
+use Rattle.rewrite.specs.Laws.Sharing.{Shared, shared-all, shared-next, shared-not, shared-start, shared-turn}
 use Rattle.rewrite.proofs.all_share.Statement.{statement}
 use Rattle.rewrite.proofs.all_share.Tie as tie
 
 abbrev Inv-loop : tie.InvT-loop
-Inv-loop table extents i second start left₀ p₀ left p = Shared table i second p left
+Inv-loop table extents i second left₀ p₀ left p = Shared table i second p left
 
 abbrev μ-loop : tie.MeasureT-loop
-μ-loop table extents i second start left₀ p₀ left p = left
+μ-loop table extents i second left₀ p₀ left p = left
 
 -- the child at record p, and where the next one stands
 turn : (c : tie.In-loop Inv-loop μ-loop) → let l = c .before .loop in
-    let a = c .before .before .before .before .before .before .args in NextAt (a .table .now) (a .extents .now) (l .p) (l .inv .row) (l .inv .later)
-turn c = shared-turn _ _ (c .before .before .before .before .before .before .pre .0) _ _ _ _ (c .before .loop .inv) (c .loop-test .taken)
+    let a = c .before .before .before .before .before .args in Next (a .table .now) (a .extents .now) (l .p) (l .left) (l .inv .row)
+turn c = shared-turn _ _ (c .before .before .before .before .before .pre .0) _ _ _ _ (c .before .loop .inv) (c .loop-test .taken)
 
-mul-start : tie.Need-mul-start Inv-loop μ-loop
-mul-start c = search needs
-
-sub-child-count : tie.Need-sub-child-count Inv-loop μ-loop
-sub-child-count c = search needs
-
-part-child-count-start : tie.Need-part-child-count-start Inv-loop μ-loop
-part-child-count-start c = search needs
-
-part-child-count-end : tie.Need-part-child-count-end Inv-loop μ-loop
-part-child-count-end c = search needs
-
-child-count-requires : tie.Need-child-count-requires Inv-loop μ-loop
-child-count-requires c κs = search needs
+children-at-requires : tie.Need-children-at-requires Inv-loop μ-loop
+children-at-requires c κs = search needs
 
 add-p : tie.Need-add-p Inv-loop μ-loop
 add-p c = search needs
 
 loop-holds : tie.Need-loop-holds Inv-loop μ-loop
 loop-holds c =
-    let start = c .before .before .before .before in
-    shared-start _ (start .pre .0 .simplifiable) _ _ _ (start .pre .1 .0) (c .child-count .ensures .0)
+    let start = c .before .before .before in
+    shared-start _ (start .pre .0 .simplifiable) _ _ _ (start .pre .1 .0) (c .children-at .ensures .0)
 
 pair-shares-requires : tie.Need-pair-shares-requires Inv-loop μ-loop
 pair-shares-requires c κs =
-    let start = c .before .before .before .before .before .before in
+    let start = c .before .before .before .before .before in
     (start .pre .0, (turn c .inside, start .pre .1 .1))
 
 returns : tie.Need-returns Inv-loop μ-loop
 returns c =
     let test = c .before .before in
-    let start = test .before .before .before .before .before .before in
+    let start = test .before .before .before .before .before in
     shared-not _ _ (start .pre .0) _ _ _ _ (test .before .loop .inv) (test .loop-test .taken) _ (c .before .pair-shares .ensures) (c .if1 .taken)
 
 mul-p : tie.Need-mul-p Inv-loop μ-loop
 mul-p c =
     let test = c .before .before in
-    omega (arith, turn test .inside, few-records _ (test .before .before .before .before .before .before .pre .0 .simplifiable))
+    omega (arith, turn test .inside, few-records _ (test .before .before .before .before .before .pre .0 .simplifiable))
 
 shared-slice-read-p : tie.Need-shared-slice-read-p Inv-loop μ-loop
 shared-slice-read-p c = turn (c .before .before .before) .sized
@@ -62,7 +50,7 @@ shared-slice-read-p c = turn (c .before .before .before) .sized
 add-p-2 : tie.Need-add-p-2 Inv-loop μ-loop
 add-p-2 c =
     let test = c .before .before .before in
-    omega (arith, turn test .within, few-records _ (test .before .before .before .before .before .before .pre .0 .simplifiable))
+    omega (arith, turn test .within, few-records _ (test .before .before .before .before .before .pre .0 .simplifiable))
 
 sub-left : tie.Need-sub-left Inv-loop μ-loop
 sub-left c = search needs
@@ -74,7 +62,7 @@ loop-again : tie.Need-loop-again Inv-loop μ-loop
 loop-again c =
     let other = c .before in
     let test = other .before .before in
-    let start = test .before .before .before .before .before .before in
+    let start = test .before .before .before .before .before in
     shared-next _ _ (start .pre .0) _ _ _ _ (test .before .loop .inv) (test .loop-test .taken) _ (other .before .pair-shares .ensures) (other .if1 .left)
 
 returns-2 : tie.Need-returns-2 Inv-loop μ-loop
@@ -86,11 +74,7 @@ all-share-spec =
     (tie.spec
     Inv-loop
     μ-loop
-    mul-start
-    sub-child-count
-    part-child-count-start
-    part-child-count-end
-    child-count-requires
+    children-at-requires
     add-p
     loop-holds
     pair-shares-requires

@@ -1,12 +1,10 @@
 -- The invariant: what was found, and what the children left add, come to the children's (`Gathering`). The measure: the records left.
 use borrow.Author.Needs.{needs}
-use Prim.Native.Nat.{_+_, _-_, _≤_}
+use Prim.Native.Nat.{_+_, _-_}
 use native.Mathlib.Omega.{arith}
 use lib.ListN.{getD}
-use Rattle.table.specs.Table.{recordCount}
-use Rattle.table.specs.Laws.Trees.{some-records}
-use Rattle.subtrees.specs.Laws.Parts.{few-records, here-at}
-use Rattle.rewrite.specs.Laws.Blocks.{Gathering, Next, children-stand, gather-end, gather-start, gather-turn, next-tree}
+use Rattle.subtrees.specs.Laws.Parts.{few-records, past-inside}
+use Rattle.rewrite.specs.Laws.Blocks.{Gathering, Turn, gather-end, gather-start, gather-turn, next-tree}
 use Rattle.rewrite.proofs.bares_in.Statement.{statement}
 use Rattle.rewrite.proofs.bares_in.Tie as tie
 
@@ -16,15 +14,9 @@ Inv-loop table extents i end p₀ found₀ p found = Gathering table i end p fou
 abbrev μ-loop : tie.MeasureT-loop
 μ-loop table extents i end p₀ found₀ p found = end - p
 
-start : (s : tie.Start Inv-loop μ-loop) → (getD (s .args .extents .now) (s .args .i) 0 ≤ recordCount (s .args .table .now))
-start s =
-    let w = here-at (s .args .table .now) (s .pre .0 .simplifiable) (s .args .i) (s .pre .1) in
-    let k = children-stand _ _ (s .pre .0) (s .args .i) (w .own) (w .kids) (w .later) (s .pre .1) (w .here) in
-    omega (arith, k .0, k .2)
-
 -- the tree at record p
 next : (c : tie.In-loop Inv-loop μ-loop) → let s = c .before .before .before .before .before in
-    Next (s .args .table .now) (s .args .extents .now) (c .before .loop .p) (s .args .i + getD (s .args .extents .now) (s .args .i) 0) (c .before .loop .inv .left)
+    Turn (s .args .table .now) (s .args .extents .now) (c .before .loop .p) (s .args .i + getD (s .args .extents .now) (s .args .i) 0) (c .before .loop .inv .left)
 next c = let s = c .before .before .before .before .before in next-tree _ _ (s .pre .0) _ _ (c .before .loop .inv .left) (c .loop-test .taken)
 
 mul-end : tie.Need-mul-end Inv-loop μ-loop
@@ -34,7 +26,7 @@ shared-slice-read-end : tie.Need-shared-slice-read-end Inv-loop μ-loop
 shared-slice-read-end c = search needs
 
 add-end : tie.Need-add-end Inv-loop μ-loop
-add-end c = let s = c .before .before .before in omega (arith, start s, few-records (s .args .table .now) (s .pre .0 .simplifiable))
+add-end c = let s = c .before .before .before in omega (arith, past-inside _ _ (s .pre .0) _ (s .pre .1), few-records (s .args .table .now) (s .pre .0 .simplifiable))
 
 add-p : tie.Need-add-p Inv-loop μ-loop
 add-p c = search needs
@@ -58,7 +50,7 @@ add-p-2 c =
     omega (arith, n .extent, n .within, few-records (s .args .table .now) (s .pre .0 .simplifiable))
 
 loop-less : tie.Need-loop-less Inv-loop μ-loop
-loop-less c = let n = next (c .before .before) in omega (arith, n .extent, n .within, some-records (n .tree))
+loop-less c = let n = next (c .before .before) in omega (arith, n .some, n .within)
 
 loop-again : tie.Need-loop-again Inv-loop μ-loop
 loop-again c =

@@ -14,11 +14,11 @@ abbrev μ-loop : tie.MeasureT-loop
 
 -- the pair at record q, and where the next one stands
 turn : (c : tie.In-loop Inv-loop μ-loop) → let l = c .before .loop in
-    let a = c .before .before .before .before .before .args in TurnAt (a .table .now) (a .extents .now) (l .q) (l .inv .row) (l .inv .later)
+    let a = c .before .before .before .before .before .args in TurnAt (a .table .now) (a .extents .now) (l .q) (l .n) (l .inv .row)
 turn c = copying-turn _ _ (c .before .before .before .before .before .pre .0) _ _ _ _ _ _ _ _ (c .before .loop .inv) (c .loop-test .taken)
 
 loop-holds : tie.Need-loop-holds Inv-loop μ-loop
-loop-holds c = let start = c .before .before .before in copying-none _ _ _ _ _ (start .pre .1 .0) (start .pre .1 .1)
+loop-holds c = let start = c .before .before .before in copying-none _ (start .pre .0 .simplifiable) _ _ _ _ (start .pre .1 .0) (start .pre .1 .1)
 
 add-first : tie.Need-add-first Inv-loop μ-loop
 add-first c = omega (arith, turn c .pair .inside, few-records _ (c .before .before .before .before .before .pre .0 .simplifiable))

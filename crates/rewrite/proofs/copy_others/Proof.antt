@@ -1,14 +1,11 @@
 -- The invariant: the others up to record p are copied (`Copying`). The measure: the records left.
 use borrow.Author.Needs.{needs}
-use mathlib.Core.Path.{ap}
 use Prim.Native.Nat.{_-_}
 use native.Mathlib.Omega.{arith}
-use Rattle.table.specs.Trees.{records}
-use Rattle.table.specs.Laws.Trees.{some-records}
 use Rattle.subtrees.specs.Parts.{subtree, treesAt}
 use Rattle.subtrees.specs.Laws.Parts.{few-records, length-is}
 use Rattle.rewrite.specs.Blocks.{spanning}
-use Rattle.rewrite.specs.Laws.Blocks.{Copying, Next, copy-end, copy-fits, copy-start, copy-turn, kept-few, next-tree}
+use Rattle.rewrite.specs.Laws.Blocks.{Copying, Turn, copy-end, copy-fits, copy-start, copy-turn, kept-few, next-tree}
 use Rattle.rewrite.proofs.copy_others.Statement.{statement}
 use Rattle.rewrite.proofs.copy_others.Tie as tie
 
@@ -20,7 +17,7 @@ abbrev μ-loop : tie.MeasureT-loop
 
 -- the tree at record p
 next : (c : tie.In-loop Inv-loop μ-loop) → let s = c .before .before .before .before .before in
-    Next (s .args .table .now) (s .args .extents .now) (c .before .loop .p) (s .args .end) (c .before .loop .inv .left)
+    Turn (s .args .table .now) (s .args .extents .now) (c .before .loop .p) (s .args .end) (c .before .loop .inv .left)
 next c = let s = c .before .before .before .before .before in next-tree _ _ (s .pre .0) _ _ (c .before .loop .inv .left) (c .loop-test .taken)
 
 loop-holds : tie.Need-loop-holds Inv-loop μ-loop
@@ -37,7 +34,7 @@ copy-records-requires c κs =
     let s = t .before .before .before .before .before in
     let e = c .before .kept .ensures in
     let k = kept-few (subtree (s .args .table .now) (l .p)) in (
-      omega (arith, n .within, n .bound, ap records (n .own), length-is (s .args .table .now) (s .pre .0 .simplifiable)),
+      omega (arith, n .within, n .bound, n .extent, length-is (s .args .table .now) (s .pre .0 .simplifiable)),
       omega (arith, copy-fits _ _ (s .pre .0) _ _ _ _ _ _ _ (l .inv) (t .loop-test .taken), l .inv .long),
     )
 
@@ -55,7 +52,7 @@ add-p c =
     omega (arith, n .extent, n .within, n .bound, few-records (s .args .table .now) (s .pre .0 .simplifiable))
 
 loop-less : tie.Need-loop-less Inv-loop μ-loop
-loop-less c = let n = next (c .before .before .before .before .before .before) in omega (arith, n .extent, n .within, some-records (n .tree))
+loop-less c = let n = next (c .before .before .before .before .before .before) in omega (arith, n .some, n .within)
 
 loop-again : tie.Need-loop-again Inv-loop μ-loop
 loop-again c =

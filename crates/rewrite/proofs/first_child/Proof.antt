@@ -1,6 +1,6 @@
 -- The invariant: the first child that is looked for is among those left. The measure: how many are left.
 use Rattle.rewrite.specs.Children.{wanted}
-use Rattle.rewrite.specs.Laws.Children.{Looking, look-first, look-found, look-inside, look-next, look-none}
+use Rattle.rewrite.specs.Laws.Children.{Looking, look-first, look-found, look-next, look-none, look-turn}
 use borrow.Author.Needs.{needs}
 use Rattle.rewrite.proofs.first_child.Statement.{statement}
 use Rattle.rewrite.proofs.first_child.Tie as tie
@@ -26,29 +26,29 @@ loop-holds c =
 is-wanted-requires : tie.Need-is-wanted-requires Inv-loop μ-loop
 is-wanted-requires c κs =
     let l = c .before .loop in
-    (l .inv .sizes .simplifiable, look-inside _ _ _ _ _ _ (l .inv) (c .loop-test .taken) .0)
+    (l .inv .sizes .simplifiable, look-turn _ _ _ _ _ _ (l .inv) (c .loop-test .taken) .inside)
 
 returns : tie.Need-returns Inv-loop μ-loop
 returns c =
     let turn = c .before .before in
-    look-found _ _ _ _ _ _ (turn .before .loop .inv) (c .before .is-wanted .ensures) (c .if1 .taken) (turn .loop-test .taken)
+    look-found _ _ _ _ _ _ (turn .before .loop .inv) (turn .loop-test .taken) (c .before .is-wanted .ensures) (c .if1 .taken)
 
 mul-p : tie.Need-mul-p Inv-loop μ-loop
 mul-p c =
     let turn = c .before .before in
-    let inside = look-inside _ _ _ _ _ _ (turn .before .loop .inv) (turn .loop-test .taken) in
+    let next = look-turn _ _ _ _ _ _ (turn .before .loop .inv) (turn .loop-test .taken) in
     search needs
 
 shared-slice-read-p : tie.Need-shared-slice-read-p Inv-loop μ-loop
 shared-slice-read-p c =
     let turn = c .before .before .before in
-    let inside = look-inside _ _ _ _ _ _ (turn .before .loop .inv) (turn .loop-test .taken) in
+    let next = look-turn _ _ _ _ _ _ (turn .before .loop .inv) (turn .loop-test .taken) in
     search needs
 
 add-p-2 : tie.Need-add-p-2 Inv-loop μ-loop
 add-p-2 c =
     let turn = c .before .before .before in
-    let inside = look-inside _ _ _ _ _ _ (turn .before .loop .inv) (turn .loop-test .taken) in
+    let next = look-turn _ _ _ _ _ _ (turn .before .loop .inv) (turn .loop-test .taken) in
     search needs
 
 sub-left : tie.Need-sub-left Inv-loop μ-loop
@@ -60,7 +60,7 @@ loop-less c = search needs
 loop-again : tie.Need-loop-again Inv-loop μ-loop
 loop-again c =
     let turn = c .before .before .before in
-    look-next _ _ _ _ _ _ (turn .before .loop .inv) (c .before .before .is-wanted .ensures) (c .before .if1 .left) (turn .loop-test .taken)
+    look-next _ _ _ _ _ _ (turn .before .loop .inv) (turn .loop-test .taken) (c .before .before .is-wanted .ensures) (c .before .if1 .left)
 
 returns-2 : tie.Need-returns-2 Inv-loop μ-loop
 returns-2 c = look-none _ _ _ _ _ _ (c .before .loop .inv) (c .loop-test .left)

@@ -21,37 +21,16 @@ kept : (s : tie.Start) → recordsIn (others (spanning (treesAt (s .args .table 
     ≡ recordsIn (others (s .pre .1 .1 .1 .second))
 kept s = let p = stand s in ap (λ f. recordsIn (others f)) (spans (s .args .table .now) (s .args .q) _ (p .standing) ∙ p .are)
 
-mul-start : tie.Need-mul-start
-mul-start c = search needs
+node-at-requires : tie.Need-node-at-requires
+node-at-requires c κs = search needs
 
-sub-read-node : tie.Need-sub-read-node
-sub-read-node c = search needs
-
-part-read-node-start : tie.Need-part-read-node-start
-part-read-node-start c = search needs
-
-part-read-node-end : tie.Need-part-read-node-end
-part-read-node-end c = search needs
-
-read-node-requires : tie.Need-read-node-requires
-read-node-requires c κs = search needs
-
-sub-child-count : tie.Need-sub-child-count
-sub-child-count c = search needs
-
-part-child-count-start : tie.Need-part-child-count-start
-part-child-count-start c = search needs
-
-part-child-count-end : tie.Need-part-child-count-end
-part-child-count-end c = search needs
-
-child-count-requires : tie.Need-child-count-requires
-child-count-requires c κs = search needs
+children-at-requires : tie.Need-children-at-requires
+children-at-requires c κs = search needs
 
 sub-count : tie.Need-sub-count
 sub-count c =
-    let s = c .before .before .before .before .before .before .before in
-    omega (arith, stand s .number, c .child-count .ensures .0, s .pre .1 .1 .1 .number)
+    let s = c .before .before .before .before .before in
+    omega (arith, stand s .number, c .children-at .ensures .0, s .pre .1 .1 .1 .number)
 
 add-count : tie.Need-add-count
 add-count c = search needs
@@ -73,14 +52,14 @@ sub-copy-records-2 c = search needs
 
 copy-records-requires : tie.Need-copy-records-requires
 copy-records-requires c κs =
-    let s = c .before .before .before .before .before .before .before .before .before .before .before .before in
+    let s = c .before .before .before .before .before .before .before .before .before .before in
     let p = stand s in
     let a = s .pre .1 .1 .1 in
     (omega (arith, p .extent, p .inside, p .long, a .place), omega (arith, p .extent, p .inside, p .long, a .place, c .before .before .before .put-node .ensures .0))
 
 put-node-requires-2 : tie.Need-put-node-requires-2
 put-node-requires-2 c κs =
-    let s = c .before .before .before .before .before .before .before .before .before .before .before .before .before .before .before .before in
+    let s = c .before .before .before .before .before .before .before .before .before .before .before .before .before .before in
     let p = stand s in
     let a = s .pre .1 .1 .1 in
     omega (arith, p .extent, p .inside, p .long, a .place, a .fewer, c .before .before .before .before .before .before .before .put-node .ensures .0, c .before .before .before .copy-records .ensures .0)
@@ -92,22 +71,22 @@ shared-slice-read-end : tie.Need-shared-slice-read-end
 shared-slice-read-end c = search needs
 
 add-end : tie.Need-add-end
-add-end c = let s = c .before .before .before .before .before .before .before .before .before .before .before .before .before .before .before .before .before .before .before .before in omega (arith, stand s .inside, few-records (s .args .table .now) (s .pre .0 .simplifiable))
+add-end c = let s = c .before .before .before .before .before .before .before .before .before .before .before .before .before .before .before .before .before .before in omega (arith, stand s .inside, few-records (s .args .table .now) (s .pre .0 .simplifiable))
 
 copy-others-requires : tie.Need-copy-others-requires
 copy-others-requires c κs =
-    let s = c .before .before .before .before .before .before .before .before .before .before .before .before .before .before .before .before .before .before .before .before .before in
+    let s = c .before .before .before .before .before .before .before .before .before .before .before .before .before .before .before .before .before .before .before in
     let p = stand s in
     let a = s .pre .1 .1 .1 in
     let k = kept s in
     (s .pre .0, (p .standing, omega (arith, p .extent, p .inside, p .long, a .place, a .fewer, c .before .before .before .before .before .before .before .before .before .before .before .before .put-node .ensures .0, c .before .before .before .before .before .before .before .before .copy-records .ensures .0, c .before .before .before .before .put-node2 .ensures .0)))
 
 sub-copy-records-3 : tie.Need-sub-copy-records-3
-sub-copy-records-3 c = omega (arith, stand (c .before .before .before .before .before .before .before .before .before .before .before .before .before .before .before .before .before .before .before .before .before .before .before .before) .inside)
+sub-copy-records-3 c = omega (arith, stand (c .before .before .before .before .before .before .before .before .before .before .before .before .before .before .before .before .before .before .before .before .before .before) .inside)
 
 copy-records-requires-2 : tie.Need-copy-records-requires-2
 copy-records-requires-2 c κs =
-    let s = c .before .before .before .before .before .before .before .before .before .before .before .before .before .before .before .before .before .before .before .before .before .before .before .before .before in
+    let s = c .before .before .before .before .before .before .before .before .before .before .before .before .before .before .before .before .before .before .before .before .before .before .before in
     let p = stand s in
     let a = s .pre .1 .1 .1 in
     let k = kept s in (
@@ -120,11 +99,11 @@ same-length c = search needs
 
 returns : tie.Need-returns
 returns c =
-    let s = c .before .before .before .before .before .before .before .before .before .before .before .before .before .before .before .before .before .before .before .before .before .before .before .before .before .before .before .before in
+    let s = c .before .before .before .before .before .before .before .before .before .before .before .before .before .before .before .before .before .before .before .before .before .before .before .before .before .before in
     λ a. merge-wrote _ _ (s .pre .0) _ _ _ (s .pre .1 .0) a _ _ _ _ _ _ _ _ _ _ _ _ _
-    (c .before .before .before .before .before .before .before .before .before .before .before .before .before .before .before .before .before .before .before .before .before .before .before .read-node .ensures)
-    (c .before .before .before .before .before .before .before .before .before .before .before .before .before .before .before .before .before .before .before .before .before .child-count .ensures .0)
-    (c .before .before .before .before .before .before .before .before .before .before .before .before .before .before .before .before .before .before .before .before .before .child-count .ensures .1)
+    (c .before .before .before .before .before .before .before .before .before .before .before .before .before .before .before .before .before .before .before .before .before .before .node-at .ensures)
+    (c .before .before .before .before .before .before .before .before .before .before .before .before .before .before .before .before .before .before .before .before .before .children-at .ensures .0)
+    (c .before .before .before .before .before .before .before .before .before .before .before .before .before .before .before .before .before .before .before .before .before .children-at .ensures .1)
     (c .before .before .before .before .before .before .before .before .before .before .before .before .before .before .before .before .before .before .before .put-node .ensures)
     (c .before .before .before .before .before .before .before .before .before .before .before .before .before .before .before .copy-records .ensures)
     (c .before .before .before .before .before .before .before .before .before .before .before .put-node2 .ensures)
@@ -135,15 +114,8 @@ pub merge-bares-spec : {M : Type 1} → statement M
 merge-bares-spec =
     tie.close
     (tie.spec
-    mul-start
-    sub-read-node
-    part-read-node-start
-    part-read-node-end
-    read-node-requires
-    sub-child-count
-    part-child-count-start
-    part-child-count-end
-    child-count-requires
+    node-at-requires
+    children-at-requires
     sub-count
     add-count
     cast-put-node

@@ -40,7 +40,7 @@ same-subtrees-requires c κs =
 returns-2 : tie.Need-returns-2
 returns-2 c =
     let test = c .before .before in
-    pair-same _ _ _ _ _ (test .before .is-pair .ensures) (test .if1 .left) (found test .stand) (c .same-subtrees .ensures)
+    pair-same _ _ _ _ _ (test .before .is-pair .ensures) (test .if1 .left) (found test .second) (c .same-subtrees .ensures)
 
 pub pair-shares-spec : {M : Type 1} → statement M
 pair-shares-spec =

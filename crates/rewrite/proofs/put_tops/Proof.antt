@@ -4,23 +4,14 @@ use Rattle.rewrite.specs.Laws.Sharing.{tops-written}
 use Rattle.rewrite.proofs.put_tops.Statement.{statement}
 use Rattle.rewrite.proofs.put_tops.Tie as tie
 
-mul-start : tie.Need-mul-start
-mul-start c = search needs
-
-sub-read-node : tie.Need-sub-read-node
-sub-read-node c = search needs
-
-part-read-node-start : tie.Need-part-read-node-start
-part-read-node-start c = search needs
-
-part-read-node-end : tie.Need-part-read-node-end
-part-read-node-end c = search needs
-
-read-node-requires : tie.Need-read-node-requires
-read-node-requires c κs = search needs
+node-at-requires : tie.Need-node-at-requires
+node-at-requires c κs = search needs
 
 put-node-requires : tie.Need-put-node-requires
 put-node-requires c κs = search needs
+
+mul-put-node : tie.Need-mul-put-node
+mul-put-node c = search needs
 
 add-put-node : tie.Need-add-put-node
 add-put-node c = search needs
@@ -38,20 +29,17 @@ returns : tie.Need-returns
 returns c =
     let two = c .before .before in
     let one = two .before .before .before .before .before in
-    let start = one .before .before .before .before .before .before in
+    let start = one .before .before .before .before .before in
     tops-written _ (start .pre .0) _ (start .pre .1 .0) _ _ _ _ _
-    (one .before .before .read-node .ensures) (one .put-node .ensures .0) (one .put-node .ensures .1) (two .put-node2 .ensures .0) (two .put-node2 .ensures .1)
+    (one .before .before .node-at .ensures) (one .put-node .ensures .0) (one .put-node .ensures .1) (two .put-node2 .ensures .0) (two .put-node2 .ensures .1)
 
 pub put-tops-spec : {M : Type 1} → statement M
 put-tops-spec =
     tie.close
     (tie.spec
-    mul-start
-    sub-read-node
-    part-read-node-start
-    part-read-node-end
-    read-node-requires
+    node-at-requires
     put-node-requires
+    mul-put-node
     add-put-node
     shared-slice-read-put-node
     put-node-requires-2

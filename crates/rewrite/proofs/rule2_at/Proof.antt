@@ -1,7 +1,8 @@
 -- The first child that gives way is dissolved; where there is none, the rule does not fit.
 use native.Mathlib.Omega.{arith}
 use Rattle.simplify.specs.Rules.{rule2}
-use Rattle.rewrite.specs.Laws.Dissolving.{gave-way, giver, giver-counts, no-sum, none-gives, rule2-no-sum}
+use Rattle.rewrite.specs.Laws.Records.{no-sum}
+use Rattle.rewrite.specs.Laws.Dissolving.{gave-way, giver, giver-counts, none-gives, rule2-no-sum}
 use borrow.Author.Needs.{needs}
 use Rattle.rewrite.proofs.rule2_at.Statement.{statement}
 use Rattle.rewrite.proofs.rule2_at.Tie as tie

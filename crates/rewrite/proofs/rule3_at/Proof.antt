@@ -2,7 +2,7 @@
 use native.Mathlib.Omega.{arith}
 use Rattle.simplify.specs.Rules.{rule3}
 use Rattle.rewrite.specs.Laws.Alone.{child-alone, child-inside, child-limited, many-children, rule3-no-sum}
-use Rattle.rewrite.specs.Laws.Dissolving.{no-sum}
+use Rattle.rewrite.specs.Laws.Records.{no-sum}
 use borrow.Author.Needs.{needs}
 use Rattle.rewrite.proofs.rule3_at.Statement.{statement}
 use Rattle.rewrite.proofs.rule3_at.Tie as tie

@@ -1,28 +1,16 @@
 -- By what is kept of the record: the evaluator gives the block's time.
-use mathlib.Core.Path.{_≡_, ap, sym, _∙_}
+use mathlib.Core.Path.{ap, sym, _∙_}
 use native.Mathlib.Omega.{arith}
 use borrow.Author.Tests.{not-false, not-true}
 use Rattle.simplify.specs.Rules.{isBlock}
-use Rattle.subtrees.specs.Laws.Parts.{few-records, length-is}
-use Rattle.rewrite.specs.Laws.Settled.{is-node, no-node, not-settled, past-inside, past-some, settled-written}
+use Rattle.subtrees.specs.Laws.Parts.{few-records, length-is, past-inside}
+use Rattle.rewrite.specs.Laws.Settled.{is-node, no-node, not-settled, past-some, settled-written}
 use borrow.Author.Needs.{needs}
 use Rattle.rewrite.proofs.rule4_at.Statement.{statement}
 use Rattle.rewrite.proofs.rule4_at.Tie as tie
 
-mul-start : tie.Need-mul-start
-mul-start c = search needs
-
-sub-read-node : tie.Need-sub-read-node
-sub-read-node c = search needs
-
-part-read-node-start : tie.Need-part-read-node-start
-part-read-node-start c = search needs
-
-part-read-node-end : tie.Need-part-read-node-end
-part-read-node-end c = search needs
-
-read-node-requires : tie.Need-read-node-requires
-read-node-requires c κs = search needs
+node-at-requires : tie.Need-node-at-requires
+node-at-requires c κs = search needs
 
 mul-m : tie.Need-mul-m
 mul-m c = search needs
@@ -38,7 +26,7 @@ shared-slice-read-settled-2 c = search needs
 
 returns : tie.Need-returns
 returns c =
-    let start = c .before .before .before .before .before .before .before .before .before in
+    let start = c .before .before .before .before .before .before .before .before in
     not-settled _ _ _ (start .pre .0) _ (start .pre .1 .0) _ (not-true _ (c .if1 .taken))
 
 is-block-requires : tie.Need-is-block-requires
@@ -48,14 +36,14 @@ returns-2 : tie.Need-returns-2
 returns-2 c =
     let first = c .before .before in
     let read = first .before .before .before in
-    let start = read .before .before .before .before .before .before in
-    no-node _ _ _ (start .pre .0) _ (start .pre .1 .0) _ (ap (λ n. isBlock (n .kind)) (sym (read .read-node .ensures)) ∙ sym (c .before .is-block .ensures) ∙ c .if2 .taken)
+    let start = read .before .before .before .before .before in
+    no-node _ _ _ (start .pre .0) _ (start .pre .1 .0) _ (ap (λ n. isBlock (n .kind)) (sym (read .node-at .ensures)) ∙ sym (c .before .is-block .ensures) ∙ c .if2 .taken)
 
 settled-value-requires : tie.Need-settled-value-requires
 settled-value-requires c κs =
     let read = c .before .before .before .before .before in
-    let start = read .before .before .before .before .before .before in
-    (start .pre .0 .sizes .simplifiable, (start .pre .1 .0, is-node _ _ _ (start .pre .0) _ (start .pre .1 .0) (ap (λ n. isBlock (n .kind)) (sym (read .read-node .ensures)) ∙ sym (c .before .is-block .ensures) ∙ c .if2 .left)))
+    let start = read .before .before .before .before .before in
+    (start .pre .0 .sizes .simplifiable, (start .pre .1 .0, is-node _ _ _ (start .pre .0) _ (start .pre .1 .0) (ap (λ n. isBlock (n .kind)) (sym (read .node-at .ensures)) ∙ sym (c .before .is-block .ensures) ∙ c .if2 .left)))
 
 put-node-requires : tie.Need-put-node-requires
 put-node-requires c κs = search needs
@@ -70,23 +58,23 @@ add-end : tie.Need-add-end
 add-end c =
     let other = c .before .before .before .before .before .before in
     let read = other .before .before .before .before .before in
-    let start = read .before .before .before .before .before .before in
-    search (needs, past-inside _ _ _ (start .pre .0) _ (start .pre .1 .0), few-records _ (start .pre .0 .sizes .simplifiable))
+    let start = read .before .before .before .before .before in
+    search (needs, past-inside _ _ (start .pre .0 .sizes) _ (start .pre .1 .0), few-records _ (start .pre .0 .sizes .simplifiable))
 
 sub-copy-records : tie.Need-sub-copy-records
 sub-copy-records c =
     let other = c .before .before .before .before .before .before in
     let read = other .before .before .before .before .before in
-    let start = read .before .before .before .before .before .before in
-    past-inside _ _ _ (start .pre .0) _ (start .pre .1 .0)
+    let start = read .before .before .before .before .before in
+    past-inside _ _ (start .pre .0 .sizes) _ (start .pre .1 .0)
 
 copy-records-requires : tie.Need-copy-records-requires
 copy-records-requires c κs =
     let other = c .before .before .before .before .before .before .before in
     let read = other .before .before .before .before .before in
-    let start = read .before .before .before .before .before .before in
+    let start = read .before .before .before .before .before in
     let s = start .pre .0 in
-    omega (arith, past-inside _ _ _ s _ (start .pre .1 .0), past-some _ _ _ s _ (start .pre .1 .0), length-is _ (s .sizes .simplifiable))
+    omega (arith, past-inside _ _ (s .sizes) _ (start .pre .1 .0), past-some _ _ _ s _ (start .pre .1 .0), length-is _ (s .sizes .simplifiable))
 
 same-length : tie.Need-same-length
 same-length c = search needs
@@ -97,9 +85,9 @@ returns-3 c =
     let put = copied .before .before .before .before .before in
     let value = put .before .before in
     let read = value .before .before .before .before .before .before in
-    let start = read .before .before .before .before .before .before in
+    let start = read .before .before .before .before .before in
     let one = put .put-node .ensures .0 in
-    let own = read .read-node .ensures in
+    let own = read .node-at .ensures in
     settled-written _ _ _ (start .pre .0) _ (start .pre .1 .0) _ _ _ (value .settled-value .ensures)
     (not-false _ (value .before .before .before .if1 .left))
     (ap (λ n. isBlock (n .kind)) (sym own) ∙ sym (value .before .before .is-block .ensures) ∙ value .before .if2 .left)
@@ -109,11 +97,7 @@ pub rule4-at-spec : {M : Type 1} → statement M
 rule4-at-spec =
     tie.close
     (tie.spec
-    mul-start
-    sub-read-node
-    part-read-node-start
-    part-read-node-end
-    read-node-requires
+    node-at-requires
     mul-m
     shared-slice-read-settled
     add-settled

@@ -1,7 +1,8 @@
 -- The first unlimited plain block of time 0 is dissolved, and it has no children; where there is none, the rule does not fit.
 use native.Mathlib.Omega.{arith}
 use Rattle.simplify.specs.Rules.{rule5}
-use Rattle.rewrite.specs.Laws.Dissolving.{few-zero, no-sum, none-zero, rule5-no-sum, zero-child, zero-gone}
+use Rattle.rewrite.specs.Laws.Records.{no-sum}
+use Rattle.rewrite.specs.Laws.Dissolving.{few-zero, none-zero, rule5-no-sum, zero-child, zero-gone}
 use borrow.Author.Needs.{needs}
 use Rattle.rewrite.proofs.rule5_at.Statement.{statement}
 use Rattle.rewrite.proofs.rule5_at.Tie as tie

@@ -18,13 +18,13 @@ found c =
     fits-at _ _ (start .pre .0 .sizes) _ _ (start .pre .1 .0) (c .before .shared-child .ensures) (c .if1 .left)
 
 -- and the record that each copy reaches
-firsts-end : (c : tie.After-copy-firsts) → c .copy-firsts .result ≡ 2 + recordsIn (firsts (found (c .before .before .before .before .before .before .before .before) .kids))
+firsts-end : (c : tie.After-copy-firsts) → c .copy-firsts .result ≡ 2 + recordsIn (firsts (found (c .before .before .before .before .before .before .before) .kids))
 firsts-end c =
     let tops = c .before .before .before .before in
     let count = tops .before .before in
-    omega (arith, c .copy-firsts .ensures .0, tops .put-tops .ensures .0, ap recordsIn (fits-firsts (found (count .before .before)) _ (count .child-count .ensures .0)))
+    omega (arith, c .copy-firsts .ensures .0, tops .put-tops .ensures .0, ap recordsIn (fits-firsts (found (count .before)) _ (count .children-at .ensures .0)))
 
-second-end : (c : tie.After-copy-records) → let f = c .before .before .before .before .before .before .before .before .before .before .before .before .before in
+second-end : (c : tie.After-copy-records) → let f = c .before .before .before .before .before .before .before .before .before .before .before .before in
     c .copy-records .result ≡ 2 + recordsIn (firsts (found f .kids)) + getD (f .before .before .before .before .before .before .args .extents .now) (f .before .shared-child .result) 0
 second-end c = omega (arith, c .copy-records .ensures .0, firsts-end (c .before .before .before .before .before))
 
@@ -36,24 +36,12 @@ returns c =
     let start = c .before .before .before .before .before .before in
     no-sharing _ (start .pre .0 .sizes .simplifiable) _ _ _ (start .pre .1 .0) (c .before .shared-child .ensures) (c .if1 .taken)
 
-mul-start : tie.Need-mul-start
-mul-start c = search needs
-
-sub-child-count : tie.Need-sub-child-count
-sub-child-count c = search needs
-
-part-child-count-start : tie.Need-part-child-count-start
-part-child-count-start c = search needs
-
-part-child-count-end : tie.Need-part-child-count-end
-part-child-count-end c = search needs
-
-child-count-requires : tie.Need-child-count-requires
-child-count-requires c κs = search needs
+children-at-requires : tie.Need-children-at-requires
+children-at-requires c κs = search needs
 
 put-tops-requires : tie.Need-put-tops-requires
 put-tops-requires c κs =
-    let fits = c .before .before .before in
+    let fits = c .before .before in
     let start = fits .before .before .before .before .before .before in
     let x = found fits in
     (x .simplifiable, (start .pre .1 .0, omega (arith, x .small, length-is _ (x .simplifiable), start .pre .1 .1)))
@@ -65,30 +53,30 @@ copy-firsts-requires : tie.Need-copy-firsts-requires
 copy-firsts-requires c κs =
     let tops = c .before .before .before in
     let count = tops .before .before in
-    let fits = count .before .before in
+    let fits = count .before in
     let start = fits .before .before .before .before .before .before in
     let x = found fits in
-    let total = ap recordsIn (fits-firsts x _ (count .child-count .ensures .0)) in (
+    let total = ap recordsIn (fits-firsts x _ (count .children-at .ensures .0)) in (
       start .pre .0 .sizes,
       (
-        fits-pairs x _ (count .child-count .ensures .0),
+        fits-pairs x _ (count .children-at .ensures .0),
         omega (arith, x .small, length-is _ (x .simplifiable), start .pre .1 .1, total, tops .put-tops .ensures .0, tops .put-tops .kept),
       ),
     )
 
 mul-copy-records : tie.Need-mul-copy-records
 mul-copy-records c =
-    let x = found (c .before .before .before .before .before .before .before .before .before .before) in
+    let x = found (c .before .before .before .before .before .before .before .before .before) in
     omega (arith, x .inside, few-records _ (x .simplifiable))
 
 shared-slice-read-copy-records : tie.Need-shared-slice-read-copy-records
-shared-slice-read-copy-records c = found (c .before .before .before .before .before .before .before .before .before .before .before) .sized
+shared-slice-read-copy-records c = found (c .before .before .before .before .before .before .before .before .before .before) .sized
 
 copy-records-requires : tie.Need-copy-records-requires
 copy-records-requires c κs =
     let firsts = c .before .before .before .before in
     let tops = firsts .before .before .before .before in
-    let fits = tops .before .before .before .before in
+    let fits = tops .before .before .before in
     let start = fits .before .before .before .before .before .before in
     let x = found fits in
     omega (arith, x .small, x .inner, length-is _ (x .simplifiable), start .pre .1 .1, firsts-end firsts, tops .put-tops .kept, firsts .copy-firsts .kept)
@@ -101,18 +89,18 @@ shared-slice-read-from c = search needs
 
 add-from : tie.Need-add-from
 add-from c =
-    let x = found (c .before .before .before .before .before .before .before .before .before .before .before .before .before .before .before .before) in
+    let x = found (c .before .before .before .before .before .before .before .before .before .before .before .before .before .before .before) in
     omega (arith, x .within, few-records _ (x .simplifiable))
 
 sub-n : tie.Need-sub-n
-sub-n c = found (c .before .before .before .before .before .before .before .before .before .before .before .before .before .before .before .before) .within
+sub-n c = found (c .before .before .before .before .before .before .before .before .before .before .before .before .before .before .before) .within
 
 copy-records-requires-2 : tie.Need-copy-records-requires-2
 copy-records-requires-2 c κs =
     let copied = c .before .before .before .before in
     let firsts = copied .before .before .before .before .before in
     let tops = firsts .before .before .before .before in
-    let fits = tops .before .before .before .before in
+    let fits = tops .before .before .before in
     let start = fits .before .before .before .before .before .before in
     let x = found fits in
     omega (arith, x .small, x .within, length-is _ (x .simplifiable), start .pre .1 .1, second-end copied, tops .put-tops .kept, firsts .copy-firsts .kept, copied .copy-records .kept)
@@ -127,7 +115,7 @@ returns-2 c =
     let firsts = copied .before .before .before .before .before in
     let tops = firsts .before .before .before .before in
     let count = tops .before .before in
-    sharing-written (found (count .before .before)) _ (count .child-count .ensures .0) _ _ _ _ _ _ _ _
+    sharing-written (found (count .before)) _ (count .children-at .ensures .0) _ _ _ _ _ _ _ _
     (tops .put-tops .ensures .0) (tops .put-tops .ensures .1) (firsts .copy-firsts .ensures .0) (firsts .copy-firsts .ensures .1)
     (copied .copy-records .ensures .0) (copied .copy-records .ensures .1) (last .copy-records2 .ensures .0) (last .copy-records2 .ensures .1)
 
@@ -137,11 +125,7 @@ rule8-at-spec =
     (tie.spec
     shared-child-requires
     returns
-    mul-start
-    sub-child-count
-    part-child-count-start
-    part-child-count-end
-    child-count-requires
+    children-at-requires
     put-tops-requires
     add-copy-firsts
     copy-firsts-requires

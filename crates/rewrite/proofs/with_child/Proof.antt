@@ -12,12 +12,12 @@ use Rattle.rewrite.proofs.with_child.Statement.{statement}
 use Rattle.rewrite.proofs.with_child.Tie as tie
 
 -- the time that was read
-found : (c : tie.After-plain-time) → let s = c .before .before .before .before .before .before in
+found : (c : tie.After-plain-time) → let s = c .before .before .before .before .before in
     (c .plain-time .result ≡ timeOf (subtree (s .args .table .now) (s .args .p))) × (c .plain-time .result ≤ mostTime)
 found c =
-    let s = c .before .before .before .before .before .before in
+    let s = c .before .before .before .before .before in
     let t = time-at (s .args .table .now) (s .pre .0) (s .args .p) (s .pre .1 .0) in
-    let e : c .plain-time .result ≡ timeOf (subtree (s .args .table .now) (s .args .p)) = c .plain-time .ensures ∙ ap (λ n. timeOfKind (n .kind)) (c .before .read-node .ensures) ∙ t .0 in
+    let e : c .plain-time .result ≡ timeOf (subtree (s .args .table .now) (s .args .p)) = c .plain-time .ensures ∙ ap (λ n. timeOfKind (n .kind)) (c .before .node-at .ensures) ∙ t .0 in
     (e, omega (arith, t .1))
 
 is-bare-requires : tie.Need-is-bare-requires
@@ -26,30 +26,18 @@ is-bare-requires c κs = search needs
 returns : tie.Need-returns
 returns c = (child-not _ _ _ (c .before .is-bare .ensures) (c .if1 .taken), search needs, search needs)
 
-mul-start : tie.Need-mul-start
-mul-start c = search needs
-
-sub-read-node : tie.Need-sub-read-node
-sub-read-node c = search needs
-
-part-read-node-start : tie.Need-part-read-node-start
-part-read-node-start c = search needs
-
-part-read-node-end : tie.Need-part-read-node-end
-part-read-node-end c = search needs
-
-read-node-requires : tie.Need-read-node-requires
-read-node-requires c κs = search needs
+node-at-requires : tie.Need-node-at-requires
+node-at-requires c κs = search needs
 
 plain-time-requires : tie.Need-plain-time-requires
 plain-time-requires c κs = search needs
 
-add-t11 : tie.Need-add-t11
-add-t11 c = search needs
+add-t9 : tie.Need-add-t9
+add-t9 c = search needs
 
-add-t14 : tie.Need-add-t14
-add-t14 c =
-    let s = c .before .before .before .before .before .before .before .before in
+add-t10 : tie.Need-add-t10
+add-t10 c =
+    let s = c .before .before .before .before .before .before .before in
     omega (arith, found (c .before .before), few-records (s .args .table .now) (s .pre .0))
 
 larger-requires : tie.Need-larger-requires
@@ -59,7 +47,7 @@ returns-2 : tie.Need-returns-2
 returns-2 c =
     let t = c .before .before .before in
     let f = found t in
-    let test = t .before .before .before in
+    let test = t .before .before in
     (child-bare _ _ _ _ _ (test .before .is-bare .ensures) (test .if1 .left) (f .0) (c .larger .ensures), omega arith, omega arith)
 
 pub with-child-spec : {M : Type 1} → statement M
@@ -68,13 +56,9 @@ with-child-spec =
     (tie.spec
     is-bare-requires
     returns
-    mul-start
-    sub-read-node
-    part-read-node-start
-    part-read-node-end
-    read-node-requires
+    node-at-requires
     plain-time-requires
-    add-t11
-    add-t14
+    add-t9
+    add-t10
     larger-requires
     returns-2)

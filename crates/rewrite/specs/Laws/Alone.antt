@@ -11,17 +11,16 @@ use borrow.Author.Tests.{not-false, not-true}
 use Rattle.table.specs.Numbers.{recordLength}
 use Rattle.table.specs.Table.{childByte, firstNode, recordBytes, recordCount}
 use Rattle.table.specs.Trees.{Forest, Tree, nil, node, _▸_, _⧺_, records, recordsIn, size}
-use Rattle.table.specs.Laws.Trees.{some-records}
 use Rattle.evaluate.specs.Closed.{isUnlimited}
 use Rattle.simplify.specs.Rules.{alone, isSum, limitOf, relimit, rule3, when}
 use Rattle.simplify.specs.Steps.{also}
 use Rattle.subtrees.specs.Parts.{Simplifiable, treesAt}
-use Rattle.subtrees.specs.Laws.Parts.{records-at}
+use Rattle.subtrees.specs.Laws.Parts.{first-row, kids-row, records-at, row-bytes, tail-at}
+use Rattle.subtrees.specs.Laws.Records.{count-at, kids-at, node-at}
 use Rattle.rewrite.specs.Nodes.{Limit, Node}
 use Rattle.rewrite.specs.Children.{relimited}
 use Rattle.rewrite.specs.Writing.{Wrote, front, nodeOf, ruleAt, slice}
-use Rattle.rewrite.specs.Laws.Children.{children-byte, count-at, node-at}
-use Rattle.rewrite.specs.Laws.Dissolving.{is-sum-at, it, rest-slice, row-bytes, rule-at, unfit-at, wrote-as, wrote-none}
+use Rattle.rewrite.specs.Laws.Records.{is-sum-at, it, rest-written, rule-at, unfit-at, wrote-as, wrote-none}
 
 -- ---- the rule
 
@@ -70,12 +69,12 @@ module _ (b : List ℕ) (s : Simplifiable b) (p : ℕ) (l : p < recordCount b) w
   unfolding relimited limitOf relimit
   relimit-is m x e = ap (relimited m) (it b s p l .here) ∙ rw e refl
 
-  unlimited-at : {n : Node} {x : Bool} → n ≡ firstNode (drop (recordLength * p) b) → x ≡ isUnlimited (n .limit) → isUnlimited (it b s p l .own .limit) ≡ x
-  unlimited-at e d = ap (λ (k : Node). isUnlimited (k .limit)) (sym (e ∙ node-at b p (it b s p l))) ∙ sym d
+  limitless : {n : Node} {x : Bool} → n ≡ firstNode (drop (recordLength * p) b) → x ≡ isUnlimited (n .limit) → isUnlimited (it b s p l .own .limit) ≡ x
+  limitless e d = ap (λ (k : Node). isUnlimited (k .limit)) (sym (e ∙ node-at b p (it b s p l))) ∙ sym d
 
   pub limited : (m : Limit) (out : List ℕ) {n : Node} {x : Bool} → n ≡ firstNode (drop (recordLength * p) b) → x ≡ isUnlimited (n .limit) → not x ≡ true
       → Wrote (relimited m (treesAt b p)) 0 out
-  limited m out {x = x} e d t = wrote-none _ out (relimit-is m false (unlimited-at e d ∙ not-true x t))
+  limited m out {x = x} e d t = wrote-none _ out (relimit-is m false (limitless e d ∙ not-true x t))
 
   pub unlimited : (m : Limit) (out : List ℕ) {n : Node} {x : Bool} {r : ℕ} {y : List ℕ} → n ≡ firstNode (drop (recordLength * p) b)
       → x ≡ isUnlimited (n .limit) → not x ≡ false → r ≡ 1 + (recordCount b - (p + 1)) → y ≡ recordBytes (nodeOf (n .kind) m) (getD b (recordLength * p + 2) 0)
@@ -86,22 +85,13 @@ module _ (b : List ℕ) (s : Simplifiable b) (p : ℕ) (l : p < recordCount b) w
       let many = records-at b s p in
       let row = ap recordsIn (h .here) in
       let top : y ≡ recordBytes (nodeOf (h .own .kind) m) (size (h .kids)) =
-      f ∙ ap₂ (λ (z : Node) (j : ℕ). recordBytes (nodeOf (z .kind) m) j) (e ∙ node-at b p h) (children-byte b p h) in
+      f ∙ ap₂ (λ (z : Node) (j : ℕ). recordBytes (nodeOf (z .kind) m) j) (e ∙ node-at b p h) (kids-at b p h) in
       let next : treesAt b (p + 1) ≡ h .kids ⧺ h .later = rw add-one (h .next) in
       wrote-as
       r
       out
-      (relimit-is m true (unlimited-at e d ∙ not-false x t))
-      (omega arith, g ∙ rw (top, rest-slice b s (p + 1), next) (sym (row-bytes (nodeOf (h .own .kind) m) (h .kids) (h .later))))
-
--- a row that is not empty stands within the table
-row-inside : (b : List ℕ) → Simplifiable b → (j : ℕ) (f g : Forest) → size f ≡ 1 → treesAt b j ≡ f ⧺ g → j < recordCount b
-unfolding size _⧺_ recordsIn
-row-inside b s j nil g o e = absurd (omega arith)
-row-inside b s j (t ▸ f) g o e =
-    let n = records-at b s j in
-    let m = ap recordsIn e in
-    omega (arith, some-records t)
+      (relimit-is m true (limitless e d ∙ not-false x t))
+      (omega arith, g ∙ rw (top, tail-at b s (p + 1), next) (sym (row-bytes (nodeOf (h .own .kind) m) (h .kids) (h .later))))
 
 module _ (b : List ℕ) (s : Simplifiable b) (i : ℕ) (l : i < recordCount b) where
   pub many-children : (out : List ℕ) {c : ℕ} → c ≡ childByte (drop (recordLength * i) b) → (c ≡ 1 → ⊥) → Wrote (ruleAt rule3 (treesAt b i)) 0 out
@@ -116,7 +106,7 @@ module _ (b : List ℕ) (s : Simplifiable b) (i : ℕ) (l : i < recordCount b) w
   one-child d o = sym (count-at b i (it b s i l)) ∙ sym d ∙ o
 
   pub child-inside : {c : ℕ} → c ≡ childByte (drop (recordLength * i) b) → c ≡ 1 → i + 1 < recordCount b
-  child-inside d o = row-inside b s (i + 1) (it b s i l .kids) (it b s i l .later) (one-child d o) next-row
+  child-inside d o = let h = it b s i l in first-row b s (i + 1) (size (h .kids)) (kids-row b s i h) (omega (arith, one-child d o)) .start
 
   rule3-row : ruleAt rule3 (treesAt b i) ≡ also (λ (t : Tree). t ▸ it b s i l .later) (rule3 (it b s i l .own) (it b s i l .kids))
   rule3-row = rule-at b s i l rule3 _ refl
@@ -125,12 +115,11 @@ module _ (b : List ℕ) (s : Simplifiable b) (i : ℕ) (l : i < recordCount b) w
   pub child-alone : (out : List ℕ) {n : Node} {c r : ℕ} {x u : Bool} → n ≡ firstNode (drop (recordLength * i) b) → x ≡ isSum (n .kind) → not x ≡ false
       → c ≡ childByte (drop (recordLength * i) b) → c ≡ 1 → u ≡ isUnlimited (n .limit) → u ≡ true → r ≡ recordCount b - (i + 1)
       → front r out ≡ slice b (i + 1) (recordCount b - (i + 1)) → Wrote (ruleAt rule3 (treesAt b i)) r out
-  unfolding Wrote
   child-alone out {r = r} e dx tx d o du tu k g =
       let h = it b s i l in
       let row : ruleAt rule3 (treesAt b i) ≡ some (treesAt b (i + 1)) =
-      rule3-row ∙ rule3-bare (h .own) (h .kids) (h .later) (is-sum-at b s i l e dx tx) (one-child d o) (unlimited-at b s i l e du ∙ tu) ∙ ap some (sym next-row) in
-      wrote-as r out row (k ∙ sym (records-at b s (i + 1)), g ∙ rest-slice b s (i + 1))
+      rule3-row ∙ rule3-bare (h .own) (h .kids) (h .later) (is-sum-at b s i l e dx tx) (one-child d o) (limitless b s i l e du ∙ tu) ∙ ap some (sym next-row) in
+      wrote-as r out row (rest-written b s (i + 1) r out k g)
 
   -- a limited one: its child takes the limit, where it has none
   pub child-limited : (r : ℕ) (out : List ℕ) {n : Node} {c : ℕ} {x u : Bool} → n ≡ firstNode (drop (recordLength * i) b) → x ≡ isSum (n .kind) → not x ≡ false
@@ -140,6 +129,6 @@ module _ (b : List ℕ) (s : Simplifiable b) (i : ℕ) (l : i < recordCount b) w
       let h = it b s i l in
       let row : ruleAt rule3 (treesAt b i) ≡ relimited (n .limit) (treesAt b (i + 1)) =
       rule3-row
-      ∙ rule3-limited (h .own) (h .kids) (h .later) (is-sum-at b s i l e dx tx) (one-child d o) (unlimited-at b s i l e du ∙ tu)
+      ∙ rule3-limited (h .own) (h .kids) (h .later) (is-sum-at b s i l e dx tx) (one-child d o) (limitless b s i l e du ∙ tu)
       ∙ ap₂ (λ (m : Node) (f : Forest). relimited (m .limit) f) (sym (e ∙ node-at b i h)) (sym next-row) in
       wrote-as r out row w

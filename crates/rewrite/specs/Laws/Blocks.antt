@@ -8,104 +8,62 @@ use native.Mathlib.Numerals.{add-one}
 use native.Mathlib.Omega.{arith}
 use lib.Dec.{T, le→leb, leb, leb→le}
 use lib.ListN.{drop, getD, length}
-use lib.Seq.{take-all, take-at}
-use borrow.Author.Tests.{not-false, not-true}
+use borrow.Author.Tests.{lt-leb, not-false, not-true}
 use Rattle.booleans.specs.Laws.{T-is, both, by-cond, by-conds}
 use Rattle.booleans.specs.Tests.{_and_}
 use Rattle.table.specs.Numbers.{mostTime, recordLength}
 use Rattle.table.specs.Questions.{kindInRange, listed, timeInRange}
-use Rattle.table.specs.Table.{childByte, encode, encodes, firstNode, forest, recordBytes, recordCount, top}
+use Rattle.table.specs.Table.{childByte, encode, encodes, firstNode, recordBytes, recordCount}
 use Rattle.table.specs.Trees.{Forest, Tree, nil, node, _▸_, _⧺_, records, recordsIn, size}
-use Rattle.table.specs.Laws.Reading.{next-count, part-from, partAt}
-use Rattle.table.specs.Laws.RoundTrip.{children-bytes, length-encode, length-encodes}
 use Rattle.table.specs.Laws.Trees.{some-records}
 use Rattle.simplify.specs.Rules.{atFirst, bare, bares, largest, leaf, others, rule6, rule7, timeOf, timeOfKind, total, when}
 use Rattle.simplify.specs.Same.{sameKind}
 use Rattle.simplify.specs.Steps.{also}
+use Rattle.simplify.specs.Laws.Forests.{size-⧺}
 use Rattle.subtrees.specs.Facts.{Extents}
 use Rattle.subtrees.specs.Parts.{Simplifiable, subtree, treesAt}
-use Rattle.subtrees.specs.Laws.Forests.{below, encodes-⧺, records-⧺}
-use Rattle.subtrees.specs.Laws.Parts.{Here, back-at, bytes-at, here-at, length-is, records-at, skip-at}
+use Rattle.subtrees.specs.Laws.Forests.{encodes-⧺, records-⧺}
+use Rattle.subtrees.specs.Laws.Parts.{Here, bytes-at, here-at, here-is, length-is, next-row, node-extent, past-node, records-at, row-of, skip-at, tail-at, top-at}
+use Rattle.subtrees.specs.Laws.Records.{count-at, node-at}
 use Rattle.rewrite.specs.Blocks.{Parted, Standing, baresAt, keptRecords, merged, noBares, spanning, withChild}
 use Rattle.rewrite.specs.Children.{any, childAt, offset, wanted}
 use Rattle.rewrite.specs.Nodes.{Block, Choice, Kind, Loop, Node, Plain, Sequence, Symbol, Unlimited}
 use Rattle.rewrite.specs.Writing.{Wrote, front, nodeOf, ruleAt, slice}
+use Rattle.rewrite.specs.Laws.Records.{and-false, subtree-bytes, ⧺-assoc}
 use Rattle.rewrite.specs.declared.Bares.{Bares}
 use Rattle.rewrite.specs.declared.Wanted.{Wanted}
 
--- ---- what stands at a record
-
-unfoldable firstOwn : Forest → Node
-firstOwn nil = record { kind = Sequence; limit = Unlimited }
-firstOwn (node n f ▸ g) = n
-
-pub own-is : (b : List ℕ) (i : ℕ) (n : Node) (f g : Forest) → i < recordCount b → treesAt b i ≡ node n f ▸ g → firstNode (partAt b i) ≡ n
-unfolding treesAt forest firstOwn
-own-is b i n f g l e =
-    let o : firstOwn (treesAt b i) ≡ firstNode (drop (recordLength * i) b) = rw (next-count (recordCount b) i l) refl in
-    rw part-from (sym o ∙ ap firstOwn e)
-
-row-children : (n : Node) (f g : Forest) → childByte (encodes (node n f ▸ g)) ≡ size f
-unfolding encode encodes
-row-children n f g = rw append-assoc (children-bytes n (size f) _)
-
-pub children-are : (b : List ℕ) (s : Simplifiable b) (i : ℕ) (n : Node) (f g : Forest) → treesAt b i ≡ node n f ▸ g → childByte (partAt b i) ≡ size f
-children-are b s i n f g e = rw (part-from, ← back-at b s i, e) (row-children n f g)
-
-pub top-is : (b : List ℕ) (p : ℕ) (t : Tree) (g : Forest) → treesAt b p ≡ t ▸ g → subtree b p ≡ t
-unfolding subtree top
-top-is b p t g e = rw e refl
-
-pub tree-bytes : (b : List ℕ) (s : Simplifiable b) (p : ℕ) (t : Tree) (g : Forest) → treesAt b p ≡ t ▸ g → slice b p (records t) ≡ encode t
-unfolding encodes
-tree-bytes b s p t g e = rw (← back-at b s p, e) (take-at (encode t) (encodes g) (recordLength * records t) (length-encode t))
-
-pub past-tree : (b : List ℕ) (s : Simplifiable b) (p : ℕ) (t : Tree) (g : Forest) → treesAt b p ≡ t ▸ g → treesAt b (p + records t) ≡ g
-unfolding recordsIn _⧺_
-past-tree b s p t g e = let z : records t ≡ records t + 0 = omega arith in rw z (skip-at b s p (t ▸ nil) g e)
-
 -- ---- a walk over trees in a row, by the extents: the next tree, and the others
 
-pub record Next (b extents : List ℕ) (p e : ℕ) (s : Standing b p e) : Type 0 where
-  pub tree : Tree
+some-left : (f : Forest) → 0 < recordsIn f → 0 < size f
+unfolding recordsIn size
+some-left nil l = absurd (omega arith)
+some-left (t ▸ f) l = omega arith
+
+pub record Turn (b extents : List ℕ) (p e : ℕ) (s : Standing b p e) : Type 0 where
   pub onward : Standing b (p + getD extents p 0) e
-  pub are : s .trees ≡ tree ▸ onward .trees
+  pub are : s .trees ≡ subtree b p ▸ onward .trees
   pub inside : p < recordCount b
-  pub here : treesAt b p ≡ tree ▸ (onward .trees ⧺ onward .later)
-  pub own : subtree b p ≡ tree
-  pub extent : getD extents p 0 ≡ records tree
-  pub within : p + records tree ≤ e
+  pub extent : getD extents p 0 ≡ records (subtree b p)
+  pub some : 0 < getD extents p 0
+  pub within : p + getD extents p 0 ≤ e
   pub bound : e ≤ recordCount b
 
-pub next-tree : (b extents : List ℕ) → Extents b extents → (p e : ℕ) (s : Standing b p e) → p < e → Next b extents p e s
-unfolding recordsIn _⧺_
-next-tree b extents x p e s l = go (s .trees) refl
-  where
-    go : (f : Forest) → s .trees ≡ f → Next b extents p e s
-    go nil q = absurd (omega (arith, s .long, ap recordsIn q))
-    go (t ▸ f) q =
-        let h : treesAt b p ≡ t ▸ (f ⧺ s .later) = s .row ∙ ap (λ g. g ⧺ s .later) q in
-        let m : recordsIn (s .trees) ≡ records t + recordsIn f = ap recordsIn q in
-        let r : records t + recordsIn (f ⧺ s .later) ≡ recordCount b - p = sym (ap recordsIn h) ∙ records-at b (x .simplifiable) p in
-        let a : recordsIn (f ⧺ s .later) ≡ recordsIn f + recordsIn (s .later) = records-⧺ f (s .later) in
-        let i : p < recordCount b = omega (arith, s .long, some-records t) in
-        let o : subtree b p ≡ t = top-is b p t _ h in
-        let y : getD extents p 0 ≡ records t = x .each p i ∙ ap records o in record {
-          tree = t;
-          onward = record {
-            trees = f;
-            later = s .later;
-            row = rw y (past-tree b (x .simplifiable) p t _ h);
-            long = omega (arith, s .long);
-          };
-          are = q;
-          inside = i;
-          here = h;
-          own = o;
-          extent = y;
-          within = omega (arith, s .long);
-          bound = omega (arith, s .long);
-        }
+pub next-tree : (b extents : List ℕ) → Extents b extents → (p e : ℕ) (s : Standing b p e) → p < e → Turn b extents p e s
+unfolding recordsIn
+next-tree b extents x p e s l =
+    let z = x .simplifiable in
+    let n = next-row b extents x p (size (s .trees)) (row-of b z p (s .trees) (s .later) (s .row)) (some-left (s .trees) (omega (arith, s .long))) in
+    let m : recordsIn (s .trees) ≡ records (subtree b p) + recordsIn (n .others .trees) = ap recordsIn (n .are) in
+    record {
+      onward = record { trees = n .others .trees; later = n .others .later; row = n .others .row; long = omega (arith, s .long, n .extent) };
+      are = n .are;
+      inside = n .inside;
+      extent = n .extent;
+      some = omega (arith, n .extent, some-records (subtree b p));
+      within = omega (arith, s .long, n .extent);
+      bound = omega (arith, s .long, n .inside, records-at b z p, ap recordsIn (s .row), records-⧺ (s .trees) (s .later));
+    }
 
 -- at its end nothing is left
 pub none-left : (b : List ℕ) (p e : ℕ) (s : Standing b p e) → e ≤ p → s .trees ≡ nil
@@ -115,15 +73,6 @@ none-left b p e s l = go (s .trees) (s .long)
     go : (f : Forest) → p + recordsIn f ≡ e → f ≡ nil
     go nil q = refl
     go (t ▸ f) q = absurd (omega (arith, some-records t))
-
--- the children of the node at record i
-pub children-stand : (b extents : List ℕ) → Extents b extents → (i : ℕ) (n : Node) (f g : Forest) → i < recordCount b → treesAt b i ≡ node n f ▸ g
-    → (getD extents i 0 ≡ suc (recordsIn f)) × (treesAt b (i + 1) ≡ f ⧺ g) × (i + suc (recordsIn f) ≤ recordCount b)
-unfolding records recordsIn below
-children-stand b extents x i n f g l e =
-    let o : subtree b i ≡ node n f = top-is b i (node n f) g e in
-    let w = here-at b (x .simplifiable) i l in
-    (x .each i l ∙ ap records o, rw add-one (w .next ∙ ap below (sym (w .here) ∙ e)), omega (arith, records-at b (x .simplifiable) i, ap recordsIn e))
 
 -- ---- what a walk finds
 
@@ -141,14 +90,12 @@ node-low n f h = time-low (n .kind) (both _ _ (both _ _ (both _ _ h .0) .0) .0)
 
 -- the time of a block at record p, as its bytes have it
 pub time-at : (b : List ℕ) → Simplifiable b → (p : ℕ) → p < recordCount b
-    → (timeOfKind (firstNode (partAt b p) .kind) ≡ timeOf (subtree b p)) × (timeOf (subtree b p) ≤ mostTime)
+    → (timeOfKind (firstNode (drop (recordLength * p) b) .kind) ≡ timeOf (subtree b p)) × (timeOf (subtree b p) ≤ mostTime)
 unfolding timeOf
 time-at b s p l =
     let w = here-at b s p l in
-    let o : subtree b p ≡ node (w .own) (w .kids) = top-is b p _ _ (w .here) in
-    let e : timeOf (subtree b p) ≡ timeOfKind (w .own .kind) = ap timeOf o in
-    let d : timeOfKind (firstNode (partAt b p) .kind) ≡ timeOfKind (w .own .kind) = ap (λ n. timeOfKind (n .kind)) (own-is b p _ _ _ l (w .here)) in
-    (d ∙ sym e, omega (arith, node-low (w .own) (w .kids) (w .sound .fair .listed)))
+    let e : timeOf (subtree b p) ≡ timeOfKind (w .own .kind) = ap timeOf (top-at b p (w .here)) in
+    (ap (λ n. timeOfKind (n .kind)) (node-at b p w) ∙ sym e, omega (arith, node-low (w .own) (w .kids) (w .sound .fair .listed)))
 
 pub child-not : (s : Bares) (t : Tree) (r : Bool) → r ≡ bare t → not r ≡ true → s ≡ withChild s t
 unfolding withChild
@@ -199,8 +146,8 @@ pub gather-start : (b extents : List ℕ) → Extents b extents → (i : ℕ) �
 unfolding baresAt
 gather-start b extents x i l =
     let w = here-at b (x .simplifiable) i l in
-    let k = children-stand b extents x i _ _ _ l (w .here) in record {
-      left = record { trees = w .kids; later = w .later; row = k .1; long = omega (arith, k .0) };
+    record {
+      left = record { trees = w .kids; later = w .later; row = rw add-one (w .next); long = omega (arith, node-extent b extents x i l w) };
       few = omega arith;
       low = omega arith;
       whole = gather-is (w .kids) noBares ∙ bares-are _ _ _ _ _ _ (omega arith) (omega arith) (omega arith) ∙ sym (ap baresAt (w .here));
@@ -213,10 +160,10 @@ unfolding gather
 gather-turn b extents x i e p found more g l m few low =
     let n = next-tree b extents x p e (g .left) l in record {
       left = n .onward;
-      few = omega (arith, n .extent, some-records (n .tree));
+      few = omega (arith, n .extent, some-records (subtree b p));
       low = low;
       whole =
-          ap (gather (n .onward .trees)) (m ∙ ap (withChild found) (n .own))
+          ap (gather (n .onward .trees)) m
           ∙ sym (ap (λ f. gather f found) (n .are)) ∙ g .whole;
     }
 
@@ -226,13 +173,14 @@ gather-end b i e p found g l = sym (ap (λ f. gather f found) (none-left b p e (
 
 -- ---- the walk that copies the others
 
-kept-bytes : (b : List ℕ) → Simplifiable b → (p : ℕ) (t : Tree) (g f : Forest) → treesAt b p ≡ t ▸ g → slice b p (keptRecords t) ++ encodes (others f) ≡ encodes (others (t ▸ f))
+kept-bytes : (b : List ℕ) → Simplifiable b → (p : ℕ) → p < recordCount b → (f : Forest)
+    → slice b p (keptRecords (subtree b p)) ++ encodes (others f) ≡ encodes (others (subtree b p ▸ f))
 unfolding keptRecords others encodes
-kept-bytes b s p t g f e = go (bare t)
+kept-bytes b s p l f = go (bare (subtree b p))
   where
-    go : (c : Bool) → slice b p (cond c 0 (records t)) ++ encodes (others f) ≡ encodes (cond c (others f) (t ▸ others f))
+    go : (c : Bool) → slice b p (cond c 0 (records (subtree b p))) ++ encodes (others f) ≡ encodes (cond c (others f) (subtree b p ▸ others f))
     go true = refl
-    go false = ap (λ x. x ++ encodes (others f)) (tree-bytes b s p t g e)
+    go false = ap (λ x. x ++ encodes (others f)) (subtree-bytes b s p l)
 
 kept-records : (t : Tree) (f : Forest) → keptRecords t + recordsIn (others f) ≡ recordsIn (others (t ▸ f))
 unfolding keptRecords others recordsIn
@@ -277,15 +225,14 @@ pub copy-turn : (b extents : List ℕ) → Extents b extents → (first out more
     → Copying b first more w at e (p + getD extents p 0) r
 copy-turn b extents x first out more w at e p to n r c l k m q h =
     let z = next-tree b extents x p e (c .left) l in
-    let f = z .onward .trees in
-    let y : n ≡ keptRecords (z .tree) = k ∙ ap keptRecords (z .own) in record {
+    let f = z .onward .trees in record {
       left = z .onward;
       long = omega (arith, c .long);
-      place = omega (arith, c .place, kept-records (z .tree) f, ap (λ g. recordsIn (others g)) (z .are));
+      place = omega (arith, c .place, kept-records (subtree b p) f, ap (λ g. recordsIn (others g)) (z .are));
       bytes =
-          ap (λ o. o ++ encodes (others f)) (h ∙ ap (λ j. front to out ++ slice b p j) y)
-          ∙ append-assoc (front to out) (slice b p (keptRecords (z .tree))) (encodes (others f))
-          ∙ ap (λ o. front to out ++ o) (kept-bytes b (x .simplifiable) p (z .tree) _ f (z .here) ∙ sym (ap (λ g. encodes (others g)) (z .are)))
+          ap (λ o. o ++ encodes (others f)) (h ∙ ap (λ j. front to out ++ slice b p j) k)
+          ∙ append-assoc (front to out) (slice b p (keptRecords (subtree b p))) (encodes (others f))
+          ∙ ap (λ o. front to out ++ o) (kept-bytes b (x .simplifiable) p (z .inside) f ∙ sym (ap (λ g. encodes (others g)) (z .are)))
           ∙ c .bytes;
     }
 
@@ -294,7 +241,7 @@ pub copy-fits : (b extents : List ℕ) → Extents b extents → (first out : Li
     → to + keptRecords (subtree b p) ≤ at + recordsIn (others w)
 copy-fits b extents x first out w at e p to c l =
     let z = next-tree b extents x p e (c .left) l in
-    omega (arith, c .place, kept-records (z .tree) (z .onward .trees), ap (λ g. recordsIn (others g)) (z .are), ap keptRecords (z .own))
+    omega (arith, c .place, kept-records (subtree b p) (z .onward .trees), ap (λ g. recordsIn (others g)) (z .are))
 
 pub copy-end : (b first out : List ℕ) (w : Forest) (at e p to : ℕ) → Copying b first out w at e p to → e ≤ p
     → (to ≡ at + recordsIn (others w)) × (front to out ≡ front at first ++ encodes (others w))
@@ -306,16 +253,6 @@ copy-end b first out w at e p to c l =
 
 -- ---- one block for the others
 
-⧺-assoc : (f g h : Forest) → (f ⧺ g) ⧺ h ≡ f ⧺ (g ⧺ h)
-unfolding _⧺_
-⧺-assoc nil g h = refl
-⧺-assoc (t ▸ f) g h = ap (λ e. t ▸ e) (⧺-assoc f g h)
-
-size-⧺ : (f g : Forest) → size (f ⧺ g) ≡ size f + size g
-unfolding _⧺_ size
-size-⧺ nil g = omega arith
-size-⧺ (t ▸ f) g = omega (arith, size-⧺ f g)
-
 -- where the parts of a node stand
 pub record Places (b extents : List ℕ) (i q c : ℕ) (s : Parted b i q c) : Type 0 where
   pub extent : getD extents i 0 ≡ suc (recordsIn (s .first) + recordsIn (s .second))
@@ -323,8 +260,8 @@ pub record Places (b extents : List ℕ) (i q c : ℕ) (s : Parted b i q c) : Ty
   pub long : length b ≡ recordLength * recordCount b
   pub standing : Standing b q (i + getD extents i 0)
   pub are : standing .trees ≡ s .second
-  pub own : firstNode (partAt b i) ≡ s .own
-  pub number : childByte (partAt b i) ≡ size (s .first) + size (s .second)
+  pub own : firstNode (drop (recordLength * i) b) ≡ s .own
+  pub number : childByte (drop (recordLength * i) b) ≡ size (s .first) + size (s .second)
   pub early : slice b (i + 1) (recordsIn (s .first)) ≡ encodes (s .first)
   pub after : recordCount b - (i + getD extents i 0) ≡ recordsIn (s .later)
   pub late : slice b (i + getD extents i 0) (recordsIn (s .later)) ≡ encodes (s .later)
@@ -332,22 +269,23 @@ pub record Places (b extents : List ℕ) (i q c : ℕ) (s : Parted b i q c) : Ty
 pub places : (b extents : List ℕ) → Extents b extents → (i q c : ℕ) → i < recordCount b → (s : Parted b i q c) → Places b extents i q c s
 places b extents x i q c l s =
     let z = x .simplifiable in
-    let k = children-stand b extents x i _ _ _ l (s .here) in
-    let a : treesAt b (i + 1) ≡ s .first ⧺ (s .second ⧺ s .later) = k .1 ∙ ⧺-assoc _ _ _ in
+    let h = here-is b z i (s .own) (s .first ⧺ s .second) (s .later) (s .here) in
+    let k = node-extent b extents x i l h in
+    let (g, inside) = past-node b extents x i l h in
+    let a : treesAt b (i + 1) ≡ s .first ⧺ (s .second ⧺ s .later) = rw add-one (h .next ∙ ⧺-assoc (s .first) (s .second) (s .later)) in
     let n : recordsIn (s .first ⧺ s .second) ≡ recordsIn (s .first) + recordsIn (s .second) = records-⧺ _ _ in
     let d : treesAt b q ≡ s .second ⧺ s .later = rw (s .place) (skip-at b z (i + 1) _ _ a) in
-    let e : q + recordsIn (s .second) ≡ i + getD extents i 0 = omega (arith, k .0, s .place) in
-    let g : treesAt b (i + getD extents i 0) ≡ s .later = rw (← e) (skip-at b z q _ _ d) in record {
-      extent = omega (arith, k .0);
-      inside = omega (arith, k .0, k .2);
+    let after : recordCount b - (i + getD extents i 0) ≡ recordsIn (s .later) = sym (records-at b z _) ∙ ap recordsIn g in record {
+      extent = omega arith;
+      inside = inside;
       long = length-is b z;
-      standing = record { trees = s .second; later = s .later; row = d; long = e };
+      standing = record { trees = s .second; later = s .later; row = d; long = omega (arith, s .place) };
       are = refl;
-      own = own-is b i _ _ _ l (s .here);
-      number = children-are b z i _ _ _ (s .here) ∙ size-⧺ _ _;
+      own = node-at b i h;
+      number = count-at b i h ∙ size-⧺ _ _;
       early = bytes-at b z (i + 1) _ _ a;
-      after = sym (records-at b z _) ∙ ap recordsIn g;
-      late = rw (← back-at b z (i + getD extents i 0), g) (take-all (recordLength * recordsIn (s .later)) (encodes (s .later)) (omega (arith, length-encodes (s .later))));
+      after = after;
+      late = ap (slice b (i + getD extents i 0)) (sym after) ∙ tail-at b z (i + getD extents i 0) ∙ ap encodes g;
     }
 
 merged-records : {b : List ℕ} {i q c : ℕ} (x : ℕ) (s : Parted b i q c) → recordsIn (merged x s) ≡ 1 + recordsIn (s .first) + 1 + recordsIn (others (s .second)) + recordsIn (s .later)
@@ -362,7 +300,7 @@ merged-bytes x s = rw (size-⧺, encodes-⧺) (simp append-assoc)
 
 pub merge-wrote : (b extents : List ℕ) → Extents b extents → (i q c : ℕ) → i < recordCount b → (s : Parted b i q c)
     → (x m : ℕ) (n : Node) (o₁ o₂ o₃ o₄ o₅ : List ℕ) (r₁ r₂ r₃ r₄ r₅ : ℕ)
-    → n ≡ firstNode (partAt b i) → m ≡ childByte (partAt b i) → m < 256
+    → n ≡ firstNode (drop (recordLength * i) b) → m ≡ childByte (drop (recordLength * i) b) → m < 256
     → (r₁ ≡ 0 + 1) × (front r₁ o₁ ≡ recordBytes n ((m - c + 1) % 256))
     → (r₂ ≡ r₁ + (q - i - 1)) × (front r₂ o₂ ≡ front r₁ o₁ ++ slice b (i + 1) (q - i - 1))
     → (r₃ ≡ r₂ + 1) × (front r₃ o₃ ≡ front r₂ o₂ ++ recordBytes (nodeOf (Block (Plain x)) Unlimited) 0)
@@ -406,35 +344,25 @@ others-records (t ▸ f) =
     (λ h. omega (arith, others-records f))
 
 -- a rule that asks for a kind and for two such blocks, by what the code tests
-small : (c : ℕ) → c < 2 → leb 2 c ≡ false
-small zero h = refl
-small (suc zero) h = refl
-small (suc (suc c)) h = absurd (omega arith)
-
-and-false : (x : Bool) → (x and false) ≡ false
-unfolding _and_
-and-false true = refl
-and-false false = refl
-
 abbrev pub Asks : Kind → (Node → Forest → Option Tree) → (Node → Forest → Tree) → Type 0
 Asks k rule made = (n : Node) (f : Forest) → rule n f ≡ when (sameKind (n .kind) k and leb 2 (bares f)) (made n f)
 
 module _ (k : Kind) (rule : Node → Forest → Option Tree) (made : Node → Forest → Tree) (a : Asks k rule made)
     (b : List ℕ) (s : Simplifiable b) (i : ℕ) (l : i < recordCount b) where
   tested : let w = here-at b s i l in
-      ruleAt rule (treesAt b i) ≡ also (λ t. t ▸ w .later) (when (sameKind (firstNode (partAt b i) .kind) k and leb 2 (baresAt (treesAt b i) .count)) (made (w .own) (w .kids)))
+      ruleAt rule (treesAt b i) ≡ also (λ t. t ▸ w .later) (when (sameKind (firstNode (drop (recordLength * i) b) .kind) k and leb 2 (baresAt (treesAt b i) .count)) (made (w .own) (w .kids)))
   unfolding ruleAt baresAt
-  tested = let w = here-at b s i l in rw (w .here, own-is b i _ _ _ l (w .here), a (w .own) (w .kids)) refl
+  tested = let w = here-at b s i l in rw (w .here, node-at b i w, a (w .own) (w .kids)) refl
 
-  pub rule-other : (r : Bool) (out : List ℕ) → r ≡ sameKind (firstNode (partAt b i) .kind) k → not r ≡ true → Wrote (ruleAt rule (treesAt b i)) 0 out
+  pub rule-other : (r : Bool) (out : List ℕ) → r ≡ sameKind (firstNode (drop (recordLength * i) b) .kind) k → not r ≡ true → Wrote (ruleAt rule (treesAt b i)) 0 out
   unfolding _and_ also when Wrote
   rule-other r out e h = rw (tested, ← e, not-true r h) refl
 
   pub rule-few : (found : Bares) (out : List ℕ) → found ≡ baresAt (treesAt b i) → found .count < 2 → Wrote (ruleAt rule (treesAt b i)) 0 out
   unfolding also when Wrote
-  rule-few found out e h = rw (tested, ← e, small (found .count) h, and-false) refl
+  rule-few found out e h = rw (tested, ← e, lt-leb 2 (found .count) h, and-false) refl
 
-  pub rule-fits : (r : Bool) (found : Bares) → r ≡ sameKind (firstNode (partAt b i) .kind) k → not r ≡ false → found ≡ baresAt (treesAt b i) → 2 ≤ found .count
+  pub rule-fits : (r : Bool) (found : Bares) → r ≡ sameKind (firstNode (drop (recordLength * i) b) .kind) k → not r ≡ false → found ≡ baresAt (treesAt b i) → 2 ≤ found .count
       → let w = here-at b s i l in ruleAt rule (treesAt b i) ≡ some (made (w .own) (w .kids) ▸ w .later)
   unfolding _and_ also when
   rule-fits r found e h d m = rw (tested, ← e, not-false r h, ← d, T-is (leb 2 (found .count)) (le→leb 2 (found .count) m)) refl
@@ -471,7 +399,7 @@ all-parted b s i l found e m =
     }
 
 pub rule6-wrote : (b : List ℕ) (s : Simplifiable b) (i : ℕ) (l : i < recordCount b) (found : Bares) (e : found ≡ baresAt (treesAt b i)) (m : 2 ≤ found .count)
-    → (r : Bool) → r ≡ sameKind (firstNode (partAt b i) .kind) Sequence → not r ≡ false
+    → (r : Bool) → r ≡ sameKind (firstNode (drop (recordLength * i) b) .kind) Sequence → not r ≡ false
     → (n : ℕ) (out : List ℕ) → ((p : Parted b i (i + 1) (found .count)) → Wrote (some (merged (found .total) p)) n out) → Wrote (ruleAt rule6 (treesAt b i)) n out
 unfolding _⧺_ all-parted
 rule6-wrote b s i l found e m r d h n out w =
@@ -547,7 +475,7 @@ module _ (b : List ℕ) (s : Simplifiable b) (i : ℕ) (l : i < recordCount b) (
     fewer = from-first .fewer;
   }
 
-  pub rule7-wrote : (r : Bool) → r ≡ sameKind (firstNode (partAt b i) .kind) Choice → not r ≡ false
+  pub rule7-wrote : (r : Bool) → r ≡ sameKind (firstNode (drop (recordLength * i) b) .kind) Choice → not r ≡ false
       → (n : ℕ) (out : List ℕ) → ((p : Parted b i q (found .count)) → Wrote (some (merged (found .largest) p)) n out) → Wrote (ruleAt rule7 (treesAt b i)) n out
   unfolding two-parted
   rule7-wrote r d h n out w =

@@ -2,29 +2,30 @@
 use mathlib.Core.Path.{_≡_, refl, ap, ap₂, sym, _∙_, subst}
 use mathlib.Core.Bool.{Bool, true, false, cond, not, _||_}
 use mathlib.Core.List.{List, _++_, append-assoc}
-use mathlib.Core.Option.{Option, none, some}
+use mathlib.Core.Option.{none, some}
 use Prim.Native.Nat.{ℕ, suc, _+_, _*_, _-_, _%_, _<_, _≤_}
 use native.Mathlib.Numerals.{add-one}
 use native.Mathlib.Omega.{arith}
 use lib.Dec.{T, leb, leb→le, le→leb}
-use lib.ListN.{drop, length-drop}
-use lib.Seq.{take-all}
-use borrow.Author.Tests.{lt-leb, not-false, not-true}
+use lib.ListN.{drop}
+use borrow.Author.Tests.{lt-leb}
 use Rattle.booleans.specs.Tests.{_and_}
 use Rattle.booleans.specs.Laws.{T-is, both, is-T}
 use Rattle.table.specs.Numbers.{mostChildren, recordLength}
-use Rattle.table.specs.Table.{childByte, encode, encodes, firstNode, recordBytes, recordCount, top}
+use Rattle.table.specs.Table.{childByte, encodes, firstNode, recordBytes, recordCount, top}
 use Rattle.table.specs.Trees.{Forest, Tree, nil, node, _▸_, _⧺_, records, recordsIn, size}
 use Rattle.simplify.specs.Rules.{anyGives, anyZero, bare, children, giveWay, gives, isSum, isZero, rule2, rule5, when, without}
 use Rattle.simplify.specs.Steps.{also}
+use Rattle.simplify.specs.Laws.Forests.{size-⧺}
 use Rattle.subtrees.specs.Parts.{Simplifiable, treesAt}
 use Rattle.subtrees.specs.Laws.Forests.{below, encodes-⧺, records-⧺}
-use Rattle.subtrees.specs.Laws.Parts.{Here, back-at, bytes-at, here-at, length-is, records-at, skip-at}
+use Rattle.subtrees.specs.Laws.Parts.{Here, bytes-at, here-at, records-at, row-bytes, skip-at, tail-at}
+use Rattle.subtrees.specs.Laws.Records.{count-at, node-at}
 use Rattle.rewrite.specs.Nodes.{Kind, Node}
 use Rattle.rewrite.specs.Children.{Left, any, childAt, dissolve, offset, wanted}
 use Rattle.rewrite.specs.declared.Wanted.{Wanted}
 use Rattle.rewrite.specs.Writing.{Wrote, front, ruleAt, slice}
-use Rattle.rewrite.specs.Laws.Children.{count-at, node-at}
+use Rattle.rewrite.specs.Laws.Records.{and-false, is-sum-at, it, rule-at, unfit-at, wrote-as, ⧺-assoc}
 
 -- ---- the first tree of a row that passes a test
 
@@ -62,16 +63,6 @@ found-in q (t ▸ f) h = go (q t) refl (found-in q f)
     go true e k = found-here q t f e
     go false e k = found-later q t f e (k (ap (λ (x : Bool). x || any q f) (sym e) ∙ h))
 
-⧺-assoc : (f g h : Forest) → (f ⧺ g) ⧺ h ≡ f ⧺ (g ⧺ h)
-unfolding _⧺_
-⧺-assoc nil g h = refl
-⧺-assoc (t ▸ f) g h = ap (λ (r : Forest). t ▸ r) (⧺-assoc f g h)
-
-size-⧺ : (f g : Forest) → size (f ⧺ g) ≡ size f + size g
-unfolding _⧺_ size
-size-⧺ nil g = omega arith
-size-⧺ (t ▸ f) g = omega (arith, size-⧺ f g)
-
 records-of : (t : Tree) → records t ≡ suc (recordsIn (children t))
 unfolding records children
 records-of (node n f) = refl
@@ -102,10 +93,6 @@ pub left-of : (b : List ℕ) (i p : ℕ) (top : List ℕ) {x y out : List ℕ} {
     → Left b i p top r out
 left-of b i p top l k d e f t u v = record { many = omega arith; is = v ∙ rw (u, t) refl }
 
-pub row-bytes : (n : Node) (f g : Forest) → encodes (node n f ▸ g) ≡ recordBytes n (size f) ++ encodes (f ⧺ g)
-unfolding encode encodes
-row-bytes n f g = rw (append-assoc, encodes-⧺) refl
-
 three-bytes : (f g h k : Forest) → encodes ((f ⧺ (g ⧺ h)) ⧺ k) ≡ encodes f ++ encodes (g ⧺ (h ⧺ k))
 three-bytes f g h k = rw (⧺-assoc f (g ⧺ h) k, ⧺-assoc g h k) (encodes-⧺ f (g ⧺ (h ⧺ k)))
 
@@ -117,12 +104,6 @@ gone-bytes q f w n g =
     ∙ ap (λ (x : Forest). top ++ encodes (x ⧺ g)) (w .gone)
     ∙ ap (λ (x : List ℕ). top ++ x) (three-bytes (w .before) (children (w .found)) (w .after) g)
     ∙ sym (append-assoc top (encodes (w .before)) (encodes (children (w .found) ⧺ (w .after ⧺ g))))
-
--- what stands from a record on, to the end
-pub rest-slice : (b : List ℕ) → Simplifiable b → (j : ℕ) → slice b j (recordCount b - j) ≡ encodes (treesAt b j)
-rest-slice b s j =
-    take-all (recordLength * (recordCount b - j)) (drop (recordLength * j) b) (rw length-drop (omega (arith, length-is b s)))
-    ∙ sym (back-at b s j)
 
 module _ (b : List ℕ) (s : Simplifiable b) (i : ℕ) (h : Here b i) (q : Tree → Bool) where
   -- the child that `childAt` finds, with its record
@@ -193,16 +174,11 @@ module _ (b : List ℕ) (s : Simplifiable b) (i : ℕ) (h : Here b i) (q : Tree 
         omega (arith, l .many),
         l .is
             ∙ rw
-            (before, bytes-at b s (i + 1) (w .before) (w .found ▸ (w .after ⧺ h .later)) (from-part w), rest-slice b s (p + 1), after-child p c, count)
+            (before, bytes-at b s (i + 1) (w .before) (w .found ▸ (w .after ⧺ h .later)) (from-part w), tail-at b s (p + 1), after-child p c, count)
             (sym (gone-bytes q (h .kids) w (h .own) (h .later))),
       )
 
 -- ---- rules 2 and 5
-
-and-off : (x : Bool) → (x and false) ≡ false
-unfolding _and_
-and-off true = refl
-and-off false = refl
 
 giving-any : (k : Kind) (c : ℕ) (f : Forest) → anyGives k c f ≡ any (gives k c) f
 unfolding anyGives any
@@ -244,7 +220,7 @@ rule2-no-sum n f e = rw e refl
 
 rule2-none : (n : Node) (f : Forest) → any (gives (n .kind) (size f)) f ≡ false → rule2 n f ≡ none
 unfolding rule2 when
-rule2-none n f e = rw (giving-any, e, and-off) refl
+rule2-none n f e = rw (giving-any, e, and-false) refl
 
 rule2-some : (n : Node) (f : Forest) → isSum (n .kind) ≡ true → any (gives (n .kind) (size f)) f ≡ true
     → rule2 n f ≡ some (node n (dissolve (gives (n .kind) (size f)) f))
@@ -257,71 +233,46 @@ rule5-no-sum n f e = rw e refl
 
 rule5-few : (n : Node) (f : Forest) → size f < 2 → rule5 n f ≡ none
 unfolding rule5 when
-rule5-few n f l = rw (lt-leb 2 (size f) l, and-off) (unfold _and_ in refl)
+rule5-few n f l = rw (lt-leb 2 (size f) l, and-false) (unfold _and_ in refl)
 
 rule5-none : (n : Node) (f : Forest) → any isZero f ≡ false → rule5 n f ≡ none
 unfolding rule5 when
-rule5-none n f e = rw (zero-any, e, and-off) refl
+rule5-none n f e = rw (zero-any, e, and-false) refl
 
 rule5-some : (n : Node) (f : Forest) → isSum (n .kind) ≡ true → 2 ≤ size f → any isZero f ≡ true → rule5 n f ≡ some (node n (dissolve isZero f))
 unfolding rule5 when _and_
 rule5-some n f e l d = rw (zero-any, e, d, zeroing, T-is (leb 2 (size f)) (le→leb 2 (size f) l)) refl
 
-pub wrote-as : {o p : Option Forest} (r : ℕ) (out : List ℕ) → o ≡ p → Wrote p r out → Wrote o r out
-wrote-as r out e w = subst (λ (x : Option Forest). Wrote x r out) (sym e) w
-
 gives-fits : (k : Kind) (c : ℕ) (t : Tree) → gives k c t ≡ true → c + size (children t) ≤ suc mostChildren
 unfolding gives children
 gives-fits k c (node n f) e = leb→le _ _ (both _ _ (is-T _ e) .1)
 
-pub wrote-none : (o : Option Forest) (out : List ℕ) → o ≡ none → Wrote o 0 out
-unfolding Wrote
-wrote-none o out e = subst (λ (x : Option Forest). Wrote x 0 out) (sym e) refl
-
 module _ (b : List ℕ) (s : Simplifiable b) (i : ℕ) (l : i < recordCount b) where
-  abbrev pub it : Here b i
-  it = here-at b s i l
-
-  pub rule-at : (rule : Node → Forest → Option Tree) (o : Option Tree) → rule (it .own) (it .kids) ≡ o
-      → ruleAt rule (treesAt b i) ≡ also (λ (t : Tree). t ▸ it .later) o
-  unfolding ruleAt
-  rule-at rule o e = ap (ruleAt rule) (it .here) ∙ ap (also (λ (t : Tree). t ▸ it .later)) e
-
-  pub unfit-at : (rule : Node → Forest → Option Tree) (out : List ℕ) → rule (it .own) (it .kids) ≡ none → Wrote (ruleAt rule (treesAt b i)) 0 out
-  unfolding also
-  unfit-at rule out e = wrote-none _ out (rule-at rule none e)
-
-  -- a node that is no sequence and no choice
-  pub no-sum : (rule : Node → Forest → Option Tree) (out : List ℕ) {n : Node} {x : Bool} → ((n : Node) (f : Forest) → isSum (n .kind) ≡ false → rule n f ≡ none)
-      → n ≡ firstNode (drop (recordLength * i) b) → x ≡ isSum (n .kind) → not x ≡ true → Wrote (ruleAt rule (treesAt b i)) 0 out
-  no-sum rule out {n} {x} k e d t =
-      unfit-at rule out (k (it .own) (it .kids) (ap (λ (m : Node). isSum (m .kind)) (sym (e ∙ node-at b i it)) ∙ sym d ∙ not-true x t))
+  abbrev pub h : Here b i
+  h = it b s i l
 
   abbrev pub giving-test : Tree → Bool
-  giving-test = gives (it .own .kind) (size (it .kids))
-
-  pub is-sum-at : {n : Node} {x : Bool} → n ≡ firstNode (drop (recordLength * i) b) → x ≡ isSum (n .kind) → not x ≡ false → isSum (it .own .kind) ≡ true
-  is-sum-at {n} {x} e d t = ap (λ (m : Node). isSum (m .kind)) (sym (e ∙ node-at b i it)) ∙ sym d ∙ not-false x t
+  giving-test = gives (h .own .kind) (size (h .kids))
 
   giving-at : {n : Node} {c p : ℕ} → n ≡ firstNode (drop (recordLength * i) b) → c ≡ childByte (drop (recordLength * i) b) → p ≡ childAt (wanted (Wanted.GivesWay (n .kind) c)) i (treesAt b i)
       → p ≡ childAt giving-test i (treesAt b i)
   unfolding wanted
-  giving-at e d k = k ∙ ap₂ (λ (m : Node) (x : ℕ). childAt (gives (m .kind) x) i (treesAt b i)) (e ∙ node-at b i it) (d ∙ count-at b i it)
+  giving-at e d k = k ∙ ap₂ (λ (m : Node) (x : ℕ). childAt (gives (m .kind) x) i (treesAt b i)) (e ∙ node-at b i h) (d ∙ count-at b i h)
 
   pub none-gives : (out : List ℕ) {n : Node} {c p : ℕ} → n ≡ firstNode (drop (recordLength * i) b) → c ≡ childByte (drop (recordLength * i) b)
       → p ≡ childAt (wanted (Wanted.GivesWay (n .kind) c)) i (treesAt b i) → p ≡ 0 → Wrote (ruleAt rule2 (treesAt b i)) 0 out
   none-gives out e d k z =
-      unfit-at rule2 out (rule2-none (it .own) (it .kids) (child-none b s i it giving-test _ (giving-at e d k) z))
+      unfit-at b s i l rule2 out (rule2-none (h .own) (h .kids) (child-none b s i h giving-test _ (giving-at e d k) z))
 
   pub giver : {n : Node} {c p : ℕ} → n ≡ firstNode (drop (recordLength * i) b) → c ≡ childByte (drop (recordLength * i) b) → p ≡ childAt (wanted (Wanted.GivesWay (n .kind) c)) i (treesAt b i)
-      → (p ≡ 0 → ⊥) → (any giving-test (it .kids) ≡ true) × Child b s i it giving-test p
-  giver e d k z = child-of b s i it giving-test _ (giving-at e d k) z
+      → (p ≡ 0 → ⊥) → (any giving-test (h .kids) ≡ true) × Child b s i h giving-test p
+  giver e d k z = child-of b s i h giving-test _ (giving-at e d k) z
 
   pub giver-counts : {n : Node} {c p m : ℕ} → n ≡ firstNode (drop (recordLength * i) b) → c ≡ childByte (drop (recordLength * i) b)
       → p ≡ childAt (wanted (Wanted.GivesWay (n .kind) c)) i (treesAt b i) → (p ≡ 0 → ⊥) → m ≡ childByte (drop (recordLength * p) b) → 1 ≤ c + m
   giver-counts {p = p} e d k z dm =
       let (_, g) = giver e d k z in
-      omega (arith, gone-size giving-test (it .kids) (g .part), count-at b i it, child-size b s i it giving-test p g)
+      omega (arith, gone-size giving-test (h .kids) (g .part), count-at b i h, child-size b s i h giving-test p g)
 
   pub gave-way : (out : List ℕ) {n : Node} {c p m r : ℕ} {x : Bool} → n ≡ firstNode (drop (recordLength * i) b) → x ≡ isSum (n .kind) → not x ≡ false
       → c ≡ childByte (drop (recordLength * i) b) → p ≡ childAt (wanted (Wanted.GivesWay (n .kind) c)) i (treesAt b i) → (p ≡ 0 → ⊥) → m ≡ childByte (drop (recordLength * p) b)
@@ -330,29 +281,29 @@ module _ (b : List ℕ) (s : Simplifiable b) (i : ℕ) (l : i < recordCount b) w
   gave-way out {n} {c} {p} {m} {r} e dx tx d k z dm w =
       let (a, g) = giver e d k z in
       let few = gives-fits _ _ (g .part .found) (g .part .passes) in
-      let one = gone-size giving-test (it .kids) (g .part) in
-      let ec : c ≡ size (it .kids) = d ∙ count-at b i it in
-      let em : m ≡ size (children (g .part .found)) = dm ∙ child-size b s i it giving-test p g in
-      let count : (c + m - 1) % 256 + 1 ≡ size (it .kids) + size (children (g .part .found)) = omega arith in
-      let left = subst (λ (y : Node). Left b i p (recordBytes y ((c + m - 1) % 256)) r out) (e ∙ node-at b i it) w in
+      let one = gone-size giving-test (h .kids) (g .part) in
+      let ec : c ≡ size (h .kids) = d ∙ count-at b i h in
+      let em : m ≡ size (children (g .part .found)) = dm ∙ child-size b s i h giving-test p g in
+      let count : (c + m - 1) % 256 + 1 ≡ size (h .kids) + size (children (g .part .found)) = omega arith in
+      let left = subst (λ (y : Node). Left b i p (recordBytes y ((c + m - 1) % 256)) r out) (e ∙ node-at b i h) w in
       wrote-as
       r
       out
-      (rule-at rule2 _ (rule2-some (it .own) (it .kids) (is-sum-at e dx tx) a))
-      (dissolved b s i it giving-test p g ((c + m - 1) % 256) r out count left)
+      (rule-at b s i l rule2 _ (rule2-some (h .own) (h .kids) (is-sum-at b s i l e dx tx) a))
+      (dissolved b s i h giving-test p g ((c + m - 1) % 256) r out count left)
 
   zero-row : {p : ℕ} → p ≡ childAt (wanted Wanted.Zero) i (treesAt b i) → p ≡ childAt isZero i (treesAt b i)
   unfolding wanted
   zero-row k = k
 
   pub few-zero : (out : List ℕ) {c : ℕ} → c ≡ childByte (drop (recordLength * i) b) → c < 2 → Wrote (ruleAt rule5 (treesAt b i)) 0 out
-  few-zero out d l = unfit-at rule5 out (rule5-few (it .own) (it .kids) (omega (arith, count-at b i it)))
+  few-zero out d few = unfit-at b s i l rule5 out (rule5-few (h .own) (h .kids) (omega (arith, count-at b i h)))
 
   pub none-zero : (out : List ℕ) {p : ℕ} → p ≡ childAt (wanted Wanted.Zero) i (treesAt b i) → p ≡ 0 → Wrote (ruleAt rule5 (treesAt b i)) 0 out
-  none-zero out k z = unfit-at rule5 out (rule5-none (it .own) (it .kids) (child-none b s i it isZero _ (zero-row k) z))
+  none-zero out k z = unfit-at b s i l rule5 out (rule5-none (h .own) (h .kids) (child-none b s i h isZero _ (zero-row k) z))
 
-  pub zero-child : {p : ℕ} → p ≡ childAt (wanted Wanted.Zero) i (treesAt b i) → (p ≡ 0 → ⊥) → (any isZero (it .kids) ≡ true) × Child b s i it isZero p
-  zero-child k z = child-of b s i it isZero _ (zero-row k) z
+  pub zero-child : {p : ℕ} → p ≡ childAt (wanted Wanted.Zero) i (treesAt b i) → (p ≡ 0 → ⊥) → (any isZero (h .kids) ≡ true) × Child b s i h isZero p
+  zero-child k z = child-of b s i h isZero _ (zero-row k) z
 
   pub zero-gone : (out : List ℕ) {n : Node} {c p r : ℕ} {x : Bool} → n ≡ firstNode (drop (recordLength * i) b) → x ≡ isSum (n .kind) → not x ≡ false
       → c ≡ childByte (drop (recordLength * i) b) → c < 256 → 2 ≤ c → p ≡ childAt (wanted Wanted.Zero) i (treesAt b i) → (p ≡ 0 → ⊥)
@@ -361,11 +312,11 @@ module _ (b : List ℕ) (s : Simplifiable b) (i : ℕ) (l : i < recordCount b) w
   zero-gone out {n} {c} {p} {r} e dx tx d few two k z w =
       let (a, g) = zero-child k z in
       let none = ap size (zero-children (g .part .found) (g .part .passes)) in
-      let ec : c ≡ size (it .kids) = d ∙ count-at b i it in
-      let count : (c - 1) % 256 + 1 ≡ size (it .kids) + size (children (g .part .found)) = omega arith in
-      let left = subst (λ (y : Node). Left b i p (recordBytes y ((c - 1) % 256)) r out) (e ∙ node-at b i it) w in
+      let ec : c ≡ size (h .kids) = d ∙ count-at b i h in
+      let count : (c - 1) % 256 + 1 ≡ size (h .kids) + size (children (g .part .found)) = omega arith in
+      let left = subst (λ (y : Node). Left b i p (recordBytes y ((c - 1) % 256)) r out) (e ∙ node-at b i h) w in
       wrote-as
       r
       out
-      (rule-at rule5 _ (rule5-some (it .own) (it .kids) (is-sum-at e dx tx) (omega arith) a))
-      (dissolved b s i it isZero p g ((c - 1) % 256) r out count left)
+      (rule-at b s i l rule5 _ (rule5-some (h .own) (h .kids) (is-sum-at b s i l e dx tx) (omega arith) a))
+      (dissolved b s i h isZero p g ((c - 1) % 256) r out count left)

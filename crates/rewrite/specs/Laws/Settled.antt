@@ -2,26 +2,25 @@
 use mathlib.Core.Path.{_≡_, refl, ap, sym, subst, _∙_}
 use mathlib.Core.Bool.{Bool, cond, true, false, not, _&&_}
 use mathlib.Core.List.{List, _++_, append-nil}
-use mathlib.Core.Option.{none, some}
+use mathlib.Core.Option.{some}
 use Prim.Native.Nat.{ℕ, _+_, _*_, _-_, _<_, _≤_}
 use native.Mathlib.Omega.{arith}
-use lib.Dec.{T, eqb, eqb→eq, le→leb, leb, leb→le}
-use borrow.Author.Tests.{eq-eqb}
-use Rattle.booleans.specs.Laws.{both, is-T, same-test}
+use lib.Dec.{T, eqb, leb}
+use Rattle.booleans.specs.Laws.{both}
 use Rattle.booleans.specs.Tests.{_and_}
 use lib.ListN.{drop, getD, length, length-drop, take}
 use lib.Seq.{drop-drop}
-use Rattle.table.specs.Numbers.{mostCount, mostDepth, mostRecords, recordLength}
-use Rattle.table.specs.Questions.{depth, depthIn, listed}
+use Rattle.table.specs.Numbers.{mostDepth, mostRecords, recordLength}
+use Rattle.table.specs.Questions.{depth, listed}
 use Rattle.table.specs.Table.{childByte, encode, encodes, firstNode, recordBytes, recordCount}
-use Rattle.table.specs.Trees.{Forest, Tree, nil, node, _▸_, _⧺_, records, recordsIn, size}
+use Rattle.table.specs.Trees.{Forest, Tree, node, _▸_, records, recordsIn, size}
 use Rattle.table.specs.Laws.Trees.{some-records}
-use Rattle.table.specs.Laws.Reading.{part-from, partAt}
-use Rattle.table.specs.Laws.RoundTrip.{drop-bytes, head-bytes}
+use Rattle.table.specs.Laws.Reading.{part-from}
+use Rattle.table.specs.Laws.RoundTrip.{drop-bytes}
 use Rattle.lists.specs.Pairs.{top}
 use Rattle.lists.specs.Streams.{const}
 use Rattle.evaluate.specs.Closed.{closedIn, symbolFree}
-use Rattle.evaluate.specs.Evaluate.{before, start, zeros}
+use Rattle.evaluate.specs.Evaluate.{start, zeros}
 use Rattle.evaluate.specs.Shown.{Shows, evaluateChildren}
 use Rattle.evaluate.specs.Laws.Evaluator.{children-found}
 use Rattle.evaluate.specs.Laws.Shown.{first-top}
@@ -32,18 +31,14 @@ use Rattle.subtrees.specs.Facts.{Surveyed, marksEach, reachBelow, reachIn, symb
 use Rattle.subtrees.specs.Parts.{Simplifiable, subtree, treesAt}
 use Rattle.subtrees.specs.Laws.Facts.{closedIn-is}
 use Rattle.subtrees.specs.Laws.Forests.{Sound, encodes-⧺}
-use Rattle.subtrees.specs.Laws.Parts.{Here, few-records, here-at, length-is, past-first, records-at, tail-at}
-use Rattle.subtrees.specs.Laws.Survey.{count-at}
+use Rattle.subtrees.specs.Laws.Parts.{Here, few-records, here-at, length-is, past-node, records-at, tail-at, top-at}
+use Rattle.subtrees.specs.Laws.Records.{count-at, node-at}
 use Rattle.rewrite.specs.Nodes.{Block, Choice, Kind, Loop, Node, Plain, Sequence}
 use Rattle.rewrite.specs.Settled.{beforeAt, blockAt}
 use Rattle.rewrite.specs.Writing.{Wrote, front, nodeOf, ruleAt, slice}
-use Rattle.rewrite.specs.Laws.Exit.{own-writes, subtree-is, wrote-none, wrote-some}
+use Rattle.rewrite.specs.Laws.Records.{wrote-as, wrote-none, zero-is}
 
--- the node that the record at i writes
-pub node-at : (b : List ℕ) (i : ℕ) (h : Here b i) → firstNode (partAt b i) ≡ h .own
-node-at b i h = rw (part-from, h .bytes) (head-bytes (h .own) (size (h .kids)) _ (own-writes b i h))
-
--- and what stands after that record
+-- what stands after the record at i
 rest-at : (b : List ℕ) (i : ℕ) (h : Here b i) → drop (recordLength * i + recordLength) b ≡ encodes (h .kids) ++ encodes (h .later)
 rest-at b i h = rw (← drop-drop, h .bytes, drop-bytes) (encodes-⧺ (h .kids) (h .later))
 
@@ -59,7 +54,7 @@ module _ (b : List ℕ) (s : Simplifiable b) (i : ℕ) (l : i < recordCount b) w
   pub short-part : (n : ℕ) → length (take (length b - n) (drop n b)) ≤ recordLength * mostRecords
   short-part n = rw (part-from, length-drop) (omega (arith, length-is b s, few-records b s))
 
-  pub settled : blockAt (treesAt b i) ≡ false → {r : Valued} {a : List ℕ} {n : Node} {c : ℕ} → n ≡ firstNode (partAt b i) → c ≡ childByte (partAt b i)
+  pub settled : blockAt (treesAt b i) ≡ false → {r : Valued} {a : List ℕ} {n : Node} {c : ℕ} → n ≡ firstNode (drop (recordLength * i) b) → c ≡ childByte (drop (recordLength * i) b)
       → let m = recordLength * i + recordLength in Shows r a (evaluateChildren zeros mostDepth (n .kind) c (take (length b - m) (drop m b)))
       → getD a 0 0 ≡ beforeAt (treesAt b i)
   unfolding blockAt beforeAt depth
@@ -82,9 +77,6 @@ free-is t = go (symbolFree t)
     go true = refl
     go false = refl
 
-zero-is : (n : ℕ) → eqb n 0 ≡ leb n 0
-zero-is n = same-test _ _ (λ t. le→leb n 0 (omega (arith, eqb→eq n 0 t))) (λ t. is-T _ (eq-eqb n 0 (omega (arith, leb→le n 0 t))))
-
 closed-kids : (n : Node) (f : Forest) → Sound (node n f) → closedIn (n .kind) f 0 ≡ leb (reachIn (n .kind) f) 0
 unfolding listed depth
 closed-kids n f t = closedIn-is (n .kind) f 0 (both _ _ (t .fair .listed) .1) (omega (arith, t .deep))
@@ -94,23 +86,23 @@ module _ (b extents marks : List ℕ) (s : Surveyed b extents marks) (i : ℕ) (
   h = here-at b (s .sizes .simplifiable) i l
 
   fits-here : (symbolFree (node (h .own) (h .kids)) and not (isBlock (h .own .kind)) and closedIn (h .own .kind) (h .kids) 0)
-      ≡ (eqb (getD marks (marksEach * i) 0) 0 and not (isBlock (firstNode (partAt b i) .kind)) and eqb (getD marks (marksEach * i + 3) 0) 0)
+      ≡ (eqb (getD marks (marksEach * i) 0) 0 and not (isBlock (firstNode (drop (recordLength * i) b) .kind)) and eqb (getD marks (marksEach * i + 3) 0) 0)
   unfolding reachBelow
   fits-here =
       let m = s .each i l in
-      let t = subtree-is b i h in
+      let t = top-at b i (h .here) in
       rw (node-at b i h, m .symbols ∙ ap symbols t, m .below ∙ ap reachBelow t, free-is, zero-is, closed-kids (h .own) (h .kids) (h .sound)) refl
 
   -- by the tests, what the table becomes from record i on
   becomes : ruleAt rule4 (treesAt b i)
       ≡ also (λ t. t ▸ h .later)
-      (when (eqb (getD marks (marksEach * i) 0) 0 and not (isBlock (firstNode (partAt b i) .kind)) and eqb (getD marks (marksEach * i + 3) 0) 0) (leaf (beforeAt (treesAt b i)) (firstNode (partAt b i) .limit)))
+      (when (eqb (getD marks (marksEach * i) 0) 0 and not (isBlock (firstNode (drop (recordLength * i) b) .kind)) and eqb (getD marks (marksEach * i + 3) 0) 0) (leaf (beforeAt (treesAt b i)) (firstNode (drop (recordLength * i) b) .limit)))
   unfolding ruleAt rule4 beforeAt
   becomes = rw (h .here, ← fits-here, node-at b i h) refl
 
   pub not-settled : (out : List ℕ) → (eqb (getD marks (marksEach * i) 0) 0 && eqb (getD marks (marksEach * i + 3) 0) 0) ≡ false → Wrote (ruleAt rule4 (treesAt b i)) 0 out
   unfolding also when
-  not-settled out e = wrote-none _ 0 out (becomes ∙ rw (no _ _ (isBlock (firstNode (partAt b i) .kind)) e) refl) refl
+  not-settled out e = wrote-none _ out (becomes ∙ rw (no _ _ (isBlock (firstNode (drop (recordLength * i) b) .kind)) e) refl)
     where
       no : (x y z : Bool) → (x && y) ≡ false → (x and not z and y) ≡ false
       no true true z e = absurd (subst T e tt)
@@ -118,41 +110,33 @@ module _ (b extents marks : List ℕ) (s : Surveyed b extents marks) (i : ℕ) (
       no true false false e = unfold _and_ in refl
       no false y z e = unfold _and_ in refl
 
-  pub no-node : (out : List ℕ) → isBlock (firstNode (partAt b i) .kind) ≡ true → Wrote (ruleAt rule4 (treesAt b i)) 0 out
+  pub no-node : (out : List ℕ) → isBlock (firstNode (drop (recordLength * i) b) .kind) ≡ true → Wrote (ruleAt rule4 (treesAt b i)) 0 out
   unfolding also when
-  no-node out e = wrote-none _ 0 out (becomes ∙ rw (e, no (eqb (getD marks (marksEach * i) 0) 0) _) refl) refl
+  no-node out e = wrote-none _ out (becomes ∙ rw (e, no (eqb (getD marks (marksEach * i) 0) 0) _) refl)
     where
       no : (x y : Bool) → (x and not true and y) ≡ false
       no true y = unfold _and_ in refl
       no false y = unfold _and_ in refl
 
-  pub is-node : isBlock (firstNode (partAt b i) .kind) ≡ false → blockAt (treesAt b i) ≡ false
+  pub is-node : isBlock (firstNode (drop (recordLength * i) b) .kind) ≡ false → blockAt (treesAt b i) ≡ false
   unfolding blockAt
   is-node e = ap blockAt (h .here) ∙ ap (λ n. isBlock (n .kind)) (sym (node-at b i h)) ∙ e
-
-  -- past the node stands what follows it
-  past : (treesAt b (i + getD extents i 0) ≡ h .later) × (i + getD extents i 0 ≤ recordCount b)
-  past =
-      let e : getD extents i 0 ≡ records (node (h .own) (h .kids)) = s .sizes .each i l ∙ ap records (subtree-is b i h) in
-      rw e (past-first b (s .sizes .simplifiable) i _ (h .later) (h .here))
-
-  pub past-inside : i + getD extents i 0 ≤ recordCount b
-  past-inside = past .1
 
   pub past-some : 0 < getD extents i 0
   past-some = omega (arith, s .sizes .each i l, some-records (subtree b i))
 
   pub settled-written : (x r : ℕ) (out : List ℕ) → x ≡ beforeAt (treesAt b i)
-      → (eqb (getD marks (marksEach * i) 0) 0 && eqb (getD marks (marksEach * i + 3) 0) 0) ≡ true → isBlock (firstNode (partAt b i) .kind) ≡ false
+      → (eqb (getD marks (marksEach * i) 0) 0 && eqb (getD marks (marksEach * i + 3) 0) 0) ≡ true → isBlock (firstNode (drop (recordLength * i) b) .kind) ≡ false
       → let end = i + getD extents i 0 in r ≡ 1 + (recordCount b - end)
-      → front r out ≡ recordBytes (nodeOf (Block (Plain x)) (firstNode (partAt b i) .limit)) 0 ++ slice b end (recordCount b - end)
+      → front r out ≡ recordBytes (nodeOf (Block (Plain x)) (firstNode (drop (recordLength * i) b) .limit)) 0 ++ slice b end (recordCount b - end)
       → Wrote (ruleAt rule4 (treesAt b i)) r out
-  unfolding also when recordsIn records encode encodes leaf size
+  unfolding Wrote also when recordsIn records encode encodes leaf size
   settled-written x r out v e f n q =
       let end = i + getD extents i 0 in
       let t = s .sizes .simplifiable in
-      wrote-some (leaf x (firstNode (partAt b i) .limit) ▸ h .later) _ r out (becomes ∙ rw (f, yes _ _ e, v) refl)
-      (omega (arith, records-at b t end, ap recordsIn (past .0)), q ∙ rw (tail-at b t end, past .0, append-nil) refl)
+      let past : treesAt b end ≡ h .later = past-node b extents (s .sizes) i l h .0 in
+      wrote-as {p = some (leaf x (firstNode (drop (recordLength * i) b) .limit) ▸ h .later)} r out (becomes ∙ rw (f, yes _ _ e, v) refl)
+      (omega (arith, records-at b t end, ap recordsIn past), q ∙ rw (tail-at b t end, past, append-nil) refl)
     where
       yes : (x y : Bool) → (x && y) ≡ true → (x and not false and y) ≡ true
       yes true true e = unfold _and_ in refl

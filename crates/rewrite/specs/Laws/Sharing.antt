@@ -18,21 +18,18 @@ use Rattle.simplify.specs.Same.{same, sameKind}
 use Rattle.simplify.specs.Steps.{also}
 use Rattle.simplify.specs.Laws.Same.{bytes-same, same-is}
 use Rattle.table.specs.Numbers.{recordLength}
-use Rattle.table.specs.Questions.{listed}
-use Rattle.table.specs.Table.{childByte, encode, encodes, firstNode, kindByte, loopByte, recordBytes, recordCount, top}
+use Rattle.table.specs.Table.{childByte, encode, encodes, firstNode, kindByte, recordBytes, recordCount}
 use Rattle.table.specs.Trees.{Forest, Tree, nil, node, _▸_, _⧺_, records, recordsIn, size}
-use Rattle.table.specs.Laws.RoundTrip.{WritesLimit, children-bytes, first-⧺, head-bytes}
-use Rattle.table.specs.Laws.Reading.{part-from, partAt}
-use Rattle.table.specs.Laws.Trees.{some-records}
+use Rattle.table.specs.Laws.RoundTrip.{first-⧺}
 use Rattle.subtrees.specs.Facts.{Extents, Surveyed, marksEach, reach}
 use Rattle.subtrees.specs.Parts.{Simplifiable, subtree, treesAt}
 use Rattle.subtrees.specs.Laws.Facts.{closed-at}
-use Rattle.subtrees.specs.Laws.Forests.{Sound}
-use Rattle.subtrees.specs.Laws.Parts.{Here, bytes-at, here-at, length-is, records-at, skip-at}
-use Rattle.rewrite.specs.Nodes.{AtMost, Block, Choice, Kind, Limit, Loop, Node, Sequence, Unlimited}
+use Rattle.subtrees.specs.Laws.Parts.{Here, Next, Row, here-at, kids-row, length-is, next-row, node-extent, past-inside, past-node, records-at, row-end, row-last, tail-at, top-at}
+use Rattle.subtrees.specs.Laws.Records.{count-at, kids-at, kind-at, node-at}
+use Rattle.rewrite.specs.Nodes.{Block, Choice, Kind, Limit, Loop, Node, Sequence, Unlimited}
 use Rattle.rewrite.specs.Sharing.{Appended, PairsAt, RoomFor, firstsAt, pairs, sameBytes, sharedAt, sharing, topBytes}
 use Rattle.rewrite.specs.Writing.{Wrote, front, nodeOf, ruleAt, slice}
-use Rattle.rewrite.specs.Laws.Exit.{Two, fields-at, own-writes, rest-bytes, subtree-is, two-are, wrote-some}
+use Rattle.rewrite.specs.Laws.Records.{and-false, subtree-bytes, subtree-sound, two-at, unlimited-at, wrote-as, zero-is}
 
 -- ---- bytes compared one by one
 
@@ -93,24 +90,6 @@ all-compared b i j n k l m h c =
 
 -- ---- two subtrees compared
 
-subtree-bytes : (b : List ℕ) → Simplifiable b → (i : ℕ) → i < recordCount b → slice b i (records (subtree b i)) ≡ encode (subtree b i)
-unfolding recordsIn encodes _⧺_
-subtree-bytes b s i l =
-    let h = here-at b s i l in
-    let t = node (h .own) (h .kids) in
-    let n : recordsIn (t ▸ nil) ≡ records t = omega arith in
-    rw (subtree-is b i h, ← n) (bytes-at b s i (t ▸ nil) (h .later) (h .here) ∙ append-nil (encode t))
-
-subtree-listed : (b : List ℕ) → Simplifiable b → (i : ℕ) → i < recordCount b → T (listed (subtree b i))
-subtree-listed b s i l = let h = here-at b s i l in rw (subtree-is b i h) (h .sound .fair .listed)
-
-pub subtree-within : (b : List ℕ) → Simplifiable b → (i : ℕ) → i < recordCount b → i + records (subtree b i) ≤ recordCount b
-unfolding recordsIn
-subtree-within b s i l =
-    let h = here-at b s i l in
-    let e : recordsIn (treesAt b i) ≡ records (node (h .own) (h .kids)) + recordsIn (h .later) = ap recordsIn (h .here) in
-    rw (subtree-is b i h) (omega (arith, records-at b s i))
-
 never : (x : Bool) → (T x → ⊥) → false ≡ x
 never true f = absurd (f tt)
 never false f = refl
@@ -128,7 +107,7 @@ module _ (b extents : List ℕ) (s : Extents b extents) (i j : ℕ) (l : i < rec
       → (recordLength * (i + getD extents i 0) ≤ length b) × (recordLength * (j + getD extents i 0) ≤ length b)
   same-room e =
       let p = s .simplifiable in
-      omega (arith, s .each i l, s .each j m, subtree-within b p i l, subtree-within b p j m, length-is b p)
+      omega (arith, past-inside b extents s i l, past-inside b extents s j m, length-is b p)
 
   pub same-bytes : (r : Bool) → getD extents i 0 ≡ getD extents j 0
       → r ≡ sameBytes (slice b i (getD extents i 0)) (slice b j (getD extents i 0)) → r ≡ same (subtree b i) (subtree b j)
@@ -139,36 +118,34 @@ module _ (b extents : List ℕ) (s : Extents b extents) (i j : ℕ) (l : i < rec
       let x : slice b i (getD extents i 0) ≡ encode t = ap (slice b i) (s .each i l) ∙ subtree-bytes b p i l in
       let y : slice b j (getD extents i 0) ≡ encode u = ap (slice b j) (e ∙ s .each j m) ∙ subtree-bytes b p j m in
       w ∙ rw (x, y) (same-test _ _
-      (λ h. bytes-same t u (subtree-listed b p i l) (subtree-listed b p j m) (bytes-are (encode t) (encode u) h))
+      (λ h. bytes-same t u (subtree-sound b p i l .fair .listed) (subtree-sound b p j m .fair .listed) (bytes-are (encode t) (encode u) h))
       (λ h. subst (λ v. T (sameBytes (encode t) (encode v))) (same-is t u h) (bytes-self (encode t))))
 
 -- ---- pairs
 
-pair-kind : (k : Kind) (l : Limit) → WritesLimit l → (eqb (kindByte k) 1 && true && eqb (loopByte l) 0) ≡ (sameKind k Sequence and isUnlimited l)
-unfolding kindByte loopByte sameKind isUnlimited WritesLimit _and_
-pair-kind (Block v) l w = refl
-pair-kind Sequence Unlimited w = refl
-pair-kind Sequence (AtMost j m) w = rw (ne-eqb j 0 (λ e. omega arith)) refl
-pair-kind Choice l w = refl
-pair-kind (Loop v) l w = refl
+pair-kind : (k : Kind) (u : Bool) → (eqb (kindByte k) 1 && true && u) ≡ (sameKind k Sequence and u)
+unfolding kindByte sameKind _and_
+pair-kind (Block v) u = refl
+pair-kind Sequence u = refl
+pair-kind Choice u = refl
+pair-kind (Loop v) u = refl
 
 not-two : (x y : Bool) → (x && false && y) ≡ false
 not-two true y = refl
 not-two false y = refl
 
-pair-bytes : (n : Node) (f : Forest) → WritesLimit (n .limit) → (eqb (kindByte (n .kind)) 1 && eqb (size f) 2 && eqb (loopByte (n .limit)) 0) ≡ isPair (node n f)
+pair-bytes : (n : Node) (f : Forest) → (eqb (kindByte (n .kind)) 1 && eqb (size f) 2 && isUnlimited (n .limit)) ≡ isPair (node n f)
 unfolding isPair size
-pair-bytes n nil w = not-two (eqb (kindByte (n .kind)) 1) (eqb (loopByte (n .limit)) 0)
-pair-bytes n (a ▸ nil) w = not-two (eqb (kindByte (n .kind)) 1) (eqb (loopByte (n .limit)) 0)
-pair-bytes n (a ▸ x ▸ nil) w = pair-kind (n .kind) (n .limit) w
-pair-bytes n (a ▸ x ▸ y ▸ f) w = rw (ne-eqb (suc (suc (suc (size f)))) 2 (λ e. omega arith)) (not-two (eqb (kindByte (n .kind)) 1) (eqb (loopByte (n .limit)) 0))
+pair-bytes n nil = not-two (eqb (kindByte (n .kind)) 1) (isUnlimited (n .limit))
+pair-bytes n (a ▸ nil) = not-two (eqb (kindByte (n .kind)) 1) (isUnlimited (n .limit))
+pair-bytes n (a ▸ x ▸ nil) = pair-kind (n .kind) (isUnlimited (n .limit))
+pair-bytes n (a ▸ x ▸ y ▸ f) = rw (ne-eqb (suc (suc (suc (size f)))) 2 (λ e. omega arith)) (not-two (eqb (kindByte (n .kind)) 1) (isUnlimited (n .limit)))
 
 pub pair-test : (b : List ℕ) (p : ℕ) → Simplifiable b → p < recordCount b
     → (eqb (getD b (recordLength * p) 0) 1 && eqb (getD b (recordLength * p + 2) 0) 2 && eqb (getD b (recordLength * p + 3) 0) 0) ≡ isPair (subtree b p)
 pair-test b p s l =
     let h = here-at b s p l in
-    let f = fields-at b p h in
-    rw (f .kind, f .count, f .loop, subtree-is b p h) (pair-bytes (h .own) (h .kids) (own-writes b p h .limit))
+    rw (kind-at b p h, kids-at b p h, unlimited-at b p h, top-at b p (h .here)) (pair-bytes (h .own) (h .kids))
 
 pair-size : (n : Node) (f : Forest) → T (isPair (node n f)) → size f ≡ 2
 unfolding isPair size
@@ -179,41 +156,22 @@ pair-size n (a ▸ x ▸ y ▸ f) h = absurd h
 
 -- where a pair's two children stand
 pub record PairAt (b extents : List ℕ) (p : ℕ) : Type 0 where
-  pub later : Forest
   pub inside : p + 1 < recordCount b
   pub sized : p + 1 < length extents
-  pub size : getD extents (p + 1) 0 ≡ records (firstOf (subtree b p))
-  pub row : treesAt b (p + 1) ≡ firstOf (subtree b p) ▸ secondOf (subtree b p) ▸ later
+  pub extent : getD extents (p + 1) 0 ≡ records (subtree b (p + 1))
+  pub first : subtree b (p + 1) ≡ firstOf (subtree b p)
   pub place : p + 1 + getD extents (p + 1) 0 < recordCount b
-  pub stand : subtree b (p + 1 + getD extents (p + 1) 0) ≡ secondOf (subtree b p)
+  pub second : subtree b (p + 1 + getD extents (p + 1) 0) ≡ secondOf (subtree b p)
 
 module _ (b extents : List ℕ) (s : Extents b extents) (p : ℕ) (l : p < recordCount b) where
-  pair-from : (h : Here b p) → Two (h .kids) → PairAt b extents p
-  unfolding recordsIn _⧺_ subtree top firstOf secondOf headOf tailOf children
-  pair-from h w =
-      let sim = s .simplifiable in
-      let t : subtree b p ≡ node (h .own) (w .one ▸ w .other ▸ nil) = subtree-is b p h ∙ ap (node (h .own)) (w .are) in
-      let next : treesAt b (p + 1) ≡ w .one ▸ w .other ▸ h .later = rw add-one (h .next ∙ ap (λ f. f ⧺ h .later) (w .are)) in
-      let count = records-at b sim (p + 1) in
-      let long : recordsIn (treesAt b (p + 1)) ≡ records (w .one) + (records (w .other) + recordsIn (h .later)) = ap recordsIn next in
-      let inside : p + 1 < recordCount b = omega (arith, some-records (w .one)) in
-      let size : getD extents (p + 1) 0 ≡ records (w .one) = s .each (p + 1) inside ∙ ap records (ap top next) in
-      let past : recordsIn (w .one ▸ nil) ≡ getD extents (p + 1) 0 = omega arith in
-      let after : treesAt b (p + 1 + getD extents (p + 1) 0) ≡ w .other ▸ h .later = rw (← past) (skip-at b sim (p + 1) (w .one ▸ nil) (w .other ▸ h .later) next) in
-      record {
-        later = h .later;
-        inside = inside;
-        sized = omega (arith, s .room);
-        size = size ∙ ap (λ u. records (firstOf u)) (sym t);
-        row = next ∙ ap (λ u. firstOf u ▸ secondOf u ▸ h .later) (sym t);
-        place = omega (arith, some-records (w .other));
-        stand = ap top after ∙ ap secondOf (sym t);
-      }
-
   pub pair-at : isPair (subtree b p) ≡ true → PairAt b extents p
+  unfolding firstOf secondOf headOf tailOf children
   pair-at e =
       let h = here-at b (s .simplifiable) p l in
-      pair-from h (two-are (h .kids) (pair-size (h .own) (h .kids) (is-T _ (ap isPair (sym (subtree-is b p h)) ∙ e))))
+      let t = top-at b p (h .here) in
+      let w = two-at b extents s p h (pair-size (h .own) (h .kids) (is-T _ (ap isPair (sym t) ∙ e))) in
+      let are = t ∙ ap (node (h .own)) (w .are) in
+      record { inside = w .inside; sized = w .sized; extent = w .extent; first = sym (ap firstOf are); place = w .place; second = sym (ap secondOf are) }
 
 pub no-pair : (r : Bool) (x t : Tree) → r ≡ isPair t → not r ≡ true → false ≡ sharing x t
 unfolding sharing _and_
@@ -225,87 +183,36 @@ pair-same r q x t u e n w h = rw (← e, not-false q n, ← w) h
 
 -- ---- children one after another
 
--- the first of the trees that stand in a row from record p on, and where the next one stands
-pub record NextAt (b extents : List ℕ) (p : ℕ) (row later : Forest) : Type 0 where
-  pub others : Forest
-  pub are : row ≡ subtree b p ▸ others
-  pub inside : p < recordCount b
-  pub sized : p < length extents
-  pub within : p + getD extents p 0 ≤ recordCount b
-  pub next : treesAt b (p + getD extents p 0) ≡ others ⧺ later
-
-pub next-at : (b extents : List ℕ) → Extents b extents → (p : ℕ) (row later : Forest) → treesAt b p ≡ row ⧺ later → 0 < size row → NextAt b extents p row later
-unfolding size _⧺_ recordsIn subtree top
-next-at b extents s p nil later e h = absurd (omega arith)
-next-at b extents s p (t ▸ f) later e h =
-    let sim = s .simplifiable in
-    let count = records-at b sim p in
-    let long : recordsIn (treesAt b p) ≡ records t + recordsIn (f ⧺ later) = ap recordsIn e in
-    let inside : p < recordCount b = omega (arith, some-records t) in
-    let size : getD extents p 0 ≡ records t = s .each p inside ∙ ap records (ap top e) in
-    let past : recordsIn (t ▸ nil) ≡ getD extents p 0 = omega arith in
-    record {
-      others = f;
-      are = ap (λ u. u ▸ f) (sym (ap top e));
-      inside = inside;
-      sized = omega (arith, s .room);
-      within = omega arith;
-      next = rw (← past) (skip-at b sim p (t ▸ nil) (f ⧺ later) e);
-    }
-
 -- the trees from record p on are left to be looked at, of the children of the node at record i
 pub record Shared (b : List ℕ) (i x p left : ℕ) : Type 0 where
-  pub row : Forest
-  pub later : Forest
-  pub stand : treesAt b p ≡ row ⧺ later
-  pub count : size row ≡ left
-  pub still : allPairs (subtree b x) (children (subtree b i)) ≡ allPairs (subtree b x) row
+  pub row : Row b p left
+  pub still : allPairs (subtree b x) (children (subtree b i)) ≡ allPairs (subtree b x) (row .trees)
 
-pub count-at : (b : List ℕ) (i : ℕ) (h : Here b i) → childByte (partAt b i) ≡ size (h .kids)
-count-at b i h = ap childByte (part-from b (recordLength * i) ∙ h .bytes) ∙ children-bytes (h .own) (size (h .kids)) _
-
-pub shared-start : (b : List ℕ) → Simplifiable b → (i x c : ℕ) → i < recordCount b → c ≡ childByte (partAt b i) → Shared b i x (i + 1) c
+pub shared-start : (b : List ℕ) → Simplifiable b → (i x c : ℕ) → i < recordCount b → c ≡ childByte (drop (recordLength * i) b) → Shared b i x (i + 1) c
 unfolding children
-shared-start b s i x c l e = let h = here-at b s i l in record {
-  row = h .kids;
-  later = h .later;
-  stand = rw add-one (h .next);
-  count = sym (e ∙ count-at b i h);
-  still = ap (λ t. allPairs (subtree b x) (children t)) (subtree-is b i h);
-}
+shared-start b s i x c l e =
+    let h = here-at b s i l in
+    rw (e ∙ count-at b i h) (record { row = kids-row b s i h; still = ap (λ t. allPairs (subtree b x) (children t)) (top-at b i (h .here)) })
 
 module _ (b extents : List ℕ) (s : Extents b extents) (i x p left : ℕ) (h : Shared b i x p left) (l : 0 < left) where
-  pub shared-turn : NextAt b extents p (h .row) (h .later)
-  shared-turn = next-at b extents s p (h .row) (h .later) (h .stand) (omega (arith, h .count))
+  pub shared-turn : Next b extents p left (h .row)
+  shared-turn = next-row b extents s p left (h .row) l
 
-  shared-split : allPairs (subtree b x) (children (subtree b i)) ≡ (sharing (subtree b x) (subtree b p) and allPairs (subtree b x) (shared-turn .others))
+  shared-split : allPairs (subtree b x) (children (subtree b i)) ≡ (sharing (subtree b x) (subtree b p) and allPairs (subtree b x) (shared-turn .others .trees))
   unfolding allPairs sharing
   shared-split = h .still ∙ ap (allPairs (subtree b x)) (shared-turn .are)
 
   pub shared-next : (r : Bool) → r ≡ sharing (subtree b x) (subtree b p) → not r ≡ false → Shared b i x (p + getD extents p 0) (left - 1)
-  unfolding _and_ size
-  shared-next r e n =
-      let c : size (h .row) ≡ suc (size (shared-turn .others)) = ap size (shared-turn .are) in
-      record {
-        row = shared-turn .others;
-        later = h .later;
-        stand = shared-turn .next;
-        count = omega (arith, h .count);
-        still = shared-split ∙ rw (← e, not-false r n) refl;
-      }
+  unfolding _and_
+  shared-next r e n = record { row = shared-turn .others; still = shared-split ∙ rw (← e, not-false r n) refl }
 
   pub shared-not : (r : Bool) → r ≡ sharing (subtree b x) (subtree b p) → not r ≡ true → false ≡ allPairs (subtree b x) (children (subtree b i))
   unfolding _and_
   shared-not r e n = sym (shared-split ∙ rw (← e, not-true r n) refl)
 
-no-more : (f : Forest) → size f ≡ 0 → f ≡ nil
-unfolding size
-no-more nil e = refl
-no-more (t ▸ f) e = absurd (omega arith)
-
 pub shared-all : (b : List ℕ) (i x p left : ℕ) → Shared b i x p left → left ≤ 0 → true ≡ allPairs (subtree b x) (children (subtree b i))
 unfolding allPairs
-shared-all b i x p left h l = sym (h .still ∙ rw (no-more (h .row) (omega (arith, h .count))) refl)
+shared-all b i x p left h l = sym (h .still ∙ rw (row-end (h .row) l) refl)
 
 -- ---- where rule 8 fits
 
@@ -315,11 +222,6 @@ kind-choice (Block v) = refl
 kind-choice Sequence = refl
 kind-choice Choice = refl
 kind-choice (Loop v) = refl
-
-and-false : (x : Bool) → (x and false) ≡ false
-unfolding _and_
-and-false true = refl
-and-false false = refl
 
 no-fit : (x : Bool) (n : ℕ) (c d : Bool) → (not x || ltb n 2) ≡ true → (x and (leb 2 n and c and d)) ≡ false
 unfolding _and_
@@ -335,7 +237,7 @@ abbrev pub other : List ℕ → ℕ → Bool
 other b i = not (eqb (getD b (recordLength * i) 0) 2) || ltb (getD b (recordLength * i + 2) 0) 2
 
 other-is : (b : List ℕ) (i : ℕ) (h : Here b i) → other b i ≡ (not (sameKind (h .own .kind) Choice) || ltb (size (h .kids)) 2)
-other-is b i h = let f = fields-at b i h in rw (f .kind, f .count, kind-choice (h .own .kind)) refl
+other-is b i h = rw (kind-at b i h, kids-at b i h, kind-choice (h .own .kind)) refl
 
 other-shared : (i : ℕ) (n : Node) (f g : Forest) → (not (sameKind (n .kind) Choice) || ltb (size f) 2) ≡ true → 0 ≡ sharedAt i (node n f ▸ g)
 unfolding sharedAt shares
@@ -364,14 +266,15 @@ unfolding children
 choice-at b extents s i l e =
     let h = here-at b (s .simplifiable) i l in
     let (k, two) = some-fit (sameKind (h .own .kind) Choice) (size (h .kids)) (sym (other-is b i h) ∙ e) in
-    let n = next-at b extents s (i + 1) (h .kids) (h .later) (rw add-one (h .next)) (omega arith) in
-    let kids : children (subtree b i) ≡ h .kids = ap children (subtree-is b i h) in
-    let many : leb 2 (size (subtree b (i + 1) ▸ n .others)) ≡ true = ap (λ f. leb 2 (size f)) (sym (n .are)) ∙ le-leb 2 (size (h .kids)) two in
+    let n = next-row b extents s (i + 1) (size (h .kids)) (kids-row b (s .simplifiable) i h) (omega arith) in
+    let others = n .others .trees in
+    let kids : children (subtree b i) ≡ h .kids = ap children (top-at b i (h .here)) in
+    let many : leb 2 (size (subtree b (i + 1) ▸ others)) ≡ true = ap (λ f. leb 2 (size f)) (sym (n .are)) ∙ le-leb 2 (size (h .kids)) two in
     record {
-      others = n .others;
+      others = others;
       inside = n .inside;
       are = kids ∙ n .are;
-      shared = ap (sharedAt i) (h .here ∙ ap (λ f. node (h .own) f ▸ h .later) (n .are)) ∙ choice-shared i (h .own) (subtree b (i + 1)) (n .others) (h .later) k many
+      shared = ap (sharedAt i) (h .here ∙ ap (λ f. node (h .own) f ▸ h .later) (n .are)) ∙ choice-shared i (h .own) (subtree b (i + 1)) others (h .later) k many
           ∙ ap (λ f. cond (closed (secondOf (subtree b (i + 1))) 0 and allPairs (secondOf (subtree b (i + 1))) f) (i + 2 + records (firstOf (subtree b (i + 1)))) 0) (sym (kids ∙ n .are));
     }
 
@@ -386,13 +289,6 @@ first-no-pair {b} {i} x r e n =
     let none : allPairs (secondOf t) (children (subtree b i)) ≡ false = ap (allPairs (secondOf t)) (x .are) ∙ first in
     sym (x .shared ∙ rw (none, and-false (closed (secondOf t) 0)) refl)
 
-none-or-zero : (n : ℕ) → leb n 0 ≡ eqb n 0
-none-or-zero zero = refl
-none-or-zero (suc n) = lt-leb (suc n) 0 (omega arith) ∙ sym (ne-eqb (suc n) 0 (λ e. omega arith))
-
-subtree-sound : (b : List ℕ) → Simplifiable b → (i : ℕ) → i < recordCount b → Sound (subtree b i)
-subtree-sound b s i l = let h = here-at b s i l in rw (subtree-is b i h) (h .sound)
-
 -- by what is kept of the second child
 module _ (b extents marks : List ℕ) (s : Surveyed b extents marks) (i : ℕ) (x : ChoiceAt b i) (w : PairAt b extents (i + 1)) where
   abbrev pub second : ℕ
@@ -403,9 +299,9 @@ module _ (b extents marks : List ℕ) (s : Surveyed b extents marks) (i : ℕ) (
       let t = subtree b (i + 1) in
       let r : getD marks (marksEach * second + 2) 0 ≡ reach (subtree b second) = s .each second (w .place) .reach in
       let whole = subtree-sound b (s .sizes .simplifiable) second (w .place) in
-      let c : closed (subtree b second) 0 ≡ eqb (getD marks (marksEach * second + 2) 0) 0 = closed-at (subtree b second) whole ∙ none-or-zero (reach (subtree b second)) ∙ ap (λ n. eqb n 0) (sym r) in
-      let p : i + 2 + records (firstOf t) ≡ second = omega (arith, w .size) in
-      x .shared ∙ rw (← w .stand, c, p) refl
+      let c : closed (subtree b second) 0 ≡ eqb (getD marks (marksEach * second + 2) 0) 0 = closed-at (subtree b second) whole ∙ sym (zero-is (reach (subtree b second))) ∙ ap (λ n. eqb n 0) (sym r) in
+      let p : i + 2 + records (firstOf t) ≡ second = omega (arith, w .extent, ap records (w .first)) in
+      x .shared ∙ rw (← w .second, c, p) refl
 
   pub second-open : (getD marks (marksEach * second + 2) 0 ≡ 0 → ⊥) → 0 ≡ sharedAt i (treesAt b i)
   unfolding _and_
@@ -424,27 +320,21 @@ module _ (b extents marks : List ℕ) (s : Surveyed b extents marks) (i : ℕ) (
 -- ---- the first children copied
 
 pub record Copying (b : List ℕ) (p n at : ℕ) (o : List ℕ) (q m to : ℕ) (out : List ℕ) : Type 0 where
-  pub row : Forest
-  pub later : Forest
-  pub stand : treesAt b q ≡ row ⧺ later
-  pub count : size row ≡ m
-  pub pairs : T (pairs row)
+  pub row : Row b q m
+  pub pairs : T (pairs (row .trees))
   pub long : length out ≡ length o
-  pub room : recordLength * (to + recordsIn (firsts row)) ≤ length out
-  pub total : to + recordsIn (firsts row) ≡ at + recordsIn (firstsAt b p n)
-  pub bytes : front to out ++ encodes (firsts row) ≡ front at o ++ encodes (firstsAt b p n)
+  pub room : recordLength * (to + recordsIn (firsts (row .trees))) ≤ length out
+  pub total : to + recordsIn (firsts (row .trees)) ≡ at + recordsIn (firstsAt b p n)
+  pub bytes : front to out ++ encodes (firsts (row .trees)) ≡ front at o ++ encodes (firstsAt b p n)
 
 pub firsts-are : (b : List ℕ) (p n : ℕ) (f g : Forest) → treesAt b p ≡ f ⧺ g → size f ≡ n → firstsAt b p n ≡ firsts f
 firsts-are b p n f g e c = rw (e, ← c, first-⧺ f g) refl
 
-pub copying-none : (b : List ℕ) (p n at : ℕ) (o : List ℕ) → PairsAt b p n → RoomFor at (firstsAt b p n) o → Copying b p n at o p n at o
-copying-none b p n at o h l =
+pub copying-none : (b : List ℕ) → Simplifiable b → (p n at : ℕ) (o : List ℕ) → PairsAt b p n → RoomFor at (firstsAt b p n) o → Copying b p n at o p n at o
+copying-none b s p n at o h l =
     let e = firsts-are b p n (h .row) (h .later) (h .stand) (h .count) in
     record {
-      row = h .row;
-      later = h .later;
-      stand = h .stand;
-      count = h .count;
+      row = record { trees = h .row; later = h .later; row = h .stand; many = h .count; last = omega (arith, row-last b s p (h .row) (h .later) (h .stand), h .count) };
       pairs = h .pairs;
       long = refl;
       room = rw (← e) l;
@@ -453,74 +343,66 @@ copying-none b p n at o h l =
     }
 
 -- the pair at record q, its children, and where the next one stands
-pub record TurnAt (b extents : List ℕ) (q : ℕ) (row later : Forest) : Type 0 where
-  pub next : NextAt b extents q row later
+pub record TurnAt (b extents : List ℕ) (q m : ℕ) (row : Row b q m) : Type 0 where
+  pub next : Next b extents q m row
   pub pair : PairAt b extents q
-  pub rest : T (pairs (next .others))
+  pub rest : T (pairs (next .others .trees))
 
 first-pair : (t : Tree) (f : Forest) → T (pairs (t ▸ f)) → T (isPair t) × T (pairs f)
 unfolding pairs
 first-pair t f h = both _ _ h
 
 module _ (b extents : List ℕ) (s : Extents b extents) (p n at : ℕ) (o : List ℕ) (q m to : ℕ) (out : List ℕ) (h : Copying b p n at o q m to out) (l : 0 < m) where
-  pub copying-turn : TurnAt b extents q (h .row) (h .later)
+  pub copying-turn : TurnAt b extents q m (h .row)
   copying-turn =
-      let w = next-at b extents s q (h .row) (h .later) (h .stand) (omega (arith, h .count)) in
-      let (x, y) = first-pair (subtree b q) (w .others) (subst (λ f. T (pairs f)) (w .are) (h .pairs)) in
+      let w = next-row b extents s q m (h .row) l in
+      let (x, y) = first-pair (subtree b q) (w .others .trees) (subst (λ f. T (pairs f)) (w .are) (h .pairs)) in
       record { next = w; pair = pair-at b extents s q (w .inside) (T-is _ x); rest = y }
 
-  firsts-row : firsts (h .row) ≡ firstOf (subtree b q) ▸ firsts (copying-turn .next .others)
+  abbrev left : Forest
+  left = firsts (copying-turn .next .others .trees)
+
+  firsts-row : firsts (h .row .trees) ≡ subtree b (q + 1) ▸ left
   unfolding firsts
-  firsts-row = ap firsts (copying-turn .next .are)
+  firsts-row = ap firsts (copying-turn .next .are) ∙ ap (λ t. t ▸ left) (sym (copying-turn .pair .first))
 
-  row-records : recordsIn (firsts (h .row)) ≡ getD extents (q + 1) 0 + recordsIn (firsts (copying-turn .next .others))
+  firsts-records : recordsIn (firsts (h .row .trees)) ≡ getD extents (q + 1) 0 + recordsIn left
   unfolding recordsIn
-  row-records = ap recordsIn firsts-row ∙ ap (λ k. k + recordsIn (firsts (copying-turn .next .others))) (sym (copying-turn .pair .size))
+  firsts-records = ap recordsIn firsts-row ∙ ap (λ k. k + recordsIn left) (sym (copying-turn .pair .extent))
 
-  row-bytes : encodes (firsts (h .row)) ≡ slice b (q + 1) (getD extents (q + 1) 0) ++ encodes (firsts (copying-turn .next .others))
-  unfolding encodes recordsIn _⧺_
-  row-bytes =
+  firsts-bytes : encodes (firsts (h .row .trees)) ≡ slice b (q + 1) (getD extents (q + 1) 0) ++ encodes left
+  unfolding encodes
+  firsts-bytes =
       let w = copying-turn .pair in
-      let t = firstOf (subtree b q) in
-      let past : recordsIn (t ▸ nil) ≡ getD extents (q + 1) 0 = omega (arith, w .size) in
-      let e : slice b (q + 1) (getD extents (q + 1) 0) ≡ encode t = rw (← past) (bytes-at b (s .simplifiable) (q + 1) (t ▸ nil) (secondOf (subtree b q) ▸ w .later) (w .row) ∙ append-nil (encode t)) in
-      ap encodes firsts-row ∙ ap (λ k. k ++ encodes (firsts (copying-turn .next .others))) (sym e)
+      let e : slice b (q + 1) (getD extents (q + 1) 0) ≡ encode (subtree b (q + 1)) = ap (slice b (q + 1)) (w .extent) ∙ subtree-bytes b (s .simplifiable) (q + 1) (w .inside) in
+      ap encodes firsts-row ∙ ap (λ k. k ++ encodes left) (sym e)
 
   pub copying-room : (recordLength * (q + 1 + getD extents (q + 1) 0) ≤ length b) × (recordLength * (to + getD extents (q + 1) 0) ≤ length out)
-  copying-room = omega (arith, copying-turn .pair .place, length-is b (s .simplifiable), h .room, row-records)
+  copying-room = omega (arith, copying-turn .pair .place, length-is b (s .simplifiable), h .room, firsts-records)
 
   pub copying-next : (r : ℕ) (new : List ℕ) → length new ≡ length out → r ≡ to + getD extents (q + 1) 0 → front r new ≡ front to out ++ slice b (q + 1) (getD extents (q + 1) 0)
       → Copying b p n at o (q + getD extents q 0) (m - 1) r new
-  unfolding size
-  copying-next r new same e w =
-      let c : size (h .row) ≡ suc (size (copying-turn .next .others)) = ap size (copying-turn .next .are) in
-      record {
-        row = copying-turn .next .others;
-        later = h .later;
-        stand = copying-turn .next .next;
-        count = omega (arith, h .count);
-        pairs = copying-turn .rest;
-        long = same ∙ h .long;
-        room = omega (arith, h .room, row-records);
-        total = omega (arith, h .total, row-records);
-        bytes = ap (λ k. k ++ encodes (firsts (copying-turn .next .others))) w ∙ append-assoc (front to out) _ _ ∙ ap (λ k. front to out ++ k) (sym row-bytes) ∙ h .bytes;
-      }
+  copying-next r new same e w = record {
+    row = copying-turn .next .others;
+    pairs = copying-turn .rest;
+    long = same ∙ h .long;
+    room = omega (arith, h .room, firsts-records);
+    total = omega (arith, h .total, firsts-records);
+    bytes = ap (λ k. k ++ encodes left) w ∙ append-assoc (front to out) _ _ ∙ ap (λ k. front to out ++ k) (sym firsts-bytes) ∙ h .bytes;
+  }
 
 pub copying-all : (b : List ℕ) (p n at : ℕ) (o : List ℕ) (q m to : ℕ) (out : List ℕ) → Copying b p n at o q m to out → m ≤ 0
     → Appended at o (firstsAt b p n) to out
 unfolding firsts recordsIn encodes
 copying-all b p n at o q m to out h l =
-    let e = no-more (h .row) (omega (arith, h .count)) in
-    let z : recordsIn (firsts (h .row)) ≡ 0 = ap (λ f. recordsIn (firsts f)) e in
-    let y : encodes (firsts (h .row)) ≡ [] = ap (λ f. encodes (firsts f)) e in
+    let e = row-end (h .row) l in
+    let z : recordsIn (firsts (h .row .trees)) ≡ 0 = ap (λ f. recordsIn (firsts f)) e in
+    let y : encodes (firsts (h .row .trees)) ≡ [] = ap (λ f. encodes (firsts f)) e in
     (omega (arith, h .total), sym (append-nil (front to out)) ∙ ap (λ k. front to out ++ k) (sym y) ∙ h .bytes)
 
 -- ---- the two records on top
 
-pub node-at : (b : List ℕ) (i : ℕ) (h : Here b i) → firstNode (partAt b i) ≡ h .own
-node-at b i h = ap firstNode (part-from b (recordLength * i) ∙ h .bytes) ∙ head-bytes (h .own) (size (h .kids)) _ (own-writes b i h)
-
-pub tops-written : (b : List ℕ) → Simplifiable b → (i : ℕ) → i < recordCount b → (n : Node) (r q : ℕ) (new out : List ℕ) → n ≡ firstNode (partAt b i)
+pub tops-written : (b : List ℕ) → Simplifiable b → (i : ℕ) → i < recordCount b → (n : Node) (r q : ℕ) (new out : List ℕ) → n ≡ firstNode (drop (recordLength * i) b)
     → r ≡ 0 + 1 → front r new ≡ recordBytes (nodeOf Sequence (n .limit)) 2
     → q ≡ r + 1 → front q out ≡ front r new ++ recordBytes (nodeOf Choice Unlimited) (getD b (recordLength * i + 2) 0)
     → (q ≡ 2) × (front q out ≡ topBytes (subtree b i))
@@ -528,7 +410,7 @@ unfolding limitOf children
 tops-written b s i l n r q new out m e f g w =
     let h = here-at b s i l in
     let a : n .limit ≡ h .own .limit = ap (λ k. k .limit) (m ∙ node-at b i h) in
-    (omega arith, w ∙ rw (f, a, fields-at b i h .count, subtree-is b i h) refl)
+    (omega arith, w ∙ rw (f, a, kids-at b i h, top-at b i (h .here)) refl)
 
 -- ---- the whole rewrite
 
@@ -549,15 +431,15 @@ pair-records (node n (a ▸ nil)) h = absurd h
 pair-records (node n (a ▸ x ▸ nil)) h = omega arith
 pair-records (node n (a ▸ x ▸ y ▸ f)) h = absurd h
 
-firsts-records : (f : Forest) → T (pairs f) → size f + recordsIn (firsts f) ≤ recordsIn f
+fewer-records : (f : Forest) → T (pairs f) → size f + recordsIn (firsts f) ≤ recordsIn f
 unfolding pairs size recordsIn firsts
-firsts-records nil h = omega arith
-firsts-records (t ▸ f) h = let (p, q) = both _ _ h in omega (arith, pair-records t p, firsts-records f q)
+fewer-records nil h = omega arith
+fewer-records (t ▸ f) h = let (p, q) = both _ _ h in omega (arith, pair-records t p, fewer-records f q)
 
 shared-records : (f : Forest) → T (pairs f) → 2 ≤ size f → 2 + recordsIn (firsts f) + records (secondOf (headOf f)) ≤ recordsIn f
 unfolding pairs size recordsIn firsts headOf
 shared-records nil h l = absurd (omega arith)
-shared-records (t ▸ f) h l = let (p, q) = both _ _ h in omega (arith, pair-records t p, firsts-records f q)
+shared-records (t ▸ f) h l = let (p, q) = both _ _ h in omega (arith, pair-records t p, fewer-records f q)
 
 -- rule 8 fits the node at record i, and x is the record of the shared child
 pub record FitsAt (b extents : List ℕ) (i x : ℕ) : Type 0 where
@@ -618,22 +500,22 @@ module _ (b extents : List ℕ) (s : Extents b extents) (i x : ℕ) (l : i < rec
   sim : Simplifiable b
   sim = s .simplifiable
 
-  fits-from : (h : Here b i) → fit (h .own) (h .kids) ≡ true → x ≡ i + 2 + records (firstOf (headOf (h .kids))) → NextAt b extents (i + 1) (h .kids) (h .later) → FitsAt b extents i x
+  fits-from : (h : Here b i) → fit (h .own) (h .kids) ≡ true → x ≡ i + 2 + records (firstOf (headOf (h .kids))) → Next b extents (i + 1) (size (h .kids)) (kids-row b sim i h) → FitsAt b extents i x
   unfolding headOf recordsIn _⧺_ records size
   fits-from h e p n =
       let t = subtree b (i + 1) in
       let (two, all) = fit-parts (h .own) (h .kids) e in
       let ps : T (pairs (h .kids)) = all-are-pairs _ (h .kids) all in
-      let ps₁ : T (pairs (t ▸ n .others)) = subst (λ f. T (pairs f)) (n .are) ps in
-      let (one, rest) = first-pair t (n .others) ps₁ in
+      let ps₁ : T (pairs (t ▸ n .others .trees)) = subst (λ f. T (pairs f)) (n .are) ps in
+      let (one, rest) = first-pair t (n .others .trees) ps₁ in
       let w = pair-at b extents s (i + 1) (n .inside) (T-is _ one) in
       let head : headOf (h .kids) ≡ t = ap headOf (n .are) in
-      let place : i + 1 + 1 + getD extents (i + 1 + 1) 0 ≡ x = omega (arith, w .size, ap (λ u. records (firstOf u)) head) in
+      let place : i + 1 + 1 + getD extents (i + 1 + 1) 0 ≡ x = omega (arith, w .extent, ap records (w .first ∙ ap firstOf (sym head))) in
       let inside : x < recordCount b = rw (← place) (w .place) in
-      let stand : subtree b x ≡ secondOf (headOf (h .kids)) = ap (subtree b) (sym place) ∙ w .stand ∙ ap secondOf (sym head) in
-      let whole : subtree b i ≡ node (h .own) (h .kids) = subtree-is b i h in
-      let long : getD extents i 0 ≡ suc (recordsIn (h .kids)) = s .each i l ∙ ap records whole in
-      let past : recordsIn (node (h .own) (h .kids) ▸ nil) ≡ getD extents i 0 = omega arith in
+      let stand : subtree b x ≡ secondOf (headOf (h .kids)) = ap (subtree b) (sym place) ∙ w .second ∙ ap secondOf (sym head) in
+      let whole : subtree b i ≡ node (h .own) (h .kids) = top-at b i (h .here) in
+      let long = node-extent b extents s i l h in
+      let (past, within) = past-node b extents s i l h in
       let count = records-at b sim i in
       let all : recordsIn (treesAt b i) ≡ suc (recordsIn (h .kids)) + recordsIn (h .later) = ap recordsIn (h .here) in
       let size : getD extents x 0 ≡ records (secondOf (headOf (h .kids))) = s .each x inside ∙ ap records stand in
@@ -652,9 +534,9 @@ module _ (b extents : List ℕ) (s : Extents b extents) (i x : ℕ) (l : i < rec
         sized = omega (arith, s .room);
         size = size;
         stand = stand;
-        inner = omega (arith, s .each x inside, subtree-within b sim x inside);
-        within = omega arith;
-        from = rw (← past) (skip-at b sim i (node (h .own) (h .kids) ▸ nil) (h .later) (h .here));
+        inner = past-inside b extents s x inside;
+        within = within;
+        from = past;
         small = omega arith;
       }
 
@@ -662,14 +544,14 @@ module _ (b extents : List ℕ) (s : Extents b extents) (i x : ℕ) (l : i < rec
   fits-at e z =
       let h = here-at b sim i l in
       let (f, p) = fit-true i x (h .own) (h .kids) (h .later) (e ∙ ap (sharedAt i) (h .here)) z in
-      fits-from h f p (next-at b extents s (i + 1) (h .kids) (h .later) (rw add-one (h .next)) (omega (arith, fit-parts (h .own) (h .kids) f .0)))
+      fits-from h f p (next-row b extents s (i + 1) (size (h .kids)) (kids-row b sim i h) (omega (arith, fit-parts (h .own) (h .kids) f .0)))
 
-module _ {b extents : List ℕ} {i x : ℕ} (w : FitsAt b extents i x) (c : ℕ) (e : c ≡ childByte (partAt b i)) where
+module _ {b extents : List ℕ} {i x : ℕ} (w : FitsAt b extents i x) (c : ℕ) (e : c ≡ childByte (drop (recordLength * i) b)) where
   count-is : size (w .kids) ≡ c
   unfolding children
   count-is =
       let h = here-at b (w .simplifiable) i (w .at) in
-      ap (λ t. size (children t)) (sym (w .node) ∙ subtree-is b i h) ∙ sym (e ∙ count-at b i h)
+      ap (λ t. size (children t)) (sym (w .node) ∙ top-at b i (h .here)) ∙ sym (e ∙ count-at b i h)
 
   pub fits-pairs : PairsAt b (i + 1) c
   fits-pairs = record { row = w .kids; later = w .later; stand = w .next; count = count-is; pairs = w .pairs }
@@ -686,13 +568,13 @@ shared-count : (l : Limit) (f g : Forest) → recordsIn (sharedOut l f ▸ g) �
 unfolding sharedOut records recordsIn
 shared-count l f g = omega arith
 
-pub sharing-written : {b extents : List ℕ} {i x : ℕ} (w : FitsAt b extents i x) (c : ℕ) → c ≡ childByte (partAt b i) → (p q r z : ℕ) (o₁ o₂ o₃ out : List ℕ)
+pub sharing-written : {b extents : List ℕ} {i x : ℕ} (w : FitsAt b extents i x) (c : ℕ) → c ≡ childByte (drop (recordLength * i) b) → (p q r z : ℕ) (o₁ o₂ o₃ out : List ℕ)
     → p ≡ 2 → front p o₁ ≡ topBytes (subtree b i)
     → q ≡ p + recordsIn (firstsAt b (i + 1) c) → front q o₂ ≡ front p o₁ ++ encodes (firstsAt b (i + 1) c)
     → r ≡ q + getD extents x 0 → front r o₃ ≡ front q o₂ ++ slice b x (getD extents x 0)
     → let from = i + getD extents i 0 in z ≡ r + (recordCount b - from) → front z out ≡ front r o₃ ++ slice b from (recordCount b - from)
     → Wrote (ruleAt rule8 (treesAt b i)) z out
-unfolding limitOf children
+unfolding Wrote limitOf children
 sharing-written {b} {extents} {i} {x} w c e p q r z o₁ o₂ o₃ out a₁ b₁ a₂ b₂ a₃ b₃ a₄ b₄ =
     let s = w .simplifiable in
     let n = recordCount b - (i + getD extents i 0) in
@@ -701,10 +583,10 @@ sharing-written {b} {extents} {i} {x} w c e p q r z o₁ o₂ o₃ out a₁ b₁
     let l = w .own .limit in
     let first : firstsAt b (i + 1) c ≡ firsts f = fits-firsts w c e in
     let second : slice b x (getD extents x 0) ≡ encode (secondOf (headOf f)) = rw (w .size, ← w .stand) (subtree-bytes b s x (w .inside)) in
-    let last : slice b (i + getD extents i 0) n ≡ encodes g = rest-bytes b s (i + getD extents i 0) ∙ ap encodes (w .from) in
+    let last : slice b (i + getD extents i 0) n ≡ encodes g = tail-at b s (i + getD extents i 0) ∙ ap encodes (w .from) in
     let tops : topBytes (subtree b i) ≡ recordBytes (nodeOf Sequence l) 2 ++ recordBytes (nodeOf Choice Unlimited) (size f) = ap topBytes (w .node) in
     let left : recordsIn g ≡ n = ap recordsIn (sym (w .from)) ∙ records-at b s (i + getD extents i 0) in
-    wrote-some (sharedOut l f ▸ g) (ruleAt rule8 (treesAt b i)) z out (w .becomes) (
+    wrote-as z out (w .becomes) (
       omega (arith, shared-count l f g, ap recordsIn first, w .size),
       b₄ ∙ rw (b₃, b₂, b₁, first, second, last, tops, shared-bytes l f g) (simp append-assoc),
     )

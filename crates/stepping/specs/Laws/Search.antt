@@ -23,7 +23,7 @@ use Rattle.simplify.specs.Same.{sameKind}
 use Rattle.subtrees.specs.Parts.{Simplifiable, treesAt}
 use Rattle.subtrees.specs.Laws.Forests.{encodes-⧺}
 use Rattle.subtrees.specs.Laws.Parts.{Here, here-at, length-is, records-at, root-at}
-use Rattle.subtrees.specs.Laws.Survey.{kind-at}
+use Rattle.subtrees.specs.Laws.Records.{kind-at}
 use Rattle.rewrite.specs.Writing.{Wrote, front, ruleAt}
 use Rattle.stepping.specs.Nodes.{Block, Choice, Kind, Limit, Loop, Node, Number, Sequence}
 use Rattle.stepping.specs.Spots.{Rewritten, laterRule, stepped}

@@ -1,20 +1,19 @@
 -- What stands at a record of a table that simplifying works on.
 use mathlib.Core.Path.{_≡_, refl, ap, sym, _∙_, subst}
-use mathlib.Core.List.{List, _++_, [], append-assoc, append-nil}
+use mathlib.Core.List.{List, _++_, append-assoc, append-nil}
 use Prim.Native.Nat.{ℕ, _+_, _-_, _*_, _≤_, _<_, suc}
 use native.Mathlib.Numerals.{add-one}
 use native.Mathlib.Omega.{arith}
-use lib.ListN.{drop, length, length-drop, take}
+use lib.ListN.{drop, getD, length, length-drop, take}
 use lib.Seq.{take-all, take-at}
 use Rattle.table.specs.Numbers.{recordLength, mostRecords}
-use Rattle.table.specs.Questions.{Accepted}
-use Rattle.table.specs.Table.{childByte, decode, encode, encodes, firstNode, forest, recordBytes, recordCount, top}
+use Rattle.table.specs.Table.{decode, encode, encodes, recordBytes, recordCount, top}
 use Rattle.table.specs.Trees.{Forest, Tree, nil, node, _▸_, _⧺_, records, recordsIn, size}
-use Rattle.table.specs.Laws.NotRefused.{tree-writes}
-use Rattle.table.specs.Laws.RoundTrip.{Writes, children-bytes, head-bytes, length-encode, length-encodes}
+use Rattle.table.specs.Laws.RoundTrip.{length-encode, length-encodes}
 use Rattle.table.specs.Laws.Trees.{some-records}
 use Rattle.subtrees.specs.Nodes.{Node}
 use Rattle.subtrees.specs.Parts.{Simplifiable, subtree, treesAt}
+use Rattle.subtrees.specs.Facts.{Extents}
 use Rattle.subtrees.specs.Laws.Forests.{Sound, SoundIn, below, drop-from, encodes-⧺, from, from-add, from-next, from-records, from-row, from-sound, records-⧺, row-back}
 
 -- the node at record i with its children, and what stands after them
@@ -27,11 +26,16 @@ pub record Here (b : List ℕ) (i : ℕ) : Type 0 where
   pub sound : Sound (node own kids)
   pub bytes : drop (recordLength * i) b ≡ recordBytes own (size kids) ++ encodes (kids ⧺ later)
 
-first-sound : (n : Node) (f g : Forest) → SoundIn (node n f ▸ g) → Sound (node n f)
+-- the tree there
+pub top-at : (b : List ℕ) (i : ℕ) {t : Tree} {g : Forest} → treesAt b i ≡ t ▸ g → subtree b i ≡ t
+unfolding subtree top
+top-at b i e = ap top e
+
+pub first-sound : (n : Node) (f g : Forest) → SoundIn (node n f ▸ g) → Sound (node n f)
 unfolding SoundIn
 first-sound n f g h = h .0
 
-row-bytes : (n : Node) (f g : Forest) → encodes (node n f ▸ g) ≡ recordBytes n (size f) ++ encodes (f ⧺ g)
+pub row-bytes : (n : Node) (f g : Forest) → encodes (node n f ▸ g) ≡ recordBytes n (size f) ++ encodes (f ⧺ g)
 unfolding encode encodes
 row-bytes n f g = rw (append-assoc, encodes-⧺) refl
 
@@ -95,20 +99,27 @@ module _ (b : List ℕ) (s : Simplifiable b) where
   pub tail-at : (i : ℕ) → take (recordLength * (recordCount b - i)) (drop (recordLength * i) b) ≡ encodes (treesAt b i)
   tail-at i = take-all (recordLength * (recordCount b - i)) (drop (recordLength * i) b) (rw length-drop (omega (arith, length-is))) ∙ sym (back-at i)
 
+  pub next-at : (i : ℕ) (n : Node) (f g : Forest) → treesAt b i ≡ node n f ▸ g → treesAt b (suc i) ≡ f ⧺ g
+  unfolding below
+  next-at i n f g e = below-at i ∙ ap below e
+
+  abbrev pub here-is : (i : ℕ) (n : Node) (f g : Forest) → treesAt b i ≡ node n f ▸ g → Here b i
+  here-is i n f g e = record {
+    own = n;
+    kids = f;
+    later = g;
+    here = e;
+    next = next-at i n f g e;
+    sound = first-sound n f g (subst SoundIn e (sound-at i));
+    bytes = sym (back-at i) ∙ ap encodes e ∙ row-bytes n f g;
+  }
+
   pub here-at : (i : ℕ) → i < recordCount b → Here b i
   here-at i l = go (treesAt b i) refl
     where
       go : (g : Forest) → treesAt b i ≡ g → Here b i
       go nil e = absurd (unfold recordsIn in omega (arith, records-at i, ap recordsIn e))
-      go (node n f ▸ g) e = record {
-        own = n;
-        kids = f;
-        later = g;
-        here = e;
-        next = below-at i ∙ ap below e ∙ unfold below in refl;
-        sound = first-sound n f g (subst SoundIn e (sound-at i));
-        bytes = sym (back-at i) ∙ ap encodes e ∙ row-bytes n f g;
-      }
+      go (node n f ▸ g) e = here-is i n f g e
 
 -- ---- trees of a row one after the other, as a loop over a node's children reads them
 
@@ -118,12 +129,21 @@ pub record Row (b : List ℕ) (p left : ℕ) : Type 0 where
   pub later : Forest
   pub row : treesAt b p ≡ trees ⧺ later
   pub many : size trees ≡ left
-  pub last : p + left ≤ recordCount b
+  pub last : left ≤ recordCount b - p
 
 some-each : (f : Forest) → size f ≤ recordsIn f
 unfolding size recordsIn
 some-each nil = omega arith
 some-each (t ▸ f) = omega (arith, some-each f, some-records t)
+
+-- when none is left
+pub row-end : {b : List ℕ} {p left : ℕ} (r : Row b p left) → left ≤ 0 → r .trees ≡ nil
+unfolding size
+row-end {b} {p} {left} r l = go (r .trees) (r .many)
+  where
+    go : (f : Forest) → size f ≡ left → f ≡ nil
+    go nil m = refl
+    go (t ▸ f) m = absurd (omega arith)
 
 -- the first of them, and the others
 pub record First (b : List ℕ) (p left : ℕ) (r : Row b p left) : Type 0 where
@@ -132,16 +152,19 @@ pub record First (b : List ℕ) (p left : ℕ) (r : Row b p left) : Type 0 where
   pub split : r .trees ≡ tree ▸ others .trees
   pub same : others .later ≡ r .later
   pub here : subtree b p ≡ tree
+  pub start : p < recordCount b
   pub inside : p + records tree ≤ recordCount b
 
 module _ (b : List ℕ) (s : Simplifiable b) where
-  -- a node's children
-  pub kids-last : (i : ℕ) (h : Here b i) → i + 1 + size (h .kids) ≤ recordCount b
-  unfolding records recordsIn
-  kids-last i h = omega (arith, records-at b s i, ap recordsIn (h .here), some-each (h .kids))
+  pub row-last : (p : ℕ) (f g : Forest) → treesAt b p ≡ f ⧺ g → size f ≤ recordCount b - p
+  row-last p f g e = omega (arith, records-at b s p, ap recordsIn e, records-⧺ f g, some-each f)
 
+  abbrev pub row-of : (p : ℕ) (f g : Forest) → treesAt b p ≡ f ⧺ g → Row b p (size f)
+  row-of p f g e = record { trees = f; later = g; row = e; many = refl; last = row-last p f g e }
+
+  -- a node's children
   abbrev pub kids-row : (i : ℕ) (h : Here b i) → Row b (i + 1) (size (h .kids))
-  kids-row i h = record { trees = h .kids; later = h .later; row = rw add-one (h .next); many = refl; last = kids-last i h }
+  kids-row i h = row-of (i + 1) (h .kids) (h .later) (rw add-one (h .next))
 
   -- past the first tree
   pub past-first : (p : ℕ) (t : Tree) (g : Forest) → treesAt b p ≡ t ▸ g → (treesAt b (p + records t) ≡ g) × (p + records t ≤ recordCount b)
@@ -150,16 +173,56 @@ module _ (b : List ℕ) (s : Simplifiable b) where
       let n : p + (records t + 0) ≡ p + records t = omega arith in
       (rw n at (skip-at b s p (t ▸ nil) g e), omega (arith, records-at b s p, ap recordsIn e, some-records t))
 
-  past-last : (p : ℕ) (t : Tree) (f g : Forest) → treesAt b p ≡ t ▸ (f ⧺ g) → p + records t + size f ≤ recordCount b
-  unfolding recordsIn
-  past-last p t f g e = omega (arith, records-at b s p, ap recordsIn e, some-records t, records-⧺ f g, some-each f)
-
   pub first-row : (p left : ℕ) (r : Row b p left) → 0 < left → First b p left r
-  unfolding size _⧺_ subtree top
+  unfolding size _⧺_
   first-row p left r l = go (r .trees) refl (r .row) (r .many)
     where
       go : (f : Forest) → r .trees ≡ f → treesAt b p ≡ f ⧺ r .later → size f ≡ left → First b p left r
       go nil e q m = absurd (omega arith)
       go (t ▸ f) e q m =
           let (past, inside) = past-first p t (f ⧺ r .later) q in
-          record { tree = t; others = record { trees = f; later = r .later; row = past; many = omega arith; last = omega (arith, past-last p t f (r .later) q) }; split = e; same = refl; here = ap top q; inside = inside }
+          record {
+            tree = t;
+            others = record { trees = f; later = r .later; row = past; many = omega arith; last = omega (arith, row-last (p + records t) f (r .later) past) };
+            split = e;
+            same = refl;
+            here = top-at b p q;
+            start = omega (arith, some-records t);
+            inside = inside;
+          }
+
+-- the same by the extents
+pub record Next (b extents : List ℕ) (p left : ℕ) (r : Row b p left) : Type 0 where
+  pub others : Row b (p + getD extents p 0) (left - 1)
+  pub are : r .trees ≡ subtree b p ▸ others .trees
+  pub same : others .later ≡ r .later
+  pub inside : p < recordCount b
+  pub sized : p < length extents
+  pub extent : getD extents p 0 ≡ records (subtree b p)
+  pub within : p + getD extents p 0 ≤ recordCount b
+
+pub next-row : (b extents : List ℕ) → Extents b extents → (p left : ℕ) (r : Row b p left) → 0 < left → Next b extents p left r
+next-row b extents x p left r l =
+    let f = first-row b (x .simplifiable) p left r l in
+    let e : getD extents p 0 ≡ records (f .tree) = x .each p (f .start) ∙ ap records (f .here) in
+    record {
+      others = record { trees = f .others .trees; later = f .others .later; row = rw e (f .others .row); many = f .others .many; last = omega (arith, f .others .last) };
+      are = f .split ∙ ap (λ t. t ▸ f .others .trees) (sym (f .here));
+      same = f .same;
+      inside = f .start;
+      sized = omega (arith, f .start, x .room);
+      extent = x .each p (f .start);
+      within = omega (arith, f .inside);
+    }
+
+-- how long the subtree at record i is, and what stands past it
+module _ (b extents : List ℕ) (x : Extents b extents) (i : ℕ) (l : i < recordCount b) where
+  pub node-extent : (h : Here b i) → getD extents i 0 ≡ suc (recordsIn (h .kids))
+  unfolding records
+  node-extent h = x .each i l ∙ ap records (top-at b i (h .here))
+
+  pub past-node : (h : Here b i) → (treesAt b (i + getD extents i 0) ≡ h .later) × (i + getD extents i 0 ≤ recordCount b)
+  past-node h = rw (x .each i l ∙ ap records (top-at b i (h .here))) (past-first b (x .simplifiable) i (node (h .own) (h .kids)) (h .later) (h .here))
+
+  pub past-inside : i + getD extents i 0 ≤ recordCount b
+  past-inside = past-node (here-at b (x .simplifiable) i l) .1

@@ -1,22 +1,20 @@
 -- The pass over a table that finds the facts of every record, from the last to the first.
 use mathlib.Core.Path.{_≡_, refl, ap, sym, _∙_}
 use mathlib.Core.Bool.{Bool, cond, false, true}
-use mathlib.Core.List.{List, _++_}
+use mathlib.Core.List.{List}
 use Prim.Native.Nat.{ℕ, _+_, _*_, _-_, _<_, _≤_, max, suc}
 use native.Mathlib.Omega.{arith}
 use lib.Dec.{T, eqb, ltb}
 use lib.ListN.{getD, length, length-set, set}
-use lib.Seq.{getD-drop, getD-set-other, getD-set-same}
+use lib.Seq.{getD-set-other, getD-set-same}
 use borrow.Author.Tests.{ltb-false, ltb-true, ne-eqb}
 use Rattle.booleans.specs.Laws.{both}
 use Rattle.booleans.specs.Tests.{_and_}
 use Rattle.table.specs.Numbers.{mostRecords, recordLength}
-use Rattle.table.specs.Table.{childByte, encodes, flag, top, kindByte, limitNum, loopByte, recordBytes, recordCount, valueNum}
+use Rattle.table.specs.Table.{childByte, flag, limitNum, loopByte, recordCount, valueNum}
 use Rattle.table.specs.Questions.{limitInRange, listed}
-use Rattle.table.specs.Trees.{Forest, Tree, nil, node, _▸_, _⧺_, records, recordsIn, size}
+use Rattle.table.specs.Trees.{Forest, node, _▸_, records, recordsIn}
 use Rattle.table.specs.Laws.Reading.{part-from, partAt}
-use Rattle.table.specs.Laws.RoundTrip.{children-bytes}
-use Rattle.table.specs.Laws.Trees.{some-records}
 use Rattle.evaluate.specs.Closed.{isPlain, plainKind, plainLimit, symbolFree, symbolFreeIn}
 use Rattle.evaluate.specs.Evaluate.{inner, name}
 use Rattle.subtrees.specs.Nodes.{AtMost, Block, Choice, Kind, Limit, Loop, Node, Number, Plain, Sequence, Symbol, Unlimited}
@@ -25,18 +23,8 @@ use Rattle.subtrees.specs.Marks.{flagged, limitedName, marked}
 use Rattle.subtrees.specs.Parts.{Simplifiable, subtree, treesAt}
 use Rattle.subtrees.specs.declared.Below.{Below}
 use Rattle.subtrees.specs.Laws.Facts.{all-children, isLoop, limit-byte, loop-byte, moreChildren}
-use Rattle.subtrees.specs.Laws.Parts.{First, Here, Row, few-records, first-row, here-at, kids-row, records-at}
-
--- ---- bytes of the record at i
-
-pub count-at : (b : List ℕ) (i : ℕ) (h : Here b i) → childByte (partAt b i) ≡ size (h .kids)
-count-at b i h = rw (part-from, h .bytes) (children-bytes (h .own) (size (h .kids)) _)
-
-pub kind-at : (b : List ℕ) (i : ℕ) (h : Here b i) → getD b (recordLength * i) 0 ≡ kindByte (h .own .kind)
-unfolding recordBytes
-kind-at b i h =
-    let n : recordLength * i + 0 ≡ recordLength * i = omega arith in
-    rw (← n) (sym (getD-drop (recordLength * i) b 0 0) ∙ ap (λ x. getD x 0 0) (h .bytes))
+use Rattle.subtrees.specs.Laws.Parts.{First, Here, Row, few-records, first-row, here-at, kids-row, records-at, row-end, top-at}
+use Rattle.subtrees.specs.Laws.Records.{count-at, flags-at, kind-at, limit-at}
 
 first-records : (n : Node) (f g : Forest) → recordsIn (node n f ▸ g) ≡ suc (recordsIn f + recordsIn g)
 unfolding records recordsIn
@@ -58,7 +46,7 @@ module _ (b : List ℕ) (s : Simplifiable b) where
   walk-start i c body l e n =
       let h = here-at b s i l in
       let loop : body ≡ isLoop (h .own .kind) = e ∙ ap (λ x. eqb x 3) (kind-at b i h) ∙ loop-byte (h .own .kind) in
-      rw (n ∙ count-at b i h, loop) (record {
+      rw (n ∙ ap childByte (part-from b (recordLength * i)) ∙ count-at b i h, loop) (record {
         row = kids-row b s i h;
         sum = all-children (h .own .kind) (h .kids) ∙ sym (ap belowAt (h .here));
         few = few-kids i h;
@@ -73,7 +61,7 @@ module _ (b : List ℕ) (s : Simplifiable b) where
     first = first-row b s p left (w .row) l
 
     pub walk-inside : p < recordCount b
-    walk-inside = omega (arith, first .inside, some-records (first .tree))
+    walk-inside = first .start
 
     extent : getD extents p 0 ≡ records (first .tree)
     extent = k .sizes p (omega (arith, w .near)) walk-inside ∙ ap records (first .here)
@@ -103,26 +91,10 @@ module _ (b : List ℕ) (s : Simplifiable b) where
 
   -- when none is left
   pub walk-end : (i : ℕ) (all found : Below) (body : Bool) (left p : ℕ) → Walk b i all found body left p → left ≤ 0 → found ≡ all
-  unfolding moreChildren size
-  walk-end i all found body left p w l = go (w .row .trees) (w .row .many) (w .sum)
-    where
-      go : (f : Forest) → size f ≡ left → moreChildren body found f ≡ all → found ≡ all
-      go nil m e = e
-      go (t ▸ f) m e = absurd (omega arith)
+  unfolding moreChildren
+  walk-end i all found body left p w l = sym (ap (moreChildren body found) (row-end (w .row) l)) ∙ w .sum
 
 -- ---- the facts of the record itself
-
--- byte k of the record at i
-byte-at : (b : List ℕ) (i k : ℕ) (h : Here b i) → getD b (recordLength * i + k) 0 ≡ getD (recordBytes (h .own) (size (h .kids)) ++ encodes (h .kids ⧺ h .later)) k 0
-byte-at b i k h = sym (getD-drop (recordLength * i) b k 0) ∙ ap (λ x. getD x k 0) (h .bytes)
-
-pub limit-at : (b : List ℕ) (i : ℕ) (h : Here b i) → getD b (recordLength * i + 3) 0 ≡ loopByte (h .own .limit)
-unfolding recordBytes
-limit-at b i h = byte-at b i 3 h
-
-pub flags-at : (b : List ℕ) (i : ℕ) (h : Here b i) → getD b (recordLength * i + 1) 0 ≡ flag (valueNum (h .own .kind)) + 2 * flag (limitNum (h .own .limit))
-unfolding recordBytes
-flags-at b i h = byte-at b i 1 h
 
 plain-flag : (m : Number) → isPlain m ≡ eqb (flag m) 0
 unfolding isPlain flag
@@ -220,8 +192,7 @@ module _ (b : List ℕ) (s : Simplifiable b) (i : ℕ) (l : i < recordCount b) w
   h = here-at b s i l
 
   at-here : subtree b i ≡ node (h .own) (h .kids)
-  unfolding subtree top
-  at-here = ap top (h .here)
+  at-here = top-at b i (h .here)
 
   come : belowAt (treesAt b i) ≡ belowOf (h .own .kind) (h .kids)
   unfolding belowAt
