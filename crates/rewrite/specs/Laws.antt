@@ -1,10 +1,11 @@
--- Laws, in the order in which they lean on each other.
+-- Laws, in the order in which they lean on each other: what the rules share, then rule by rule.
 pub mod Writing
 pub mod Records
 pub mod Children
-pub mod Exit
-pub mod Settled
-pub mod Sharing
+-- Rules 2 and 5, 3, 4, 6 and 7, 8, 9.
 pub mod Dissolving
-pub mod Blocks
 pub mod Alone
+pub mod Settled
+pub mod Blocks
+pub mod Sharing
+pub mod Exit

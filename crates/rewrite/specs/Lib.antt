@@ -3,7 +3,7 @@ mod Nodes
 pub mod Writing
 pub mod Children
 pub mod Settled
-pub mod Sharing
 pub mod Blocks
+pub mod Sharing
 -- What is proved of them.
 pub mod Laws

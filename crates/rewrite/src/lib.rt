@@ -2,25 +2,25 @@
 ghost use mathlib.Core.Path.{_≡_};
 ghost use mathlib.Core.Bool.{false};
 ghost use mathlib.Core.List.{_++_};
+ghost use mathlib.Core.Option.{some};
 ghost use Prim.Native.Nat.{_*_, _+_, _-_, _<_, _≤_, max, suc};
 ghost use lib.Dec.{leb};
-ghost use mathlib.Core.Option.{some};
 ghost use lib.ListN.{drop, length};
 ghost use Rattle.table.specs.Numbers.{mostChildren, mostTime, recordLength};
+ghost use Rattle.table.specs.Trees.{recordsIn};
 ghost use Rattle.table.specs.Table.{childByte, encodes, firstNode, flag, kindByte, limitNum, loopByte, raw, recordBytes, recordCount, valueNum};
 ghost use Rattle.evaluate.specs.Closed.{isUnlimited};
-ghost use Rattle.simplify.specs.Same.{same, sameKind};
 ghost use Rattle.simplify.specs.Rules.{allPairs, bare, children, gives, isBlock, isPair, isSum, isZero, others, rule2, rule3, rule4, rule5, rule6, rule7, rule8, rule9, timeOfKind};
-ghost use Rattle.table.specs.Trees.{recordsIn};
-ghost use Rattle.subtrees.specs.Facts.{Extents, Surveyed};
+ghost use Rattle.simplify.specs.Same.{same, sameKind};
 ghost use Rattle.subtrees.specs.Parts.{Simplifiable, subtree, treesAt};
+ghost use Rattle.subtrees.specs.Facts.{Extents, Surveyed};
 ghost use Rattle.rewrite.specs.Writing.{Wrote, front, nodeOf, ruleAt, slice};
-ghost use Rattle.rewrite.specs.Settled.{beforeAt, blockAt};
 ghost use Rattle.rewrite.specs.Children.{Left, childAt, relimited, wanted};
+ghost use Rattle.rewrite.specs.Settled.{beforeAt, blockAt};
+ghost use Rattle.rewrite.specs.Blocks.{Parted, Standing, baresAt, keptRecords, merged, othersUpTo, withChild};
 ghost use Rattle.rewrite.specs.Sharing.{Appended, PairsAt, RoomFor, firstsAt, idle, sameBytes, sharedAt, sharing, topBytes};
 use lists::List;
 use subtrees::MARKS;
-ghost use Rattle.rewrite.specs.Blocks.{Parted, Standing, baresAt, keptRecords, merged, othersUpTo, spanning, withChild};
 use table::Kind;
 use table::Limit;
 use table::MOST_DEPTH;
@@ -28,13 +28,6 @@ use table::Node;
 use table::Number;
 use table::RECORD_LENGTH;
 use table::WHOLE_RUN;
-
-// A child that is looked for.
-pub enum Wanted {
-    GivesWay(Kind, usize),
-    Zero,
-    Bare,
-}
 
 // ---- Writing
 
@@ -164,7 +157,7 @@ pub fn put_node(out: &mut [u8], at: usize, kind: Kind, limit: Limit, count: u8) 
     put_record(out, at, record_of(kind, limit, count))
 }
 
-// ---- Children
+// ---- Reading
 
 // The node at record p.
 fn node_at(table: &[u8], p: usize) -> Node
@@ -195,24 +188,6 @@ fn is_sum(kind: Kind) -> bool
     }
 }
 
-// Is the tree at record p an unlimited plain block?
-pub fn is_bare(table: &[u8], p: usize) -> bool
-    requires { ⌜ Simplifiable (now table) ⌝ ∗ ⌜ p < recordCount (now table) ⌝ }
-    ensures { λ r. ⌜ r ≡ bare (subtree (now (table .entry)) p) ⌝ }
-{
-    let at = RECORD_LENGTH * p;
-    (table[at] == 0) & (table[at + 1] == 0) & (table[at + 3] == 0)
-}
-
-// Is it one of time 0?
-fn is_zero(table: &[u8], p: usize) -> bool
-    requires { ⌜ Simplifiable (now table) ⌝ ∗ ⌜ p < recordCount (now table) ⌝ }
-    ensures { λ r. ⌜ r ≡ isZero (subtree (now (table .entry)) p) ⌝ }
-{
-    let at = RECORD_LENGTH * p;
-    is_bare(table, p) & (table::read_u64(table, at + 8) == 0)
-}
-
 fn is_unlimited(limit: Limit) -> bool
     ensures { λ r. ⌜ r ≡ isUnlimited limit ⌝ }
 {
@@ -228,6 +203,24 @@ fn same_kind(a: Kind, b: Kind) -> bool
     let x = value_of(a);
     let y = value_of(b);
     (kind_byte(a) == kind_byte(b)) & (flag_of(x) == flag_of(y)) & (raw_of(x) == raw_of(y))
+}
+
+// Is the tree at record p an unlimited plain block?
+pub fn is_bare(table: &[u8], p: usize) -> bool
+    requires { ⌜ Simplifiable (now table) ⌝ ∗ ⌜ p < recordCount (now table) ⌝ }
+    ensures { λ r. ⌜ r ≡ bare (subtree (now (table .entry)) p) ⌝ }
+{
+    let at = RECORD_LENGTH * p;
+    (table[at] == 0) & (table[at + 1] == 0) & (table[at + 3] == 0)
+}
+
+// ---- Children
+
+// A child that is looked for.
+pub enum Wanted {
+    GivesWay(Kind, usize),
+    Zero,
+    Bare,
 }
 
 // Has a node of this many children room for those of one of them in its place?
@@ -251,6 +244,15 @@ fn gives_way(table: &[u8], p: usize, kind: Kind, count: usize) -> bool
     let limit = node.limit;
     let more = children_at(table, p);
     same_kind(own, kind) & is_unlimited(limit) & has_room(count, more)
+}
+
+// Is it one of time 0?
+fn is_zero(table: &[u8], p: usize) -> bool
+    requires { ⌜ Simplifiable (now table) ⌝ ∗ ⌜ p < recordCount (now table) ⌝ }
+    ensures { λ r. ⌜ r ≡ isZero (subtree (now (table .entry)) p) ⌝ }
+{
+    let at = RECORD_LENGTH * p;
+    is_bare(table, p) & (table::read_u64(table, at + 8) == 0)
 }
 
 // Is the child at record p one that is looked for?
@@ -304,25 +306,9 @@ fn dissolve_at(
     copy_records(table, after, records - after, out, end)
 }
 
-// What the table becomes from record p on where the unlimited tree there takes this limit: answers how many records that is, or 0 where it has a limit.
-fn relimit_at(table: &[u8], p: usize, limit: Limit, out: &mut [u8]) -> usize
-    requires { ⌜ Simplifiable (now table) ⌝ ∗ ⌜ p < recordCount (now table) ⌝ ∗ ⌜ length (now table) ≤ length (now out) ⌝ }
-    ensures { λ r. ⌜ Wrote (relimited limit (treesAt (now (table .entry)) p)) r (now (out .exit)) ⌝ }
-{
-    let node = node_at(table, p);
-    let kind = node.kind;
-    let own = node.limit;
-    if !is_unlimited(own) {
-        return 0;
-    }
-    let count = table[RECORD_LENGTH * p + 2];
-    let records = table.len() / RECORD_LENGTH;
-    let after = p + 1;
-    let next = put_node(out, 0, kind, limit, count);
-    copy_records(table, after, records - after, out, next)
-}
-
 // ---- Rules: each writes what the table becomes from record i on, and answers how many records that is; 0 where the rule does not fit
+
+// ---- Rule 2
 
 // 2. The first unlimited child of the same kind gives way to its children.
 pub fn rule2_at(table: &[u8], extents: &[usize], i: usize, out: &mut [u8]) -> usize
@@ -343,6 +329,26 @@ pub fn rule2_at(table: &[u8], extents: &[usize], i: usize, out: &mut [u8]) -> us
     let more = children_at(table, p);
     let all = ((count + more - 1) % 256) as u8;
     dissolve_at(table, i, p, kind, limit, all, out)
+}
+
+// ---- Rule 3
+
+// What the table becomes from record p on where the unlimited tree there takes this limit: answers how many records that is, or 0 where it has a limit.
+fn relimit_at(table: &[u8], p: usize, limit: Limit, out: &mut [u8]) -> usize
+    requires { ⌜ Simplifiable (now table) ⌝ ∗ ⌜ p < recordCount (now table) ⌝ ∗ ⌜ length (now table) ≤ length (now out) ⌝ }
+    ensures { λ r. ⌜ Wrote (relimited limit (treesAt (now (table .entry)) p)) r (now (out .exit)) ⌝ }
+{
+    let node = node_at(table, p);
+    let kind = node.kind;
+    let own = node.limit;
+    if !is_unlimited(own) {
+        return 0;
+    }
+    let count = table[RECORD_LENGTH * p + 2];
+    let records = table.len() / RECORD_LENGTH;
+    let after = p + 1;
+    let next = put_node(out, 0, kind, limit, count);
+    copy_records(table, after, records - after, out, next)
 }
 
 // 3. A sequence or choice of one child becomes the child, if at most one of the two has a limit.
@@ -367,6 +373,68 @@ pub fn rule3_at(table: &[u8], extents: &[usize], i: usize, out: &mut [u8]) -> us
     relimit_at(table, first, limit, out)
 }
 
+// ---- Rule 4
+
+fn is_block(kind: Kind) -> bool
+    ensures { λ r. ⌜ r ≡ isBlock kind ⌝ }
+{
+    match kind {
+        Kind::Block(_) => true,
+        Kind::Sequence => false,
+        Kind::Choice => false,
+        Kind::Loop(_) => false,
+    }
+}
+
+// The first member of the node at record i, no block, before its own limit and with every symbol 0.
+fn settled_value(table: &[u8], i: usize) -> u64
+    requires { ⌜ Simplifiable (now table) ⌝ ∗ ⌜ i < recordCount (now table) ⌝ ∗ ⌜ blockAt (treesAt (now table) i) ≡ false ⌝ }
+    ensures { λ r. ⌜ r ≡ beforeAt (treesAt (now (table .entry)) i) ⌝ }
+{
+    let node = node_at(table, i);
+    let kind = node.kind;
+    let count = children_at(table, i);
+    let next = RECORD_LENGTH * i + RECORD_LENGTH;
+    let zeros = [0; 0];
+    let mut list = List::zero();
+    let mut spare = List::zero();
+    evaluate::evaluate_children(
+        &table[next..],
+        &zeros,
+        MOST_DEPTH,
+        kind,
+        count,
+        &mut list.pairs,
+        &mut spare.pairs,
+    );
+    lists::value_at(&list.pairs, 0)
+}
+
+// 4. A symbol-free node, not a block, whose children are each closed once limits naming that node itself are set aside, becomes a block of its first
+// member before its own limit, keeping that limit.
+pub fn rule4_at(table: &[u8], extents: &[usize], marks: &[u8], i: usize, out: &mut [u8]) -> usize
+    requires { ⌜ Surveyed (now table) (now extents) (now marks) ⌝ ∗ ⌜ i < recordCount (now table) ⌝ ∗ ⌜ length (now table) ≤ length (now out) ⌝ }
+    ensures { λ r. ⌜ Wrote (ruleAt rule4 (treesAt (now (table .entry)) i)) r (now (out .exit)) ⌝ }
+{
+    let node = node_at(table, i);
+    let kind = node.kind;
+    let limit = node.limit;
+    let m = MARKS * i;
+    let settled = (marks[m] == 0) & (marks[m + 3] == 0);
+    if !settled {
+        return 0;
+    }
+    if is_block(kind) {
+        return 0;
+    }
+    let time = Number::Plain(settled_value(table, i));
+    let at = put_node(out, 0, Kind::Block(time), limit, 0);
+    let end = i + extents[i];
+    copy_records(table, end, table.len() / RECORD_LENGTH - end, out, at)
+}
+
+// ---- Rule 5
+
 // 5. In a sequence or choice of at least two children, the first unlimited plain block of time 0 goes.
 pub fn rule5_at(table: &[u8], extents: &[usize], i: usize, out: &mut [u8]) -> usize
     requires { ⌜ Extents (now table) (now extents) ⌝ ∗ ⌜ i < recordCount (now table) ⌝ ∗ ⌜ length (now table) ≤ length (now out) ⌝ }
@@ -389,6 +457,8 @@ pub fn rule5_at(table: &[u8], extents: &[usize], i: usize, out: &mut [u8]) -> us
     let fewer = ((count - 1) % 256) as u8;
     dissolve_at(table, i, p, kind, limit, fewer, out)
 }
+
+// ---- Rules 6 and 7
 
 // What a walk over a node's children finds of unlimited plain blocks: how many, the sum of their times and the largest.
 pub struct Bares {
@@ -555,6 +625,8 @@ pub fn rule7_at(table: &[u8], extents: &[usize], i: usize, out: &mut [u8]) -> us
     merge_bares(table, extents, i, first, found.largest, count, out)
 }
 
+// ---- Rule 8
+
 // Are the n records from record a on the same, byte for byte, as those from record b on?
 fn same_records(table: &[u8], a: usize, b: usize, n: usize) -> bool
     requires { ⌜ (recordLength * (a + n) ≤ length (now table)) × (recordLength * (b + n) ≤ length (now table)) ⌝ }
@@ -707,6 +779,8 @@ pub fn rule8_at(table: &[u8], extents: &[usize], marks: &[u8], i: usize, out: &m
     copy_records(table, from, n, out, at)
 }
 
+// ---- Rule 9
+
 // Is the tree at record p an unlimited loop of plain bound 0?
 fn is_idle(table: &[u8], p: usize) -> bool
     requires { ⌜ Simplifiable (now table) ⌝ ∗ ⌜ p < recordCount (now table) ⌝ }
@@ -735,62 +809,4 @@ pub fn rule9_at(table: &[u8], extents: &[usize], marks: &[u8], i: usize, out: &m
         return copy_records(table, from, n, out, 0);
     }
     0
-}
-
-fn is_block(kind: Kind) -> bool
-    ensures { λ r. ⌜ r ≡ isBlock kind ⌝ }
-{
-    match kind {
-        Kind::Block(_) => true,
-        Kind::Sequence => false,
-        Kind::Choice => false,
-        Kind::Loop(_) => false,
-    }
-}
-
-// The first member of the node at record i, no block, before its own limit and with every symbol 0.
-fn settled_value(table: &[u8], i: usize) -> u64
-    requires { ⌜ Simplifiable (now table) ⌝ ∗ ⌜ i < recordCount (now table) ⌝ ∗ ⌜ blockAt (treesAt (now table) i) ≡ false ⌝ }
-    ensures { λ r. ⌜ r ≡ beforeAt (treesAt (now (table .entry)) i) ⌝ }
-{
-    let node = node_at(table, i);
-    let kind = node.kind;
-    let count = children_at(table, i);
-    let next = RECORD_LENGTH * i + RECORD_LENGTH;
-    let zeros = [0; 0];
-    let mut list = List::zero();
-    let mut spare = List::zero();
-    evaluate::evaluate_children(
-        &table[next..],
-        &zeros,
-        MOST_DEPTH,
-        kind,
-        count,
-        &mut list.pairs,
-        &mut spare.pairs,
-    );
-    lists::value_at(&list.pairs, 0)
-}
-
-// 4. A symbol-free node, not a block, whose children are each closed once limits naming that node itself are set aside, becomes a block of its first
-// member before its own limit, keeping that limit.
-pub fn rule4_at(table: &[u8], extents: &[usize], marks: &[u8], i: usize, out: &mut [u8]) -> usize
-    requires { ⌜ Surveyed (now table) (now extents) (now marks) ⌝ ∗ ⌜ i < recordCount (now table) ⌝ ∗ ⌜ length (now table) ≤ length (now out) ⌝ }
-    ensures { λ r. ⌜ Wrote (ruleAt rule4 (treesAt (now (table .entry)) i)) r (now (out .exit)) ⌝ }
-{
-    let node = node_at(table, i);
-    let kind = node.kind;
-    let limit = node.limit;
-    let m = MARKS * i;
-    let settled = (marks[m] == 0) & (marks[m + 3] == 0);
-    if !settled {
-        return 0;
-    }
-    if is_block(kind) {
-        return 0;
-    }
-    let time = Number::Plain(settled_value(table, i));
-    let at = put_node(out, 0, Kind::Block(time), limit, 0);
-    let end = i + extents[i];
-    copy_records(table, end, table.len() / RECORD_LENGTH - end, out, at)
 }

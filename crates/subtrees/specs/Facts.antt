@@ -1,6 +1,6 @@
 -- Facts of a subtree that rules ask for, and how the program keeps those of every record.
 use mathlib.Core.Path.{_≡_}
-use mathlib.Core.Bool.{Bool, false, true, cond}
+use mathlib.Core.Bool.{Bool, cond}
 use mathlib.Core.List.{List}
 use Prim.Native.Nat.{ℕ, _+_, _*_, _-_, _<_, _≤_, max, min}
 use lib.Dec.{leb}

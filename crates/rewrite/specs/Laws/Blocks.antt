@@ -362,7 +362,7 @@ module _ (k : Kind) (rule : Node → Forest → Option Tree) (made : Node → Fo
   unfolding also when Wrote
   rule-few found out e h = rw (tested, ← e, lt-leb 2 (found .count) h, and-false) refl
 
-  pub rule-fits : (r : Bool) (found : Bares) → r ≡ sameKind (firstNode (drop (recordLength * i) b) .kind) k → not r ≡ false → found ≡ baresAt (treesAt b i) → 2 ≤ found .count
+  rule-fits : (r : Bool) (found : Bares) → r ≡ sameKind (firstNode (drop (recordLength * i) b) .kind) k → not r ≡ false → found ≡ baresAt (treesAt b i) → 2 ≤ found .count
       → let w = here-at b s i l in ruleAt rule (treesAt b i) ≡ some (made (w .own) (w .kids) ▸ w .later)
   unfolding _and_ also when
   rule-fits r found e h d m = rw (tested, ← e, not-false r h, ← d, T-is (leb 2 (found .count)) (le→leb 2 (found .count) m)) refl

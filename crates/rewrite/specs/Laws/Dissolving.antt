@@ -54,7 +54,7 @@ found-later q t f e w = record {
   place = rw e (ap (λ (n : ℕ). records t + n) (w .place));
 }
 
-pub found-in : (q : Tree → Bool) (f : Forest) → any q f ≡ true → Found q f
+found-in : (q : Tree → Bool) (f : Forest) → any q f ≡ true → Found q f
 unfolding any
 found-in q nil h = absurd (subst T (sym h) tt)
 found-in q (t ▸ f) h = go (q t) refl (found-in q f)
@@ -72,7 +72,7 @@ unfolding below children
 below-children (node n g) f = refl
 
 module _ (q : Tree → Bool) (f : Forest) (w : Found q f) where
-  pub gone-size : size (dissolve q f) + 1 ≡ size f + size (children (w .found))
+  gone-size : size (dissolve q f) + 1 ≡ size f + size (children (w .found))
   unfolding size
   gone-size =
       rw (w .gone, ap size (w .whole))
@@ -117,7 +117,7 @@ module _ (b : List ℕ) (s : Simplifiable b) (i : ℕ) (h : Here b i) (q : Tree 
   unfolding childAt
   child-is = ap (childAt q i) (h .here)
 
-  pub child-none : (p : ℕ) → p ≡ childAt q i (treesAt b i) → p ≡ 0 → any q (h .kids) ≡ false
+  child-none : (p : ℕ) → p ≡ childAt q i (treesAt b i) → p ≡ 0 → any q (h .kids) ≡ false
   child-none p e z = go (any q (h .kids)) refl
     where
       go : (x : Bool) → any q (h .kids) ≡ x → x ≡ false
@@ -137,7 +137,7 @@ module _ (b : List ℕ) (s : Simplifiable b) (i : ℕ) (h : Here b i) (q : Tree 
   unfolding _⧺_
   from-part w = rw add-one (h .next ∙ ap (λ (f : Forest). f ⧺ h .later) (w .whole) ∙ ⧺-assoc (w .before) (w .found ▸ w .after) (h .later))
 
-  pub child-of : (p : ℕ) → p ≡ childAt q i (treesAt b i) → (p ≡ 0 → ⊥) → (any q (h .kids) ≡ true) × Child p
+  child-of : (p : ℕ) → p ≡ childAt q i (treesAt b i) → (p ≡ 0 → ⊥) → (any q (h .kids) ≡ true) × Child p
   unfolding recordsIn
   child-of p e z =
       let (a, o) = child-some p e z in
@@ -149,7 +149,7 @@ module _ (b : List ℕ) (s : Simplifiable b) (i : ℕ) (h : Here b i) (q : Tree 
       let some = records-of (w .found) in
       (a, record { part = w; place = at; here = stands; inside = omega arith })
 
-  pub child-size : (p : ℕ) (c : Child p) → childByte (drop (recordLength * p) b) ≡ size (children (c .part .found))
+  child-size : (p : ℕ) (c : Child p) → childByte (drop (recordLength * p) b) ≡ size (children (c .part .found))
   unfolding children top
   child-size p c =
       let g = here-at b s p (c .inside) in
@@ -161,7 +161,7 @@ module _ (b : List ℕ) (s : Simplifiable b) (i : ℕ) (h : Here b i) (q : Tree 
       let g = here-at b s p (c .inside) in
       rw add-one (g .next ∙ ap below (sym (g .here) ∙ c .here) ∙ below-children (c .part .found) (c .part .after ⧺ h .later))
 
-  pub dissolved : (p : ℕ) (c : Child p) (n r : ℕ) (out : List ℕ) → n + 1 ≡ size (h .kids) + size (children (c .part .found))
+  dissolved : (p : ℕ) (c : Child p) (n r : ℕ) (out : List ℕ) → n + 1 ≡ size (h .kids) + size (children (c .part .found))
       → Left b i p (recordBytes (h .own) n) r out → Wrote (some (node (h .own) (dissolve q (h .kids)) ▸ h .later)) r out
   unfolding Wrote recordsIn records
   dissolved p c n r out e l =
@@ -209,7 +209,7 @@ unfolding _⧺_
 zero-goes t f true e = rw (zero-children t e) refl
 zero-goes t f false e = refl
 
-pub zeroing : (f : Forest) → without f ≡ dissolve isZero f
+zeroing : (f : Forest) → without f ≡ dissolve isZero f
 unfolding without dissolve
 zeroing nil = refl
 zeroing (t ▸ f) = zero-goes t f (isZero t) refl ∙ ap (λ (g : Forest). cond (isZero t) (children t ⧺ f) (t ▸ g)) (zeroing f)

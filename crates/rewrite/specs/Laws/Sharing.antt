@@ -33,14 +33,14 @@ use Rattle.rewrite.specs.Laws.Records.{and-false, subtree-bytes, subtree
 
 -- ---- bytes compared one by one
 
-pub bytes-are : (b c : List ℕ) → T (sameBytes b c) → b ≡ c
+bytes-are : (b c : List ℕ) → T (sameBytes b c) → b ≡ c
 unfolding sameBytes
 bytes-are [] [] h = refl
 bytes-are [] (y ∷ c) h = absurd h
 bytes-are (x ∷ b) [] h = absurd h
 bytes-are (x ∷ b) (y ∷ c) h = let (p, q) = both _ _ h in ap₂ _∷_ (eqb→eq x y p) (bytes-are b c q)
 
-pub bytes-self : (b : List ℕ) → T (sameBytes b b)
+bytes-self : (b : List ℕ) → T (sameBytes b b)
 unfolding sameBytes
 bytes-self [] = tt
 bytes-self (x ∷ b) = join-and _ _ (eqb-refl x) (bytes-self b)
@@ -327,7 +327,7 @@ pub record Copying (b : List ℕ) (p n at : ℕ) (o : List ℕ) (q m to : ℕ) (
   pub total : to + recordsIn (firsts (row .trees)) ≡ at + recordsIn (firstsAt b p n)
   pub bytes : front to out ++ encodes (firsts (row .trees)) ≡ front at o ++ encodes (firstsAt b p n)
 
-pub firsts-are : (b : List ℕ) (p n : ℕ) (f g : Forest) → treesAt b p ≡ f ⧺ g → size f ≡ n → firstsAt b p n ≡ firsts f
+firsts-are : (b : List ℕ) (p n : ℕ) (f g : Forest) → treesAt b p ≡ f ⧺ g → size f ≡ n → firstsAt b p n ≡ firsts f
 firsts-are b p n f g e c = rw (e, ← c, first-⧺ f g) refl
 
 pub copying-none : (b : List ℕ) → Simplifiable b → (p n at : ℕ) (o : List ℕ) → PairsAt b p n → RoomFor at (firstsAt b p n) o → Copying b p n at o p n at o
@@ -419,7 +419,7 @@ unfolding firsts size
 firsts-size nil = refl
 firsts-size (t ▸ f) = ap suc (firsts-size f)
 
-pub all-are-pairs : (x : Tree) (f : Forest) → T (allPairs x f) → T (pairs f)
+all-are-pairs : (x : Tree) (f : Forest) → T (allPairs x f) → T (pairs f)
 unfolding allPairs pairs
 all-are-pairs x nil h = tt
 all-are-pairs x (t ▸ f) h = let (p, q) = both _ _ h in join-and _ _ (both _ _ p .0) (all-are-pairs x f q)

@@ -1,13 +1,9 @@
 -- The invariant: the children left, after those found, come to all. The measure: the children left.
 use mathlib.Core.Path.{refl}
-use Prim.Native.Nat.{ℕ, _+_, _*_}
-use native.Mathlib.Omega.{arith}
 use borrow.Author.Needs.{needs}
-use Rattle.table.specs.Numbers.{recordLength}
 use Rattle.subtrees.specs.Parts.{treesAt}
 use Rattle.subtrees.specs.Facts.{belowAt}
-use Rattle.subtrees.specs.Laws.Parts.{length-is}
-use Rattle.subtrees.specs.Laws.Survey.{Walk, walk-end, walk-few, walk-inside, walk-next, walk-past, walk-start}
+use Rattle.subtrees.specs.Laws.Survey.{Walk, walk-end, walk-few, walk-next, walk-past, walk-start}
 use Rattle.subtrees.proofs.below_of.Statement.{statement}
 use Rattle.subtrees.proofs.below_of.Tie as tie
 

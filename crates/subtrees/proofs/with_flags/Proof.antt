@@ -1,6 +1,6 @@
 -- By the test.
 use mathlib.Core.Path.{refl}
-use borrow.Author.Tests.{eq-eqb, ne-eqb}
+use borrow.Author.Tests.{ne-eqb}
 use Rattle.subtrees.proofs.with_flags.Statement.{statement}
 use Rattle.subtrees.proofs.with_flags.Tie as tie
 

@@ -1,10 +1,10 @@
 -- The facts kept of a subtree say what the rules ask, and those of a node follow from its children's.
-use mathlib.Core.Path.{_≡_, refl, ap, ap₂, sym, _∙_}
+use mathlib.Core.Path.{_≡_, refl, ap, sym, _∙_}
 use mathlib.Core.Bool.{Bool, true, false, cond, _||_}
-use Prim.Native.Nat.{ℕ, _+_, _*_, _-_, _<_, _≤_, max, min, suc}
+use Prim.Native.Nat.{ℕ, _+_, _-_, _<_, _≤_, max, min, suc}
 use native.Mathlib.Nat.{add-assoc, zero-add}
 use native.Mathlib.Omega.{arith}
-use lib.Dec.{T, eqb, eqb→eq, leb, leb→le, le→leb, lt→ltb, ltb}
+use lib.Dec.{T, eqb, eqb→eq, leb, leb→le, le→leb, lt→ltb}
 use borrow.Author.Tests.{le-leb, leb-true}
 use Rattle.booleans.specs.Laws.{both, is-T, join-and, same-test}
 use Rattle.booleans.specs.Tests.{_and_}

@@ -1,6 +1,6 @@
 -- Trees in a row, as the records of a table have them.
-use mathlib.Core.Path.{_≡_, refl, ap, sym, _∙_}
-use mathlib.Core.List.{List, _++_, [], append-assoc, append-nil}
+use mathlib.Core.Path.{_≡_, refl, ap, _∙_}
+use mathlib.Core.List.{_++_, [], append-assoc, append-nil}
 use Prim.Native.Nat.{ℕ, _+_, _-_, _*_, _≤_, zero, suc}
 use native.Mathlib.Nat.{suc-add, zero-add}
 use native.Mathlib.Omega.{arith}
@@ -8,9 +8,9 @@ use lib.Dec.{T}
 use lib.ListN.{drop}
 use lib.Seq.{drop-drop}
 use Rattle.table.specs.Numbers.{mostDepth, recordLength}
-use Rattle.table.specs.Questions.{depth, depthIn, listedIn}
+use Rattle.table.specs.Questions.{depth, depthIn}
 use Rattle.table.specs.Table.{encode, encodes, forest}
-use Rattle.table.specs.Trees.{Forest, Tree, nil, node, _▸_, _⧺_, records, recordsIn, size}
+use Rattle.table.specs.Trees.{Forest, Tree, nil, node, _▸_, _⧺_, records, recordsIn}
 use Rattle.table.specs.Laws.RoundTrip.{Writes, WritesAll, drop-bytes, forest-all}
 use Rattle.table.specs.Laws.NotRefused.{tree-writes}
 use Rattle.booleans.specs.Laws.{both}

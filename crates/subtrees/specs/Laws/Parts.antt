@@ -167,7 +167,7 @@ module _ (b : List ℕ) (s : Simplifiable b) where
   kids-row i h = row-of (i + 1) (h .kids) (h .later) (rw add-one (h .next))
 
   -- past the first tree
-  pub past-first : (p : ℕ) (t : Tree) (g : Forest) → treesAt b p ≡ t ▸ g → (treesAt b (p + records t) ≡ g) × (p + records t ≤ recordCount b)
+  past-first : (p : ℕ) (t : Tree) (g : Forest) → treesAt b p ≡ t ▸ g → (treesAt b (p + records t) ≡ g) × (p + records t ≤ recordCount b)
   unfolding _⧺_ recordsIn
   past-first p t g e =
       let n : p + (records t + 0) ≡ p + records t = omega arith in

@@ -60,7 +60,7 @@ module _ (b : List ℕ) (s : Simplifiable b) where
     first : First b p left (w .row)
     first = first-row b s p left (w .row) l
 
-    pub walk-inside : p < recordCount b
+    walk-inside : p < recordCount b
     walk-inside = first .start
 
     extent : getD extents p 0 ≡ records (first .tree)
@@ -121,7 +121,7 @@ both-flags (Symbol a) (Plain b) = refl
 both-flags (Symbol a) (Symbol b) = refl
 
 -- a symbol in the record, or below it
-pub symbols-of : (n : Node) (f : Forest) → flagged (flag (valueNum (n .kind)) + 2 * flag (limitNum (n .limit))) (symbolsIn f) ≡ symbols (node n f)
+symbols-of : (n : Node) (f : Forest) → flagged (flag (valueNum (n .kind)) + 2 * flag (limitNum (n .limit))) (symbolsIn f) ≡ symbols (node n f)
 unfolding symbols symbolsIn symbolFree
 symbols-of n f = rw (plain-value (n .kind), plain-most (n .limit), both-flags (valueNum (n .kind)) (limitNum (n .limit))) (go (eqb (flag (valueNum (n .kind)) + 2 * flag (limitNum (n .limit))) 0) (symbolFreeIn f))
   where
@@ -129,7 +129,7 @@ symbols-of n f = rw (plain-value (n .kind), plain-most (n .limit), both-flags (v
     go true y = unfold _and_ in refl
     go false y = unfold _and_ in refl
 
-pub name-of : (l : Limit) (k : ℕ) → T (limitInRange l) → limitedName (loopByte l) k ≡ inner l k
+name-of : (l : Limit) (k : ℕ) → T (limitInRange l) → limitedName (loopByte l) k ≡ inner l k
 unfolding loopByte inner limitInRange
 name-of Unlimited k h = refl
 name-of (AtMost j m) k h = rw (ne-eqb j 0 (λ e. omega (arith, limit-byte j (both _ _ h .0)))) refl
@@ -173,10 +173,6 @@ module _ (marks : List ℕ) (i y k r u : ℕ) (l : marksEach * i + marksEach ≤
   marked-below : getD (marked marks i y k r u) (marksEach * i + 3) 0 ≡ u
   unfolding marked one two three
   marked-below = getD-set-same three (marksEach * i + 3) u 0 (simp length-set (omega arith))
-
-  pub marked-length : length (marked marks i y k r u) ≡ length marks
-  unfolding marked
-  marked-length = simp length-set refl
 
   -- the marks of another record stay
   marked-later : (b : List ℕ) (j : ℕ) → i < j → MarkedAt b marks j → MarkedAt b (marked marks i y k r u) j
