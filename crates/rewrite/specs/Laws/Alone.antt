@@ -20,7 +20,7 @@ use Rattle.subtrees.specs.Laws.Records.{count-at, kids-at, node-at}
 use Rattle.rewrite.specs.Nodes.{Limit, Node}
 use Rattle.rewrite.specs.Children.{relimited}
 use Rattle.rewrite.specs.Writing.{Wrote, front, nodeOf, ruleAt, slice}
-use Rattle.rewrite.specs.Laws.Records.{is-sum-at, it, rest-written, rule-at, unfit-at, wrote-as, wrote-none}
+use Rattle.rewrite.specs.Laws.Records.{is-sum-at, it, own-test, rest-written, rule-at, unfit-at, wrote-as, wrote-none}
 
 -- ---- the rule
 
@@ -70,7 +70,7 @@ module _ (b : List ℕ) (s : Simplifiable b) (p : ℕ) (l : p < recordCount b) w
   relimit-is m x e = ap (relimited m) (it b s p l .here) ∙ rw e refl
 
   limitless : {n : Node} {x : Bool} → n ≡ firstNode (drop (recordLength * p) b) → x ≡ isUnlimited (n .limit) → isUnlimited (it b s p l .own .limit) ≡ x
-  limitless e d = ap (λ (k : Node). isUnlimited (k .limit)) (sym (e ∙ node-at b p (it b s p l))) ∙ sym d
+  limitless e d = own-test b s p l (λ (k : Node). isUnlimited (k .limit)) e d
 
   pub limited : (m : Limit) (out : List ℕ) {n : Node} {x : Bool} → n ≡ firstNode (drop (recordLength * p) b) → x ≡ isUnlimited (n .limit) → not x ≡ true
       → Wrote (relimited m (treesAt b p)) 0 out

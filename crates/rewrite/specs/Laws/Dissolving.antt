@@ -25,7 +25,7 @@ use Rattle.rewrite.specs.Nodes.{Kind, Node}
 use Rattle.rewrite.specs.Children.{Left, any, childAt, dissolve, offset, wanted}
 use Rattle.rewrite.specs.declared.Wanted.{Wanted}
 use Rattle.rewrite.specs.Writing.{Wrote, front, ruleAt, slice}
-use Rattle.rewrite.specs.Laws.Records.{and-false, is-sum-at, it, rule-at, unfit-at, wrote-as, ⧺-assoc}
+use Rattle.rewrite.specs.Laws.Records.{and-false, is-sum-at, it, rule-at, some-yes, unfit-at, wrote-as, zero-no, ⧺-assoc}
 
 -- ---- the first tree of a row that passes a test
 
@@ -118,20 +118,7 @@ module _ (b : List ℕ) (s : Simplifiable b) (i : ℕ) (h : Here b i) (q : Tree 
   child-is = ap (childAt q i) (h .here)
 
   child-none : (p : ℕ) → p ≡ childAt q i (treesAt b i) → p ≡ 0 → any q (h .kids) ≡ false
-  child-none p e z = go (any q (h .kids)) refl
-    where
-      go : (x : Bool) → any q (h .kids) ≡ x → x ≡ false
-      go false d = refl
-      go true d =
-          let c : 0 ≡ i + 1 + offset q (h .kids) = sym z ∙ e ∙ child-is ∙ ap (λ (x : Bool). cond x (i + 1 + offset q (h .kids)) 0) d in
-          absurd (omega arith)
-
-  child-some : (p : ℕ) → p ≡ childAt q i (treesAt b i) → (p ≡ 0 → ⊥) → (any q (h .kids) ≡ true) × (p ≡ i + 1 + offset q (h .kids))
-  child-some p e z = go (any q (h .kids)) refl
-    where
-      go : (x : Bool) → any q (h .kids) ≡ x → (x ≡ true) × (p ≡ i + 1 + offset q (h .kids))
-      go true d = (refl, e ∙ child-is ∙ ap (λ (x : Bool). cond x (i + 1 + offset q (h .kids)) 0) d)
-      go false d = absurd (z (e ∙ child-is ∙ ap (λ (x : Bool). cond x (i + 1 + offset q (h .kids)) 0) d))
+  child-none p e z = zero-no (any q (h .kids)) (i + 1 + offset q (h .kids)) (omega arith) (e ∙ child-is) z
 
   from-part : (w : Found q (h .kids)) → treesAt b (i + 1) ≡ w .before ⧺ (w .found ▸ (w .after ⧺ h .later))
   unfolding _⧺_
@@ -140,7 +127,7 @@ module _ (b : List ℕ) (s : Simplifiable b) (i : ℕ) (h : Here b i) (q : Tree 
   child-of : (p : ℕ) → p ≡ childAt q i (treesAt b i) → (p ≡ 0 → ⊥) → (any q (h .kids) ≡ true) × Child p
   unfolding recordsIn
   child-of p e z =
-      let (a, o) = child-some p e z in
+      let (a, o) = some-yes (any q (h .kids)) (i + 1 + offset q (h .kids)) (e ∙ child-is) z in
       let w = found-in q (h .kids) a in
       let at : p ≡ i + 1 + recordsIn (w .before) = o ∙ ap (λ (n : ℕ). i + 1 + n) (w .place) in
       let stands : treesAt b p ≡ w .found ▸ (w .after ⧺ h .later) = ap (treesAt b) at ∙ skip-at b s (i + 1) (w .before) (w .found ▸ (w .after ⧺ h .later)) (from-part w) in

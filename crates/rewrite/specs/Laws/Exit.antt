@@ -1,7 +1,7 @@
 -- A loop that becomes its exit: what its record says, and where body and exit stand.
 use mathlib.Core.Path.{_≡_, refl, ap, sym, subst, _∙_}
 use mathlib.Core.Bool.{Bool, true, false, not, _&&_, _||_}
-use mathlib.Core.Option.{some}
+use mathlib.Core.Option.{none, some}
 use mathlib.Core.List.{List}
 use Prim.Native.Nat.{ℕ, _+_, _*_, _-_, _<_, _≤_}
 use native.Mathlib.Omega.{arith}
@@ -27,7 +27,7 @@ use Rattle.subtrees.specs.Laws.Records.{flags-at, kind-at, value-at}
 use Rattle.rewrite.specs.Nodes.{AtMost, Block, Choice, Kind, Limit, Loop, Node, Plain, Sequence, Symbol, Unlimited}
 use Rattle.rewrite.specs.Sharing.{idle}
 use Rattle.rewrite.specs.Writing.{Wrote, front, ruleAt, slice}
-use Rattle.rewrite.specs.Laws.Records.{TwoAt, rest-written, two-at, unlimited-at, wrote-as, wrote-none}
+use Rattle.rewrite.specs.Laws.Records.{TwoAt, rest-written, two-at, unfit-at, unlimited-at, wrote-as, wrote-none}
 
 -- ---- an unlimited loop of plain bound 0
 
@@ -86,6 +86,10 @@ loop-becomes : (n : Node) (t u : Tree) (g : Forest) → idle (node n nil) ≡ tr
 unfolding ruleAt rule9 idle exit
 loop-becomes n t u g h = rw h refl
 
+no-loop : (n : Node) (f : Forest) → idle (node n f) ≡ false → rule9 n f ≡ none
+unfolding idle rule9
+no-loop n f e = rw e refl
+
 module _ (b extents marks : List ℕ) (s : Surveyed b extents marks) (i : ℕ) (l : i < recordCount b) where
   abbrev sim : Simplifiable b
   sim = s .sizes .simplifiable
@@ -115,15 +119,11 @@ module _ (b extents marks : List ℕ) (s : Surveyed b extents marks) (i : ℕ) (
       let t = is-T _ (ap idle (sym (top-at b i (h .here))) ∙ e) in
       exit-from h (sym (idle-here h) ∙ e) (two-at b extents (s .sizes) i h (idle-shape (h .own) (h .kids) (h .sound .fair .listed) t))
 
-  no-loop : (n : Node) (f g : Forest) (out : List ℕ) → idle (node n f) ≡ false → Wrote (ruleAt rule9 (node n f ▸ g)) 0 out
-  unfolding idle ruleAt rule9 Wrote also
-  no-loop n f g out e = rw e refl
-
   -- no such loop
   pub not-idle : (r : Bool) (out : List ℕ) → r ≡ idle (subtree b i) → not r ≡ true → Wrote (ruleAt rule9 (treesAt b i)) 0 out
   not-idle r out e t =
       let h = here-at b sim i l in
-      rw (h .here) (no-loop (h .own) (h .kids) (h .later) out (ap idle (sym (top-at b i (h .here))) ∙ sym e ∙ not-true r t))
+      unfit-at b sim i l rule9 out (no-loop (h .own) (h .kids) (ap idle (sym (top-at b i (h .here))) ∙ sym e ∙ not-true r t))
 
 -- its body names another loop
 pub other-named : {b extents marks : List ℕ} {i : ℕ} (x : ExitAt b extents marks i) (out : List ℕ)

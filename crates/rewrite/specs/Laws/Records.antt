@@ -1,6 +1,6 @@
 -- What the rules share: the trees at a table's records, and what is written of them.
 use mathlib.Core.Path.{_≡_, refl, ap, ap₂, sym, _∙_, subst}
-use mathlib.Core.Bool.{Bool, true, false, not}
+use mathlib.Core.Bool.{Bool, cond, true, false, not}
 use mathlib.Core.List.{List, append-nil}
 use mathlib.Core.Option.{Option, none, some}
 use Prim.Native.Nat.{ℕ, zero, suc, _+_, _*_, _-_, _<_}
@@ -34,6 +34,15 @@ and-false false = refl
 pub zero-is : (n : ℕ) → eqb n 0 ≡ leb n 0
 zero-is zero = refl
 zero-is (suc n) = ne-eqb (suc n) 0 (λ e. omega arith) ∙ sym (lt-leb (suc n) 0 (omega arith))
+
+-- a number that is 0 where a test fails
+pub zero-no : (t : Bool) (n : ℕ) {x : ℕ} → 0 < n → x ≡ cond t n 0 → x ≡ 0 → t ≡ false
+zero-no true n l e z = absurd (omega arith)
+zero-no false n l e z = refl
+
+pub some-yes : (t : Bool) (n : ℕ) {x : ℕ} → x ≡ cond t n 0 → (x ≡ 0 → ⊥) → (t ≡ true) × (x ≡ n)
+some-yes true n e z = (refl, e)
+some-yes false n e z = absurd (z e)
 
 no-limit : (l : Limit) → WritesLimit l → eqb (loopByte l) 0 ≡ isUnlimited l
 unfolding loopByte isUnlimited WritesLimit
@@ -116,11 +125,14 @@ module _ (b : List ℕ) (s : Simplifiable b) (i : ℕ) (l : i < recordCount b) w
   unfolding also
   unfit-at rule out e = wrote-none _ out (rule-at rule none e)
 
+  -- a test of the node that was read
+  pub own-test : (q : Node → Bool) {n : Node} {x : Bool} → n ≡ firstNode (drop (recordLength * i) b) → x ≡ q n → q (it .own) ≡ x
+  own-test q e d = ap q (sym (e ∙ node-at b i it)) ∙ sym d
+
   -- a node that is no sequence and no choice
   pub no-sum : (rule : Node → Forest → Option Tree) (out : List ℕ) {n : Node} {x : Bool} → ((n : Node) (f : Forest) → isSum (n .kind) ≡ false → rule n f ≡ none)
       → n ≡ firstNode (drop (recordLength * i) b) → x ≡ isSum (n .kind) → not x ≡ true → Wrote (ruleAt rule (treesAt b i)) 0 out
-  no-sum rule out {n} {x} k e d t =
-      unfit-at rule out (k (it .own) (it .kids) (ap (λ (m : Node). isSum (m .kind)) (sym (e ∙ node-at b i it)) ∙ sym d ∙ not-true x t))
+  no-sum rule out {x = x} k e d t = unfit-at rule out (k (it .own) (it .kids) (own-test (λ (m : Node). isSum (m .kind)) e d ∙ not-true x t))
 
   pub is-sum-at : {n : Node} {x : Bool} → n ≡ firstNode (drop (recordLength * i) b) → x ≡ isSum (n .kind) → not x ≡ false → isSum (it .own .kind) ≡ true
-  is-sum-at {n} {x} e d t = ap (λ (m : Node). isSum (m .kind)) (sym (e ∙ node-at b i it)) ∙ sym d ∙ not-false x t
+  is-sum-at {x = x} e d t = own-test (λ (m : Node). isSum (m .kind)) e d ∙ not-false x t

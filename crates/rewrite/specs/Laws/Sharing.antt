@@ -29,7 +29,7 @@ use Rattle.subtrees.specs.Laws.Records.{count-at, kids-at, kind-at, node-at}
 use Rattle.rewrite.specs.Nodes.{Block, Choice, Kind, Limit, Loop, Node, Sequence, Unlimited}
 use Rattle.rewrite.specs.Sharing.{Appended, PairsAt, RoomFor, firstsAt, pairs, sameBytes, sharedAt, sharing, topBytes}
 use Rattle.rewrite.specs.Writing.{Wrote, front, nodeOf, ruleAt, slice}
-use Rattle.rewrite.specs.Laws.Records.{and-false, subtree-bytes, subtree-sound, two-at, unlimited-at, wrote-as, zero-is}
+use Rattle.rewrite.specs.Laws.Records.{and-false, some-yes, subtree-bytes, subtree-sound, two-at, unfit-at, unlimited-at, wrote-as, zero-is, zero-no}
 
 -- ---- bytes compared one by one
 
@@ -464,26 +464,18 @@ pub record FitsAt (b extents : List ℕ) (i x : ℕ) : Type 0 where
 abbrev fit : Node → Forest → Bool
 fit n f = sameKind (n .kind) Choice and shares f
 
-fit-false : (i x : ℕ) (n : Node) (f g : Forest) (out : List ℕ) → x ≡ sharedAt i (node n f ▸ g) → x ≡ 0 → Wrote (ruleAt rule8 (node n f ▸ g)) 0 out
-unfolding sharedAt Wrote ruleAt rule8 when also
-fit-false i x n f g out e z = go (fit n f) e
-  where
-    go : (q : Bool) → x ≡ cond q (i + 2 + records (firstOf (headOf f))) 0 → Wrote (also (λ t. t ▸ g) (when q (sharedOut (n .limit) f))) 0 out
-    go true w = absurd (omega arith)
-    go false w = refl
+fit-is : (b : List ℕ) (i : ℕ) (h : Here b i) → sharedAt i (treesAt b i) ≡ cond (fit (h .own) (h .kids)) (i + 2 + records (firstOf (headOf (h .kids)))) 0
+unfolding sharedAt
+fit-is b i h = ap (sharedAt i) (h .here)
+
+fit-none : (n : Node) (f : Forest) → fit n f ≡ false → rule8 n f ≡ none
+unfolding rule8 when
+fit-none n f e = rw e refl
 
 pub no-sharing : (b : List ℕ) → Simplifiable b → (i x : ℕ) (out : List ℕ) → i < recordCount b → x ≡ sharedAt i (treesAt b i) → x ≡ 0 → Wrote (ruleAt rule8 (treesAt b i)) 0 out
 no-sharing b s i x out l e z =
     let h = here-at b s i l in
-    rw (h .here) (fit-false i x (h .own) (h .kids) (h .later) out (e ∙ ap (sharedAt i) (h .here)) z)
-
-fit-true : (i x : ℕ) (n : Node) (f g : Forest) → x ≡ sharedAt i (node n f ▸ g) → (x ≡ 0 → ⊥) → (fit n f ≡ true) × (x ≡ i + 2 + records (firstOf (headOf f)))
-unfolding sharedAt
-fit-true i x n f g e z = go (fit n f) e
-  where
-    go : (q : Bool) → x ≡ cond q (i + 2 + records (firstOf (headOf f))) 0 → (q ≡ true) × (x ≡ i + 2 + records (firstOf (headOf f)))
-    go true w = (refl, w)
-    go false w = absurd (z w)
+    unfit-at b s i l rule8 out (fit-none (h .own) (h .kids) (zero-no (fit (h .own) (h .kids)) (i + 2 + records (firstOf (headOf (h .kids)))) (omega arith) (e ∙ fit-is b i h) z))
 
 fit-becomes : (n : Node) (f g : Forest) → fit n f ≡ true → ruleAt rule8 (node n f ▸ g) ≡ some (sharedOut (n .limit) f ▸ g)
 unfolding ruleAt rule8 when also
@@ -543,7 +535,7 @@ module _ (b extents : List ℕ) (s : Extents b extents) (i x : ℕ) (l : i < rec
   pub fits-at : x ≡ sharedAt i (treesAt b i) → (x ≡ 0 → ⊥) → FitsAt b extents i x
   fits-at e z =
       let h = here-at b sim i l in
-      let (f, p) = fit-true i x (h .own) (h .kids) (h .later) (e ∙ ap (sharedAt i) (h .here)) z in
+      let (f, p) = some-yes (fit (h .own) (h .kids)) _ (e ∙ fit-is b i h) z in
       fits-from h f p (next-row b extents s (i + 1) (size (h .kids)) (kids-row b sim i h) (omega (arith, fit-parts (h .own) (h .kids) f .0)))
 
 module _ {b extents : List ℕ} {i x : ℕ} (w : FitsAt b extents i x) (c : ℕ) (e : c ≡ childByte (drop (recordLength * i) b)) where
