@@ -47,6 +47,15 @@ pub fn copy_records(table: &[u8], i: usize, n: usize, out: &mut [u8], at: usize)
     at + n
 }
 
+// Copies those from record i to the table's end.
+fn copy_rest(table: &[u8], i: usize, out: &mut [u8], at: usize) -> usize
+    requires { ⌜ (i ≤ recordCount (now table)) × (recordLength * (at + (recordCount (now table) - i)) ≤ length (now out)) ⌝ }
+    ensures { λ r. ⌜ r ≡ at + (recordCount (now (table .entry)) - i) ⌝ }
+    ensures { λ r. ⌜ front r (now (out .exit)) ≡ front at (now (out .entry)) ++ slice (now (table .entry)) i (recordCount (now (table .entry)) - i) ⌝ }
+{
+    copy_records(table, i, table.len() / RECORD_LENGTH - i, out, at)
+}
+
 // A number's flag, and its field.
 fn flag_of(number: Number) -> u8
     ensures { λ r. ⌜ (r ≡ flag number) × (r ≤ 1) ⌝ }
@@ -298,12 +307,11 @@ fn dissolve_at(
     requires { ⌜ (i < p) × (p < recordCount (now table)) × (length (now table) ≤ length (now out)) ⌝ }
     ensures { λ r. ⌜ Left (now (table .entry)) i p (recordBytes (nodeOf kind limit) count) r (now (out .exit)) ⌝ }
 {
-    let records = table.len() / RECORD_LENGTH;
     let first = i + 1;
     let after = p + 1;
     let next = put_node(out, 0, kind, limit, count);
     let end = copy_records(table, first, p - first, out, next);
-    copy_records(table, after, records - after, out, end)
+    copy_rest(table, after, out, end)
 }
 
 // ---- Rules: each writes what the table becomes from record i on, and answers how many records that is; 0 where the rule does not fit
@@ -345,10 +353,9 @@ fn relimit_at(table: &[u8], p: usize, limit: Limit, out: &mut [u8]) -> usize
         return 0;
     }
     let count = table[RECORD_LENGTH * p + 2];
-    let records = table.len() / RECORD_LENGTH;
     let after = p + 1;
     let next = put_node(out, 0, kind, limit, count);
-    copy_records(table, after, records - after, out, next)
+    copy_rest(table, after, out, next)
 }
 
 // 3. A sequence or choice of one child becomes the child, if at most one of the two has a limit.
@@ -367,8 +374,7 @@ pub fn rule3_at(table: &[u8], extents: &[usize], i: usize, out: &mut [u8]) -> us
     }
     let first = i + 1;
     if is_unlimited(limit) {
-        let records = table.len() / RECORD_LENGTH;
-        return copy_records(table, first, records - first, out, 0);
+        return copy_rest(table, first, out, 0);
     }
     relimit_at(table, first, limit, out)
 }
@@ -430,7 +436,7 @@ pub fn rule4_at(table: &[u8], extents: &[usize], marks: &[u8], i: usize, out: &m
     let time = Number::Plain(settled_value(table, i));
     let at = put_node(out, 0, Kind::Block(time), limit, 0);
     let end = i + extents[i];
-    copy_records(table, end, table.len() / RECORD_LENGTH - end, out, at)
+    copy_rest(table, end, out, at)
 }
 
 // ---- Rule 5
@@ -585,7 +591,7 @@ fn merge_bares(
     let second = put_node(out, block, plain, Limit::Unlimited, 0);
     let end = i + extents[i];
     let later = copy_others(table, extents, q, end, out, second);
-    copy_records(table, end, table.len() / RECORD_LENGTH - end, out, later)
+    copy_rest(table, end, out, later)
 }
 
 // 6. In a sequence, two or more unlimited plain blocks become one of their sum, as first child.
@@ -775,8 +781,7 @@ pub fn rule8_at(table: &[u8], extents: &[usize], marks: &[u8], i: usize, out: &m
     let firsts = copy_firsts(table, extents, i + 1, count, out, tops);
     let at = copy_records(table, second, extents[second], out, firsts);
     let from = i + extents[i];
-    let n = table.len() / RECORD_LENGTH - from;
-    copy_records(table, from, n, out, at)
+    copy_rest(table, from, out, at)
 }
 
 // ---- Rule 9
@@ -805,8 +810,7 @@ pub fn rule9_at(table: &[u8], extents: &[usize], marks: &[u8], i: usize, out: &m
     let named = marks[MARKS * body + 1];
     if (named == 1) | (named == WHOLE_RUN) {
         let from = body + extents[body];
-        let n = table.len() / RECORD_LENGTH - from;
-        return copy_records(table, from, n, out, 0);
+        return copy_rest(table, from, out, 0);
     }
     0
 }

@@ -21,11 +21,8 @@ sub-copy-records c = search needs
 copy-records-requires : tie.Need-copy-records-requires
 copy-records-requires c κs = search needs
 
-sub-copy-records-2 : tie.Need-sub-copy-records-2
-sub-copy-records-2 c = search needs
-
-copy-records-requires-2 : tie.Need-copy-records-requires-2
-copy-records-requires-2 c κs = search needs
+copy-rest-requires : tie.Need-copy-rest-requires
+copy-rest-requires c κs = search needs
 
 same-length : tie.Need-same-length
 same-length c = search needs
@@ -36,7 +33,7 @@ returns c =
     let mid = last .before .before .before .before in
     let put = mid .before .before .before .before in
     let start = put .before .before .before .before in
-    let (x, y) = last .copy-records2 .ensures in
+    let (x, y) = last .copy-rest .ensures in
     let (z, w) = mid .copy-records .ensures in
     let (u, v) = put .put-node .ensures in
     let a = start .args in
@@ -51,7 +48,6 @@ dissolve-at-spec =
     put-node-requires
     sub-copy-records
     copy-records-requires
-    sub-copy-records-2
-    copy-records-requires-2
+    copy-rest-requires
     same-length
     returns)

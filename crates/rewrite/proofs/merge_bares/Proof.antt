@@ -81,11 +81,8 @@ copy-others-requires c κs =
     let k = kept s in
     (s .pre .0, (p .standing, omega (arith, p .extent, p .inside, p .long, a .place, a .fewer, c .before .before .before .before .before .before .before .before .before .before .before .before .put-node .ensures .0, c .before .before .before .before .before .before .before .before .copy-records .ensures .0, c .before .before .before .before .put-node2 .ensures .0)))
 
-sub-copy-records-3 : tie.Need-sub-copy-records-3
-sub-copy-records-3 c = omega (arith, stand (c .before .before .before .before .before .before .before .before .before .before .before .before .before .before .before .before .before .before .before .before .before .before) .inside)
-
-copy-records-requires-2 : tie.Need-copy-records-requires-2
-copy-records-requires-2 c κs =
+copy-rest-requires : tie.Need-copy-rest-requires
+copy-rest-requires c κs =
     let s = c .before .before .before .before .before .before .before .before .before .before .before .before .before .before .before .before .before .before .before .before .before .before .before in
     let p = stand s in
     let a = s .pre .1 .1 .1 in
@@ -108,7 +105,7 @@ returns c =
     (c .before .before .before .before .before .before .before .before .before .before .before .before .before .before .before .copy-records .ensures)
     (c .before .before .before .before .before .before .before .before .before .before .before .put-node2 .ensures)
     (c .before .before .before .before .before .before .copy-others .ensures)
-    (c .before .before .copy-records2 .ensures)
+    (c .before .before .copy-rest .ensures)
 
 pub merge-bares-spec : {M : Type 1} → statement M
 merge-bares-spec =
@@ -129,7 +126,6 @@ merge-bares-spec =
     shared-slice-read-end
     add-end
     copy-others-requires
-    sub-copy-records-3
-    copy-records-requires-2
+    copy-rest-requires
     same-length
     returns)

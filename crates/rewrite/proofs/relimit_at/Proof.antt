@@ -35,11 +35,8 @@ add-after c = search needs
 put-node-requires : tie.Need-put-node-requires
 put-node-requires c κs = search needs
 
-sub-copy-records : tie.Need-sub-copy-records
-sub-copy-records c = search needs
-
-copy-records-requires : tie.Need-copy-records-requires
-copy-records-requires c κs = search needs
+copy-rest-requires : tie.Need-copy-rest-requires
+copy-rest-requires c κs = search needs
 
 same-length : tie.Need-same-length
 same-length c = search needs
@@ -54,7 +51,7 @@ returns-2 c =
     let start = node .before .before .before in
     let a = start .args in
     let (s, inside) = start .pre in
-    let (r, e) = done .copy-records .ensures in
+    let (r, e) = done .copy-rest .ensures in
     let (n, f) = put .put-node .ensures in
     unlimited
     (a .table .now)
@@ -82,7 +79,6 @@ relimit-at-spec =
     shared-slice-read-count
     add-after
     put-node-requires
-    sub-copy-records
-    copy-records-requires
+    copy-rest-requires
     same-length
     returns-2)

@@ -40,11 +40,8 @@ add-first c = search needs
 is-unlimited-requires : tie.Need-is-unlimited-requires
 is-unlimited-requires c κs = search needs
 
-sub-copy-records : tie.Need-sub-copy-records
-sub-copy-records c = search needs
-
-copy-records-requires : tie.Need-copy-records-requires
-copy-records-requires c κs = search needs
+copy-rest-requires : tie.Need-copy-rest-requires
+copy-rest-requires c κs = search needs
 
 same-length : tie.Need-same-length
 same-length c = search needs
@@ -61,7 +58,7 @@ returns-3 c =
     let start = node .before .before .before .before in
     let a = start .args in
     let (s, inside) = start .pre in
-    let (r, e) = done .copy-records .ensures in
+    let (r, e) = done .copy-rest .ensures in
     child-alone
     (a .table .now)
     (s .simplifiable)
@@ -130,8 +127,7 @@ rule3-at-spec =
     returns-2
     add-first
     is-unlimited-requires
-    sub-copy-records
-    copy-records-requires
+    copy-rest-requires
     same-length
     returns-3
     relimit-at-requires

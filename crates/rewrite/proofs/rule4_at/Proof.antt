@@ -61,15 +61,8 @@ add-end c =
     let start = read .before .before .before .before .before in
     search (needs, past-inside _ _ (start .pre .0 .sizes) _ (start .pre .1 .0), few-records _ (start .pre .0 .sizes .simplifiable))
 
-sub-copy-records : tie.Need-sub-copy-records
-sub-copy-records c =
-    let other = c .before .before .before .before .before .before in
-    let read = other .before .before .before .before .before in
-    let start = read .before .before .before .before .before in
-    past-inside _ _ (start .pre .0 .sizes) _ (start .pre .1 .0)
-
-copy-records-requires : tie.Need-copy-records-requires
-copy-records-requires c κs =
+copy-rest-requires : tie.Need-copy-rest-requires
+copy-rest-requires c κs =
     let other = c .before .before .before .before .before .before .before in
     let read = other .before .before .before .before .before in
     let start = read .before .before .before .before .before in
@@ -91,7 +84,7 @@ returns-3 c =
     settled-written _ _ _ (start .pre .0) _ (start .pre .1 .0) _ _ _ (value .settled-value .ensures)
     (not-false _ (value .before .before .before .if1 .left))
     (ap (λ n. isBlock (n .kind)) (sym own) ∙ sym (value .before .before .is-block .ensures) ∙ value .before .if2 .left)
-    (rw one at (copied .copy-records .ensures .0)) (rw (put .put-node .ensures .1, own) at (copied .copy-records .ensures .1))
+    (rw one at (copied .copy-rest .ensures .0)) (rw (put .put-node .ensures .1, own) at (copied .copy-rest .ensures .1))
 
 pub rule4-at-spec : {M : Type 1} → statement M
 rule4-at-spec =
@@ -110,7 +103,6 @@ rule4-at-spec =
     mul-end
     shared-slice-read-end
     add-end
-    sub-copy-records
-    copy-records-requires
+    copy-rest-requires
     same-length
     returns-3)

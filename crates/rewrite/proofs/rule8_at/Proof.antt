@@ -92,11 +92,8 @@ add-from c =
     let x = found (c .before .before .before .before .before .before .before .before .before .before .before .before .before .before .before) in
     omega (arith, x .within, few-records _ (x .simplifiable))
 
-sub-n : tie.Need-sub-n
-sub-n c = found (c .before .before .before .before .before .before .before .before .before .before .before .before .before .before .before) .within
-
-copy-records-requires-2 : tie.Need-copy-records-requires-2
-copy-records-requires-2 c κs =
+copy-rest-requires : tie.Need-copy-rest-requires
+copy-rest-requires c κs =
     let copied = c .before .before .before .before in
     let firsts = copied .before .before .before .before .before in
     let tops = firsts .before .before .before .before in
@@ -117,7 +114,7 @@ returns-2 c =
     let count = tops .before .before in
     sharing-written (found (count .before)) _ (count .children-at .ensures .0) _ _ _ _ _ _ _ _
     (tops .put-tops .ensures .0) (tops .put-tops .ensures .1) (firsts .copy-firsts .ensures .0) (firsts .copy-firsts .ensures .1)
-    (copied .copy-records .ensures .0) (copied .copy-records .ensures .1) (last .copy-records2 .ensures .0) (last .copy-records2 .ensures .1)
+    (copied .copy-records .ensures .0) (copied .copy-records .ensures .1) (last .copy-rest .ensures .0) (last .copy-rest .ensures .1)
 
 pub rule8-at-spec : {M : Type 1} → statement M
 rule8-at-spec =
@@ -135,7 +132,6 @@ rule8-at-spec =
     mul-from
     shared-slice-read-from
     add-from
-    sub-n
-    copy-records-requires-2
+    copy-rest-requires
     same-length
     returns-2)

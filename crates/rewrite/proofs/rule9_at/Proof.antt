@@ -41,11 +41,8 @@ shared-slice-read-from c = found (c .before .before .before) .sized
 add-from : tie.Need-add-from
 add-from c = let x = found (c .before .before .before) in omega (arith, x .within, few-records _ (x .simplifiable))
 
-sub-n : tie.Need-sub-n
-sub-n c = found (c .before .before .before) .within
-
-copy-records-requires : tie.Need-copy-records-requires
-copy-records-requires c κs = let x = found (c .before .before .before .before) in omega (arith, x .within, length-is _ (x .simplifiable))
+copy-rest-requires : tie.Need-copy-rest-requires
+copy-rest-requires c κs = let x = found (c .before .before .before .before) in omega (arith, x .within, length-is _ (x .simplifiable))
 
 same-length : tie.Need-same-length
 same-length c = search needs
@@ -54,7 +51,7 @@ returns-2 : tie.Need-returns-2
 returns-2 c =
     let copied = c .before .before in
     let named = copied .before .before .before in
-    exit-written (found (named .before .before)) _ _ (named .if2 .taken) (copied .copy-records .ensures .0) (copied .copy-records .ensures .1)
+    exit-written (found (named .before .before)) _ _ (named .if2 .taken) (copied .copy-rest .ensures .0) (copied .copy-rest .ensures .1)
 
 returns-3 : tie.Need-returns-3
 returns-3 c = other-named (found (c .before .before)) _ (c .if2 .left)
@@ -72,8 +69,7 @@ rule9-at-spec =
     mul-from
     shared-slice-read-from
     add-from
-    sub-n
-    copy-records-requires
+    copy-rest-requires
     same-length
     returns-2
     returns-3)
