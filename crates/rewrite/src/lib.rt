@@ -10,7 +10,7 @@ ghost use Rattle.table.specs.Numbers.{mostChildren, mostTime, recordLength};
 ghost use Rattle.table.specs.Trees.{recordsIn};
 ghost use Rattle.table.specs.Table.{childByte, encodes, firstNode, flag, kindByte, limitNum, loopByte, raw, recordBytes, recordCount, valueNum};
 ghost use Rattle.evaluate.specs.Closed.{isUnlimited};
-ghost use Rattle.simplify.specs.Rules.{allPairs, bare, children, gives, isBlock, isPair, isSum, isZero, others, rule2, rule3, rule4, rule5, rule6, rule7, rule8, rule9, timeOfKind};
+ghost use Rattle.simplify.specs.Rules.{allPairs, bare, children, gives, isBlock, isPair, isSum, isZero, others, rule2, rule3, rule4, rule5, rule6, rule7, rule8, rule9};
 ghost use Rattle.simplify.specs.Same.{same, sameKind};
 ghost use Rattle.subtrees.specs.Parts.{Simplifiable, subtree, treesAt};
 ghost use Rattle.subtrees.specs.Facts.{Extents, Surveyed};
@@ -47,7 +47,7 @@ pub fn copy_records(table: &[u8], i: usize, n: usize, out: &mut [u8], at: usize)
     at + n
 }
 
-// Copies those from record i to the table's end.
+// Copies the records from record i to the table's end to the buffer's record `at` and on; answers the record after them.
 fn copy_rest(table: &[u8], i: usize, out: &mut [u8], at: usize) -> usize
     requires { ⌜ (i ≤ recordCount (now table)) × (recordLength * (at + (recordCount (now table) - i)) ≤ length (now out)) ⌝ }
     ensures { λ r. ⌜ r ≡ at + (recordCount (now (table .entry)) - i) ⌝ }
@@ -255,7 +255,7 @@ fn gives_way(table: &[u8], p: usize, kind: Kind, count: usize) -> bool
     same_kind(own, kind) & is_unlimited(limit) & has_room(count, more)
 }
 
-// Is it one of time 0?
+// Is the tree at record p an unlimited plain block of time 0?
 fn is_zero(table: &[u8], p: usize) -> bool
     requires { ⌜ Simplifiable (now table) ⌝ ∗ ⌜ p < recordCount (now table) ⌝ }
     ensures { λ r. ⌜ r ≡ isZero (subtree (now (table .entry)) p) ⌝ }
@@ -473,21 +473,6 @@ pub struct Bares {
     pub largest: u64,
 }
 
-// A plain block's time, else 0.
-fn plain_time(kind: Kind) -> u64
-    ensures { λ r. ⌜ r ≡ timeOfKind kind ⌝ }
-{
-    match kind {
-        Kind::Block(time) => match time {
-            Number::Plain(x) => x,
-            Number::Symbol(_) => 0,
-        },
-        Kind::Sequence => 0,
-        Kind::Choice => 0,
-        Kind::Loop(_) => 0,
-    }
-}
-
 fn larger(x: u64, y: u64) -> u64
     ensures { λ r. ⌜ r ≡ max x y ⌝ }
 {
@@ -502,9 +487,7 @@ fn with_child(found: Bares, table: &[u8], p: usize) -> Bares
     if !is_bare(table, p) {
         return found;
     }
-    let node = node_at(table, p);
-    let kind = node.kind;
-    let time = plain_time(kind);
+    let time = table::read_u64(table, RECORD_LENGTH * p + 8);
     Bares {
         count: found.count + 1,
         total: found.total + time,

@@ -1,10 +1,11 @@
 -- The time that is read is that of the tree at record p, and few enough are summed.
 use borrow.Author.Needs.{needs}
-use mathlib.Core.Path.{_≡_, ap, _∙_}
+use mathlib.Core.Path.{_≡_, sym, _∙_}
+use borrow.Author.Tests.{not-false}
 use Prim.Native.Nat.{_≤_}
 use native.Mathlib.Omega.{arith}
 use Rattle.table.specs.Numbers.{mostTime}
-use Rattle.simplify.specs.Rules.{timeOf, timeOfKind}
+use Rattle.simplify.specs.Rules.{timeOf}
 use Rattle.subtrees.specs.Parts.{subtree}
 use Rattle.subtrees.specs.Laws.Parts.{few-records}
 use Rattle.rewrite.specs.Laws.Blocks.{child-bare, child-not, time-at}
@@ -12,12 +13,13 @@ use Rattle.rewrite.proofs.with_child.Statement.{statement}
 use Rattle.rewrite.proofs.with_child.Tie as tie
 
 -- the time that was read
-found : (c : tie.After-plain-time) → let s = c .before .before .before .before .before in
-    (c .plain-time .result ≡ timeOf (subtree (s .args .table .now) (s .args .p))) × (c .plain-time .result ≤ mostTime)
+found : (c : tie.After-read-u64) → let s = c .before .before .before .before in
+    (c .read-u64 .result ≡ timeOf (subtree (s .args .table .now) (s .args .p))) × (c .read-u64 .result ≤ mostTime)
 found c =
-    let s = c .before .before .before .before .before in
-    let t = time-at (s .args .table .now) (s .pre .0) (s .args .p) (s .pre .1 .0) in
-    let e : c .plain-time .result ≡ timeOf (subtree (s .args .table .now) (s .args .p)) = c .plain-time .ensures ∙ ap (λ n. timeOfKind (n .kind)) (c .before .node-at .ensures) ∙ t .0 in
+    let test = c .before in
+    let s = test .before .before .before in
+    let t = time-at (s .args .table .now) (s .pre .0) (s .args .p) (s .pre .1 .0) (sym (test .before .is-bare .ensures) ∙ not-false _ (test .if1 .left)) in
+    let e : c .read-u64 .result ≡ timeOf (subtree (s .args .table .now) (s .args .p)) = c .read-u64 .ensures ∙ t .0 in
     (e, omega (arith, t .1))
 
 is-bare-requires : tie.Need-is-bare-requires
@@ -26,18 +28,21 @@ is-bare-requires c κs = search needs
 returns : tie.Need-returns
 returns c = (child-not _ _ _ (c .before .is-bare .ensures) (c .if1 .taken), search needs, search needs)
 
-node-at-requires : tie.Need-node-at-requires
-node-at-requires c κs = search needs
+mul-read-u64 : tie.Need-mul-read-u64
+mul-read-u64 c = search needs
 
-plain-time-requires : tie.Need-plain-time-requires
-plain-time-requires c κs = search needs
+add-read-u64 : tie.Need-add-read-u64
+add-read-u64 c = search needs
+
+read-u64-requires : tie.Need-read-u64-requires
+read-u64-requires c κs = search needs
+
+add-t7 : tie.Need-add-t7
+add-t7 c = search needs
 
 add-t9 : tie.Need-add-t9
-add-t9 c = search needs
-
-add-t10 : tie.Need-add-t10
-add-t10 c =
-    let s = c .before .before .before .before .before .before .before in
+add-t9 c =
+    let s = c .before .before .before .before .before .before in
     omega (arith, found (c .before .before), few-records (s .args .table .now) (s .pre .0))
 
 larger-requires : tie.Need-larger-requires
@@ -47,7 +52,7 @@ returns-2 : tie.Need-returns-2
 returns-2 c =
     let t = c .before .before .before in
     let f = found t in
-    let test = t .before .before in
+    let test = t .before in
     (child-bare _ _ _ _ _ (test .before .is-bare .ensures) (test .if1 .left) (f .0) (c .larger .ensures), omega arith, omega arith)
 
 pub with-child-spec : {M : Type 1} → statement M
@@ -56,9 +61,10 @@ with-child-spec =
     (tie.spec
     is-bare-requires
     returns
-    node-at-requires
-    plain-time-requires
+    mul-read-u64
+    add-read-u64
+    read-u64-requires
+    add-t7
     add-t9
-    add-t10
     larger-requires
     returns-2)

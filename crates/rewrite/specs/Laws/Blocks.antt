@@ -9,14 +9,15 @@ use native.Mathlib.Omega.{arith}
 use lib.Dec.{T, le→leb, leb, leb→le}
 use lib.ListN.{drop, getD, length}
 use borrow.Author.Tests.{lt-leb, not-false, not-true}
-use Rattle.booleans.specs.Laws.{T-is, both, by-cond, by-conds}
+use Rattle.booleans.specs.Laws.{T-is, both, by-cond, by-conds, is-T}
 use Rattle.booleans.specs.Tests.{_and_}
 use Rattle.table.specs.Numbers.{mostTime, recordLength}
 use Rattle.table.specs.Questions.{kindInRange, listed, timeInRange}
-use Rattle.table.specs.Table.{childByte, encode, encodes, firstNode, recordBytes, recordCount}
+use Rattle.table.specs.Table.{field, raw, valueNum, childByte, encode, encodes, firstNode, recordBytes, recordCount}
 use Rattle.table.specs.Trees.{Forest, Tree, nil, node, _▸_, _⧺_, records, recordsIn, size}
 use Rattle.table.specs.Laws.Trees.{some-records}
-use Rattle.simplify.specs.Rules.{atFirst, bare, bares, largest, leaf, others, rule6, rule7, timeOf, timeOfKind, total, when}
+use Rattle.evaluate.specs.Closed.{isPlain, plainKind}
+use Rattle.simplify.specs.Rules.{atFirst, bare, bares, isBlock, largest, leaf, others, rule6, rule7, timeOf, timeOfKind, total, when}
 use Rattle.simplify.specs.Same.{sameKind}
 use Rattle.simplify.specs.Steps.{also}
 use Rattle.simplify.specs.Laws.Forests.{size-⧺}
@@ -24,10 +25,10 @@ use Rattle.subtrees.specs.Facts.{Extents}
 use Rattle.subtrees.specs.Parts.{Simplifiable, subtree, treesAt}
 use Rattle.subtrees.specs.Laws.Forests.{encodes-⧺, records-⧺}
 use Rattle.subtrees.specs.Laws.Parts.{Here, bytes-at, here-at, here-is, length-is, next-row, node-extent, past-node, records-at, row-of, skip-at, tail-at, top-at}
-use Rattle.subtrees.specs.Laws.Records.{count-at, node-at}
+use Rattle.subtrees.specs.Laws.Records.{count-at, node-at, value-at}
 use Rattle.rewrite.specs.Blocks.{Parted, Standing, baresAt, keptRecords, merged, noBares, spanning, withChild}
 use Rattle.rewrite.specs.Children.{any, childAt, offset, wanted}
-use Rattle.rewrite.specs.Nodes.{Block, Choice, Kind, Loop, Node, Plain, Sequence, Symbol, Unlimited}
+use Rattle.rewrite.specs.Nodes.{Block, Choice, Kind, Limit, Loop, Node, Plain, Sequence, Symbol, Unlimited}
 use Rattle.rewrite.specs.Writing.{Wrote, front, nodeOf, ruleAt, slice}
 use Rattle.rewrite.specs.Laws.Records.{and-false, subtree-bytes, ⧺-assoc}
 use Rattle.rewrite.specs.declared.Bares.{Bares}
@@ -88,14 +89,26 @@ node-low : (n : Node) (f : Forest) → T (listed (node n f)) → timeOfKind (n .
 unfolding listed
 node-low n f h = time-low (n .kind) (both _ _ (both _ _ (both _ _ h .0) .0) .0)
 
--- the time of a block at record p, as its bytes have it
-pub time-at : (b : List ℕ) → Simplifiable b → (p : ℕ) → p < recordCount b
-    → (timeOfKind (firstNode (drop (recordLength * p) b) .kind) ≡ timeOf (subtree b p)) × (timeOf (subtree b p) ≤ mostTime)
+bare-time : (k : Kind) (l : Limit) (f : Forest) → T (bare (node (nodeOf k l) f)) → raw (valueNum k) ≡ timeOfKind k
+unfolding valueNum bare isBlock plainKind isPlain _and_ timeOfKind
+bare-time (Block (Plain x)) l f h = refl
+bare-time (Block (Symbol x)) l nil h = absurd h
+bare-time (Block (Symbol x)) l (t ▸ f) h = absurd h
+bare-time Sequence l f h = refl
+bare-time Choice l f h = refl
+bare-time (Loop v) l nil h = absurd h
+bare-time (Loop v) l (t ▸ f) h = absurd h
+
+-- the time of an unlimited plain block at record p, as its bytes have it
+pub time-at : (b : List ℕ) → Simplifiable b → (p : ℕ) → p < recordCount b → bare (subtree b p) ≡ true
+    → (field b (recordLength * p + 8) 8 ≡ timeOf (subtree b p)) × (timeOf (subtree b p) ≤ mostTime)
 unfolding timeOf
-time-at b s p l =
+time-at b s p l t =
     let w = here-at b s p l in
-    let e : timeOf (subtree b p) ≡ timeOfKind (w .own .kind) = ap timeOf (top-at b p (w .here)) in
-    (ap (λ n. timeOfKind (n .kind)) (node-at b p w) ∙ sym e, omega (arith, node-low (w .own) (w .kids) (w .sound .fair .listed)))
+    let o = top-at b p (w .here) in
+    let e : timeOf (subtree b p) ≡ timeOfKind (w .own .kind) = ap timeOf o in
+    let h = is-T _ (ap bare (sym o) ∙ t) in
+    (value-at b p w ∙ bare-time (w .own .kind) (w .own .limit) (w .kids) h ∙ sym e, omega (arith, node-low (w .own) (w .kids) (w .sound .fair .listed)))
 
 pub child-not : (s : Bares) (t : Tree) (r : Bool) → r ≡ bare t → not r ≡ true → s ≡ withChild s t
 unfolding withChild
