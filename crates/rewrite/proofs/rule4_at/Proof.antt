@@ -3,8 +3,8 @@ use mathlib.Core.Path.{ap, sym, _∙_}
 use native.Mathlib.Omega.{arith}
 use borrow.Author.Tests.{not-false, not-true}
 use Rattle.simplify.specs.Rules.{isBlock}
-use Rattle.subtrees.specs.Laws.Parts.{few-records, length-is, past-inside}
-use Rattle.rewrite.specs.Laws.Settled.{is-node, no-node, not-settled, past-some, settled-written}
+use Rattle.subtrees.specs.Laws.Parts.{extent-some, few-records, length-is, past-inside}
+use Rattle.rewrite.specs.Laws.Settled.{is-node, no-node, not-settled, settled-written}
 use borrow.Author.Needs.{needs}
 use Rattle.rewrite.proofs.rule4_at.Statement.{statement}
 use Rattle.rewrite.proofs.rule4_at.Tie as tie
@@ -67,7 +67,7 @@ copy-rest-requires c κs =
     let read = other .before .before .before .before .before in
     let start = read .before .before .before .before .before in
     let s = start .pre .0 in
-    omega (arith, past-inside _ _ (s .sizes) _ (start .pre .1 .0), past-some _ _ _ s _ (start .pre .1 .0), length-is _ (s .sizes .simplifiable))
+    omega (arith, past-inside _ _ (s .sizes) _ (start .pre .1 .0), extent-some _ _ (s .sizes) _ (start .pre .1 .0), length-is _ (s .sizes .simplifiable))
 
 same-length : tie.Need-same-length
 same-length c = search needs

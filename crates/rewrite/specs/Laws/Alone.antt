@@ -4,7 +4,6 @@ use mathlib.Core.Bool.{Bool, true, false, cond, not}
 use mathlib.Core.List.{List, _++_}
 use mathlib.Core.Option.{Option, none, some}
 use Prim.Native.Nat.{ℕ, _+_, _*_, _-_, _<_}
-use native.Mathlib.Numerals.{add-one}
 use native.Mathlib.Omega.{arith}
 use lib.ListN.{drop, getD}
 use borrow.Author.Tests.{not-false, not-true}
@@ -86,21 +85,17 @@ module _ (b : List ℕ) (s : Simplifiable b) (p : ℕ) (l : p < recordCount b) w
       let row = ap recordsIn (h .here) in
       let top : y ≡ recordBytes (nodeOf (h .own .kind) m) (size (h .kids)) =
       f ∙ ap₂ (λ (z : Node) (j : ℕ). recordBytes (nodeOf (z .kind) m) j) (e ∙ node-at b p h) (kids-at b p h) in
-      let next : treesAt b (p + 1) ≡ h .kids ⧺ h .later = rw add-one (h .next) in
       wrote-as
       r
       out
       (relimit-is m true (limitless e d ∙ not-false x t))
-      (omega arith, g ∙ rw (top, tail-at b s (p + 1), next) (sym (row-bytes (nodeOf (h .own .kind) m) (h .kids) (h .later))))
+      (omega arith, g ∙ rw (top, tail-at b s (p + 1), h .next) (sym (row-bytes (nodeOf (h .own .kind) m) (h .kids) (h .later))))
 
 module _ (b : List ℕ) (s : Simplifiable b) (i : ℕ) (l : i < recordCount b) where
   pub many-children : (out : List ℕ) {c : ℕ} → c ≡ childByte (drop (recordLength * i) b) → (c ≡ 1 → ⊥) → Wrote (ruleAt rule3 (treesAt b i)) 0 out
   many-children out d z =
       let h = it b s i l in
       unfit-at b s i l rule3 out (rule3-many (h .own) (h .kids) (λ (o : size (h .kids) ≡ 1). z (d ∙ count-at b i h ∙ o)))
-
-  next-row : treesAt b (i + 1) ≡ it b s i l .kids ⧺ it b s i l .later
-  next-row = rw add-one (it b s i l .next)
 
   one-child : {c : ℕ} → c ≡ childByte (drop (recordLength * i) b) → c ≡ 1 → size (it b s i l .kids) ≡ 1
   one-child d o = sym (count-at b i (it b s i l)) ∙ sym d ∙ o
@@ -118,7 +113,7 @@ module _ (b : List ℕ) (s : Simplifiable b) (i : ℕ) (l : i < recordCount b) w
   child-alone out {r = r} e dx tx d o du tu k g =
       let h = it b s i l in
       let row : ruleAt rule3 (treesAt b i) ≡ some (treesAt b (i + 1)) =
-      rule3-row ∙ rule3-bare (h .own) (h .kids) (h .later) (is-sum-at b s i l e dx tx) (one-child d o) (limitless b s i l e du ∙ tu) ∙ ap some (sym next-row) in
+      rule3-row ∙ rule3-bare (h .own) (h .kids) (h .later) (is-sum-at b s i l e dx tx) (one-child d o) (limitless b s i l e du ∙ tu) ∙ ap some (sym (h .next)) in
       wrote-as r out row (rest-written b s (i + 1) r out k g)
 
   -- a limited one: its child takes the limit, where it has none
@@ -130,5 +125,5 @@ module _ (b : List ℕ) (s : Simplifiable b) (i : ℕ) (l : i < recordCount b) w
       let row : ruleAt rule3 (treesAt b i) ≡ relimited (n .limit) (treesAt b (i + 1)) =
       rule3-row
       ∙ rule3-limited (h .own) (h .kids) (h .later) (is-sum-at b s i l e dx tx) (one-child d o) (limitless b s i l e du ∙ tu)
-      ∙ ap₂ (λ (m : Node) (f : Forest). relimited (m .limit) f) (sym (e ∙ node-at b i h)) (sym next-row) in
+      ∙ ap₂ (λ (m : Node) (f : Forest). relimited (m .limit) f) (sym (e ∙ node-at b i h)) (sym (h .next)) in
       wrote-as r out row w

@@ -4,7 +4,6 @@ use mathlib.Core.Bool.{Bool, cond, false, not, true}
 use mathlib.Core.List.{List, _++_, append-assoc, append-nil}
 use mathlib.Core.Option.{Option, some}
 use Prim.Native.Nat.{ℕ, zero, suc, _+_, _-_, _*_, _%_, _≤_, _<_, max}
-use native.Mathlib.Numerals.{add-one}
 use native.Mathlib.Omega.{arith}
 use lib.Dec.{T, le→leb, leb, leb→le}
 use lib.ListN.{drop, getD, length}
@@ -24,7 +23,7 @@ use Rattle.simplify.specs.Laws.Forests.{size-⧺}
 use Rattle.subtrees.specs.Facts.{Extents}
 use Rattle.subtrees.specs.Parts.{Simplifiable, subtree, treesAt}
 use Rattle.subtrees.specs.Laws.Forests.{encodes-⧺, records-⧺}
-use Rattle.subtrees.specs.Laws.Parts.{Here, bytes-at, here-at, here-is, length-is, next-row, node-extent, past-node, records-at, row-of, skip-at, tail-at, top-at}
+use Rattle.subtrees.specs.Laws.Parts.{Here, bytes-at, extent-some, here-at, here-is, length-is, next-row, node-extent, past-node, records-at, row-of, skip-at, tail-at, top-at}
 use Rattle.subtrees.specs.Laws.Records.{count-at, node-at, value-at}
 use Rattle.rewrite.specs.Blocks.{Parted, Standing, baresAt, keptRecords, merged, noBares, spanning, withChild}
 use Rattle.rewrite.specs.Children.{any, childAt, offset, wanted}
@@ -61,7 +60,7 @@ next-tree b extents x p e s l =
       are = n .are;
       inside = n .inside;
       extent = n .extent;
-      some = omega (arith, n .extent, some-records (subtree b p));
+      some = extent-some b extents x p (n .inside);
       within = omega (arith, s .long, n .extent);
       bound = omega (arith, s .long, n .inside, records-at b z p, ap recordsIn (s .row), records-⧺ (s .trees) (s .later));
     }
@@ -160,7 +159,7 @@ unfolding baresAt
 gather-start b extents x i l =
     let w = here-at b (x .simplifiable) i l in
     record {
-      left = record { trees = w .kids; later = w .later; row = rw add-one (w .next); long = omega (arith, node-extent b extents x i l w) };
+      left = record { trees = w .kids; later = w .later; row = w .next; long = omega (arith, node-extent b extents x i l w) };
       few = omega arith;
       low = omega arith;
       whole = gather-is (w .kids) noBares ∙ bares-are _ _ _ _ _ _ (omega arith) (omega arith) (omega arith) ∙ sym (ap baresAt (w .here));
@@ -285,7 +284,7 @@ places b extents x i q c l s =
     let h = here-is b z i (s .own) (s .first ⧺ s .second) (s .later) (s .here) in
     let k = node-extent b extents x i l h in
     let (g, inside) = past-node b extents x i l h in
-    let a : treesAt b (i + 1) ≡ s .first ⧺ (s .second ⧺ s .later) = rw add-one (h .next ∙ ⧺-assoc (s .first) (s .second) (s .later)) in
+    let a : treesAt b (i + 1) ≡ s .first ⧺ (s .second ⧺ s .later) = h .next ∙ ⧺-assoc (s .first) (s .second) (s .later) in
     let n : recordsIn (s .first ⧺ s .second) ≡ recordsIn (s .first) + recordsIn (s .second) = records-⧺ _ _ in
     let d : treesAt b q ≡ s .second ⧺ s .later = rw (s .place) (skip-at b z (i + 1) _ _ a) in
     let after : recordCount b - (i + getD extents i 0) ≡ recordsIn (s .later) = sym (records-at b z _) ∙ ap recordsIn g in record {

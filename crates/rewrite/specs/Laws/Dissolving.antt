@@ -4,7 +4,6 @@ use mathlib.Core.Bool.{Bool, true, false, cond, not, _||_}
 use mathlib.Core.List.{List, _++_, append-assoc}
 use mathlib.Core.Option.{none, some}
 use Prim.Native.Nat.{ℕ, suc, _+_, _*_, _-_, _%_, _<_, _≤_}
-use native.Mathlib.Numerals.{add-one}
 use native.Mathlib.Omega.{arith}
 use lib.Dec.{T, leb, leb→le, le→leb}
 use lib.ListN.{drop}
@@ -122,7 +121,7 @@ module _ (b : List ℕ) (s : Simplifiable b) (i : ℕ) (h : Here b i) (q : Tree 
 
   from-part : (w : Found q (h .kids)) → treesAt b (i + 1) ≡ w .before ⧺ (w .found ▸ (w .after ⧺ h .later))
   unfolding _⧺_
-  from-part w = rw add-one (h .next ∙ ap (λ (f : Forest). f ⧺ h .later) (w .whole) ∙ ⧺-assoc (w .before) (w .found ▸ w .after) (h .later))
+  from-part w = h .next ∙ ap (λ (f : Forest). f ⧺ h .later) (w .whole) ∙ ⧺-assoc (w .before) (w .found ▸ w .after) (h .later)
 
   child-of : (p : ℕ) → p ≡ childAt q i (treesAt b i) → (p ≡ 0 → ⊥) → (any q (h .kids) ≡ true) × Child p
   unfolding recordsIn
@@ -146,7 +145,7 @@ module _ (b : List ℕ) (s : Simplifiable b) (i : ℕ) (h : Here b i) (q : Tree 
   unfolding below
   after-child p c =
       let g = here-at b s p (c .inside) in
-      rw add-one (g .next ∙ ap below (sym (g .here) ∙ c .here) ∙ below-children (c .part .found) (c .part .after ⧺ h .later))
+      g .next ∙ ap below (sym (g .here) ∙ c .here) ∙ below-children (c .part .found) (c .part .after ⧺ h .later)
 
   dissolved : (p : ℕ) (c : Child p) (n r : ℕ) (out : List ℕ) → n + 1 ≡ size (h .kids) + size (children (c .part .found))
       → Left b i p (recordBytes (h .own) n) r out → Wrote (some (node (h .own) (dissolve q (h .kids)) ▸ h .later)) r out

@@ -14,7 +14,6 @@ use Rattle.table.specs.Numbers.{mostDepth, mostRecords, recordLength}
 use Rattle.table.specs.Questions.{depth, listed}
 use Rattle.table.specs.Table.{childByte, encode, encodes, firstNode, recordBytes, recordCount}
 use Rattle.table.specs.Trees.{Forest, Tree, node, _▸_, records, recordsIn, size}
-use Rattle.table.specs.Laws.Trees.{some-records}
 use Rattle.table.specs.Laws.Reading.{part-from}
 use Rattle.table.specs.Laws.RoundTrip.{drop-bytes}
 use Rattle.lists.specs.Pairs.{top}
@@ -28,7 +27,7 @@ use Rattle.evaluate.specs.declared.Valued.{Valued}
 use Rattle.simplify.specs.Rules.{isBlock, leaf, rule4, when}
 use Rattle.simplify.specs.Steps.{also}
 use Rattle.subtrees.specs.Facts.{Surveyed, marksEach, reachBelow, reachIn, symbols}
-use Rattle.subtrees.specs.Parts.{Simplifiable, subtree, treesAt}
+use Rattle.subtrees.specs.Parts.{Simplifiable, treesAt}
 use Rattle.subtrees.specs.Laws.Facts.{closedIn-is}
 use Rattle.subtrees.specs.Laws.Forests.{Sound, encodes-⧺}
 use Rattle.subtrees.specs.Laws.Parts.{Here, few-records, here-at, length-is, past-node, records-at, tail-at, top-at}
@@ -121,9 +120,6 @@ module _ (b extents marks : List ℕ) (s : Surveyed b extents marks) (i : ℕ) (
   pub is-node : isBlock (firstNode (drop (recordLength * i) b) .kind) ≡ false → blockAt (treesAt b i) ≡ false
   unfolding blockAt
   is-node e = ap blockAt (h .here) ∙ ap (λ n. isBlock (n .kind)) (sym (node-at b i h)) ∙ e
-
-  pub past-some : 0 < getD extents i 0
-  past-some = omega (arith, s .sizes .each i l, some-records (subtree b i))
 
   pub settled-written : (x r : ℕ) (out : List ℕ) → x ≡ beforeAt (treesAt b i)
       → (eqb (getD marks (marksEach * i) 0) 0 && eqb (getD marks (marksEach * i + 3) 0) 0) ≡ true → isBlock (firstNode (drop (recordLength * i) b) .kind) ≡ false

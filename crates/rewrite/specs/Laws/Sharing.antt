@@ -519,7 +519,7 @@ module _ (b extents : List ℕ) (s : Extents b extents) (i x : ℕ) (l : i < rec
         kids = h .kids;
         later = h .later;
         node = whole;
-        next = rw add-one (h .next);
+        next = h .next;
         becomes = ap (ruleAt rule8) (h .here) ∙ fit-becomes (h .own) (h .kids) (h .later) e;
         pairs = ps;
         inside = inside;

@@ -3,11 +3,9 @@ use mathlib.Core.Path.{_≡_, refl, ap, sym, _∙_, subst}
 use mathlib.Core.Bool.{Bool, true, false}
 use mathlib.Core.List.{List, _++_, append-assoc}
 use mathlib.Core.Option.{Option, none, some}
-use Prim.Native.Nat.{ℕ, _+_, _*_, _-_, _<_, _≤_, suc}
+use Prim.Native.Nat.{ℕ, _+_, _*_, _<_, _≤_, suc}
 use native.Mathlib.Omega.{arith}
-use lib.Dec.{T}
-use lib.ListN.{drop, getD, length, length-append, take}
-use native.Mathlib.Numerals.{add-one}
+use lib.ListN.{getD, length, length-append}
 use lib.Seq.{length-take-le, take-add, take-at}
 use Rattle.table.specs.Laws.RoundTrip.{length-bytes, length-encodes}
 use Rattle.table.specs.Numbers.{recordLength}
@@ -215,7 +213,7 @@ module _ (b : List ℕ) (s : Simplifiable b) where
       let h = here-at b s i l in
       let no : rule (h .own) (h .kids) ≡ none = none-first (h .later) _ (sym (rule-here b i h) ∙ some-first rule (treesAt b i) out w) in
       let over : also encodes (insideIn (treesAt b i)) ≡ also (λ z. recordBytes (h .own) (size (h .kids)) ++ z) (also encodes (insideIn (treesAt b (i + 1)))) =
-      rw (h .here, add-one, h .next) (step-over (h .own) (h .kids) (h .later) no) in
+      rw (h .here, h .next) (step-over (h .own) (h .kids) (h .later) no) in
       record {
         within = omega arith;
         same = q .same ∙ ap (also (λ z. front i b ++ z)) over ∙ also-append (front i b) (recordBytes (h .own) (size (h .kids))) (also encodes (insideIn (treesAt b (i + 1)))) ∙ ap (λ x. also (λ z. x ++ z) (also encodes (insideIn (treesAt b (i + 1))))) (sym (front-next b i h));

@@ -22,7 +22,7 @@ pub record Here (b : List ℕ) (i : ℕ) : Type 0 where
   pub kids : Forest
   pub later : Forest
   pub here : treesAt b i ≡ node own kids ▸ later
-  pub next : treesAt b (suc i) ≡ kids ⧺ later
+  pub next : treesAt b (i + 1) ≡ kids ⧺ later
   pub sound : Sound (node own kids)
   pub bytes : drop (recordLength * i) b ≡ recordBytes own (size kids) ++ encodes (kids ⧺ later)
 
@@ -99,9 +99,9 @@ module _ (b : List ℕ) (s : Simplifiable b) where
   pub tail-at : (i : ℕ) → take (recordLength * (recordCount b - i)) (drop (recordLength * i) b) ≡ encodes (treesAt b i)
   tail-at i = take-all (recordLength * (recordCount b - i)) (drop (recordLength * i) b) (rw length-drop (omega (arith, length-is))) ∙ sym (back-at i)
 
-  pub next-at : (i : ℕ) (n : Node) (f g : Forest) → treesAt b i ≡ node n f ▸ g → treesAt b (suc i) ≡ f ⧺ g
+  pub next-at : (i : ℕ) (n : Node) (f g : Forest) → treesAt b i ≡ node n f ▸ g → treesAt b (i + 1) ≡ f ⧺ g
   unfolding below
-  next-at i n f g e = below-at i ∙ ap below e
+  next-at i n f g e = rw add-one (below-at i ∙ ap below e)
 
   abbrev pub here-is : (i : ℕ) (n : Node) (f g : Forest) → treesAt b i ≡ node n f ▸ g → Here b i
   here-is i n f g e = record {
@@ -164,7 +164,7 @@ module _ (b : List ℕ) (s : Simplifiable b) where
 
   -- a node's children
   abbrev pub kids-row : (i : ℕ) (h : Here b i) → Row b (i + 1) (size (h .kids))
-  kids-row i h = row-of (i + 1) (h .kids) (h .later) (rw add-one (h .next))
+  kids-row i h = row-of (i + 1) (h .kids) (h .later) (h .next)
 
   -- past the first tree
   past-first : (p : ℕ) (t : Tree) (g : Forest) → treesAt b p ≡ t ▸ g → (treesAt b (p + records t) ≡ g) × (p + records t ≤ recordCount b)
@@ -223,6 +223,9 @@ module _ (b extents : List ℕ) (x : Extents b extents) (i : ℕ) (l : i < recor
 
   pub past-node : (h : Here b i) → (treesAt b (i + getD extents i 0) ≡ h .later) × (i + getD extents i 0 ≤ recordCount b)
   past-node h = rw (x .each i l ∙ ap records (top-at b i (h .here))) (past-first b (x .simplifiable) i (node (h .own) (h .kids)) (h .later) (h .here))
+
+  pub extent-some : 0 < getD extents i 0
+  extent-some = omega (arith, x .each i l, some-records (subtree b i))
 
   pub past-inside : i + getD extents i 0 ≤ recordCount b
   past-inside = past-node (here-at b (x .simplifiable) i l) .1
