@@ -1,6 +1,6 @@
 -- The value that rule 4 puts in a node's place, and when the rule fits.
 use mathlib.Core.Path.{_≡_, refl, ap, sym, subst, _∙_}
-use mathlib.Core.Bool.{Bool, cond, true, false, not, _&&_}
+use mathlib.Core.Bool.{Bool, true, false, not, _&&_}
 use mathlib.Core.List.{List, _++_, append-nil}
 use mathlib.Core.Option.{some}
 use Prim.Native.Nat.{ℕ, _+_, _*_, _-_, _<_, _≤_}
@@ -13,7 +13,7 @@ use lib.Seq.{drop-drop}
 use Rattle.table.specs.Numbers.{mostDepth, mostRecords, recordLength}
 use Rattle.table.specs.Questions.{depth, listed}
 use Rattle.table.specs.Table.{childByte, encode, encodes, firstNode, recordBytes, recordCount}
-use Rattle.table.specs.Trees.{Forest, Tree, node, _▸_, records, recordsIn, size}
+use Rattle.table.specs.Trees.{Forest, node, _▸_, records, recordsIn, size}
 use Rattle.table.specs.Laws.Reading.{part-from}
 use Rattle.table.specs.Laws.RoundTrip.{drop-bytes}
 use Rattle.lists.specs.Pairs.{top}
@@ -28,7 +28,7 @@ use Rattle.simplify.specs.Rules.{isBlock, leaf, rule4, when}
 use Rattle.simplify.specs.Steps.{also}
 use Rattle.subtrees.specs.Facts.{Surveyed, marksEach, reachBelow, reachIn, symbols}
 use Rattle.subtrees.specs.Parts.{Simplifiable, treesAt}
-use Rattle.subtrees.specs.Laws.Facts.{closedIn-is}
+use Rattle.subtrees.specs.Laws.Facts.{closedIn-is, free-is}
 use Rattle.subtrees.specs.Laws.Forests.{Sound, encodes-⧺}
 use Rattle.subtrees.specs.Laws.Parts.{Here, few-records, here-at, length-is, past-node, records-at, tail-at, top-at}
 use Rattle.subtrees.specs.Laws.Records.{count-at, node-at}
@@ -67,14 +67,6 @@ module _ (b : List ℕ) (s : Simplifiable b) (i : ℕ) (l : i < recordCount b) w
       sym (first-top (is .proper)) ∙ ap top (is .pairs) ∙ first ∙ sym (ap beforeAt (h .here))
 
 -- ---- when the rule fits
-
-pub free-is : (t : Tree) → eqb (symbols t) 0 ≡ symbolFree t
-unfolding symbols
-free-is t = go (symbolFree t)
-  where
-    go : (x : Bool) → eqb (cond x 0 1) 0 ≡ x
-    go true = refl
-    go false = refl
 
 closed-kids : (n : Node) (f : Forest) → Sound (node n f) → closedIn (n .kind) f 0 ≡ leb (reachIn (n .kind) f) 0
 unfolding listed depth

@@ -3,12 +3,12 @@ use mathlib.Core.Path.{_≡_, refl, ap, ap₂, sym, subst, _∙_}
 use mathlib.Core.Bool.{Bool, true, false, not, cond, _&&_, _||_}
 use mathlib.Core.List.{List, [], _∷_, _++_, append-assoc, append-nil}
 use mathlib.Core.Option.{none, some}
-use Prim.Native.Nat.{ℕ, zero, suc, _+_, _*_, _-_, _<_, _≤_}
+use Prim.Native.Nat.{ℕ, suc, _+_, _*_, _-_, _<_, _≤_}
 use native.Mathlib.Numerals.{add-one}
 use native.Mathlib.Omega.{arith}
 use lib.Dec.{T, eqb, eqb→eq, eqb-refl, leb, leb→le, ltb}
 use lib.ListN.{drop, getD, length, length-drop, length-take}
-use lib.Seq.{drop-cons, getD-drop, getD-take}
+use lib.Seq.{drop-cons, drop-length, getD-drop, getD-take}
 use borrow.Author.Tests.{eq-eqb, le-leb, lt-leb, ltb-false, ltb-true, ne-eqb, not-false, not-true}
 use Rattle.booleans.specs.Laws.{T-is, both, is-T, join-and, same-test}
 use Rattle.booleans.specs.Tests.{_and_}
@@ -76,17 +76,15 @@ pub byte-other : (b : List ℕ) (i j n k : ℕ) → recordLength * (i + n) ≤ l
 unfolding _and_
 byte-other b i j n k l m h c e = sym (compare-step b i j n k l m h c ∙ rw (ne-eqb (getD b (recordLength * i + k) 0) (getD b (recordLength * j + k) 0) e) refl)
 
-drop-past : (l : List ℕ) (k : ℕ) → length l ≤ k → drop k l ≡ []
-drop-past [] zero h = refl
-drop-past [] (suc k) h = refl
-drop-past (x ∷ l) zero h = absurd (omega arith)
-drop-past (x ∷ l) (suc k) h = drop-past l k (omega arith)
+slice-end : (b : List ℕ) (i n k : ℕ) → recordLength * (i + n) ≤ length b → k ≡ recordLength * n → drop k (slice b i n) ≡ []
+slice-end b i n k l e = ap (λ m. drop m (slice b i n)) (e ∙ sym (slice-long b i n l)) ∙ drop-length (slice b i n)
 
 pub all-compared : (b : List ℕ) (i j n k : ℕ) → recordLength * (i + n) ≤ length b → recordLength * (j + n) ≤ length b → recordLength * n ≤ k → Compared b i j n k
     → true ≡ sameBytes (slice b i n) (slice b j n)
 unfolding sameBytes
 all-compared b i j n k l m h c =
-    sym (c .left ∙ rw (drop-past (slice b i n) k (rw (slice-long b i n l) h), drop-past (slice b j n) k (rw (slice-long b j n m) h)) refl)
+    let e : k ≡ recordLength * n = omega (arith, c .within) in
+    sym (c .left ∙ rw (slice-end b i n k l e, slice-end b j n k m e) refl)
 
 -- ---- two subtrees compared
 

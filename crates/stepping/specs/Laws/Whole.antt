@@ -1,17 +1,16 @@
 -- Rule 1: the whole table as one block.
 use mathlib.Core.Path.{_≡_, refl, ap, sym, _∙_}
 use mathlib.Core.Bool.{Bool, false, not, true}
-use mathlib.Core.List.{List, _++_, [], append-nil}
-use mathlib.Core.Option.{Option, none, some}
-use Prim.Native.Nat.{ℕ, _+_, _*_, _<_, _≤_}
+use mathlib.Core.List.{List, [], append-nil}
+use Prim.Native.Nat.{ℕ, _*_, _<_, _≤_}
 use native.Mathlib.Omega.{arith}
-use lib.Dec.{T, eqb}
+use lib.Dec.{eqb}
 use lib.ListN.{getD, length}
 use borrow.Author.Tests.{eq-eqb, ne-eqb}
 use Rattle.booleans.specs.Tests.{_and_}
 use Rattle.table.specs.Numbers.{mostDepth, mostRecords, recordLength}
-use Rattle.table.specs.Table.{decode, encode, encodes, recordBytes, recordCount, top}
-use Rattle.table.specs.Trees.{Forest, Tree, nil, _▸_, records, recordsIn, size}
+use Rattle.table.specs.Table.{decode, encode, encodes, recordBytes, recordCount}
+use Rattle.table.specs.Trees.{Tree, nil, _▸_, records, recordsIn, size}
 use Rattle.table.specs.Laws.RoundTrip.{length-encode}
 use Rattle.table.specs.Laws.Trees.{some-records}
 use Rattle.evaluate.specs.Closed.{symbolFree}
@@ -24,11 +23,11 @@ use Rattle.evaluate.specs.declared.Valued.{Valued}
 use Rattle.lists.specs.Pairs.{top as topPair}
 use Rattle.simplify.specs.Rules.{bare, leaf, rule1, when}
 use Rattle.simplify.specs.Steps.{also}
-use Rattle.subtrees.specs.Facts.{MarkedAt, marksEach, symbols}
+use Rattle.subtrees.specs.Facts.{MarkedAt, symbols}
 use Rattle.subtrees.specs.Parts.{Simplifiable, subtree}
-use Rattle.subtrees.specs.Laws.Parts.{few-records, length-is, root-at}
+use Rattle.subtrees.specs.Laws.Facts.{free-is}
+use Rattle.subtrees.specs.Laws.Parts.{few-records, length-is, root-at, top-at}
 use Rattle.rewrite.specs.Writing.{Wrote, front, nodeOf}
-use Rattle.rewrite.specs.Laws.Settled.{free-is}
 use Rattle.stepping.specs.Nodes.{Block, Plain, Unlimited}
 
 unfit : (t : Tree) (out : List ℕ) → (symbolFree t and not (bare t)) ≡ false → Wrote (also (λ u. u ▸ nil) (rule1 t)) 0 out
@@ -37,8 +36,7 @@ unfit t out e = rw e refl
 
 module _ (b : List ℕ) (s : Simplifiable b) where
   whole : subtree b 0 ≡ decode b
-  unfolding subtree top
-  whole = ap top (root-at b s)
+  whole = top-at b 0 (root-at b s)
 
   pub some-record : 0 < recordCount b
   some-record = omega (arith, length-encode (decode b), ap length (s .back), some-records (decode b))

@@ -185,3 +185,13 @@ all-children k f = more-children k f noChild (omega arith) ∙ none-before
 
         run-min : (n : ℕ) → n ≤ wholeRun → min wholeRun n ≡ n
         run-min n h = omega arith
+
+-- ---- symbols
+
+pub free-is : (t : Tree) → eqb (symbols t) 0 ≡ symbolFree t
+unfolding symbols
+free-is t = go (symbolFree t)
+  where
+    go : (x : Bool) → eqb (cond x 0 1) 0 ≡ x
+    go true = refl
+    go false = refl
