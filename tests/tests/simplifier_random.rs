@@ -242,22 +242,10 @@ fn crowded_lists_keep_their_figures() {
 
 #[test]
 fn deepest_tables_keep_their_figures() {
-    const FEW: Amounts = Amounts {
-        time: 3,
-        bound: 1,
-        limit: 2,
-        symbols: 5,
-    };
     let mut rng = Rng::new(306);
     let mut demand = Demand3::default();
     for _ in 0..4_000 {
-        let loops = rng.size(0..=8);
-        let mut tree = trees::spine(&mut rng, 32, loops);
-        let records = tree.records() + rng.size(0..=20);
-        trees::pad(&mut rng, &mut tree, records);
-        let wanted = rng.pick(&[0, 3, 30, 255]);
-        trees::put_limits(&mut rng, &mut tree, wanted);
-        FEW.set(&mut rng, &mut tree);
+        let tree = trees::deepest(&mut rng);
         let desks = desks(&mut rng);
         demand.compare(&mut rng, tree, &desks);
     }

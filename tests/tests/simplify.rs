@@ -118,21 +118,9 @@ fn crowded_lists() {
 
 #[test]
 fn deepest_tables() {
-    const FEW: Amounts = Amounts {
-        time: 3,
-        bound: 1,
-        limit: 2,
-        symbols: 5,
-    };
     let (mut rng, mut simplifications) = start(407);
     for _ in 0..2_000 {
-        let loops = rng.size(0..=8);
-        let mut tree = trees::spine(&mut rng, 32, loops);
-        let records = tree.records() + rng.size(0..=20);
-        trees::pad(&mut rng, &mut tree, records);
-        let wanted = rng.pick(&[0, 3, 30, 255]);
-        trees::put_limits(&mut rng, &mut tree, wanted);
-        FEW.set(&mut rng, &mut tree);
+        let tree = trees::deepest(&mut rng);
         simplifications.compare_some(tree);
     }
     simplifications.assert_rules(&[1, 2, 3, 4, 5, 6, 7, 9], 100);

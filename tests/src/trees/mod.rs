@@ -8,7 +8,7 @@ mod redundant;
 use crate::format::*;
 pub use amounts::Amounts;
 pub use random::{grow, loops_around, pad, put_limits, spine, within_limits, without_limits};
-pub use redundant::{crowded, redundant};
+pub use redundant::{crowded, deepest, redundant};
 
 #[derive(Clone, Copy, Debug, PartialEq, Eq)]
 pub enum Amount {

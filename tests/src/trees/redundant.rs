@@ -2,8 +2,8 @@
 //! loops that are never passed, choices whose alternatives end alike, and all of this with limits and
 //! symbols here and there.
 
-use super::random::{capacity, random_parts, sequence_or_choice, split};
-use super::{Amount, Kind, Limit, Tree};
+use super::random::{capacity, pad, put_limits, random_parts, sequence_or_choice, spine, split};
+use super::{Amount, Amounts, Kind, Limit, Tree};
 use crate::format::*;
 use crate::rng::Rng;
 use std::ops::RangeInclusive;
@@ -179,4 +179,22 @@ fn drop_heavy_limits(node: &mut Tree, around: usize, left: &mut u64) {
         let is_body = is_loop && place == 0;
         drop_heavy_limits(child, around + usize::from(is_body), left);
     }
+}
+
+/// A tree as deep as question 5 lets pass, with small numbers, so that rules fit at many depths.
+pub fn deepest(rng: &mut Rng) -> Tree {
+    const FEW: Amounts = Amounts {
+        time: 3,
+        bound: 1,
+        limit: 2,
+        symbols: 5,
+    };
+    let loops = rng.size(0..=8);
+    let mut tree = spine(rng, 32, loops);
+    let records = tree.records() + rng.size(0..=20);
+    pad(rng, &mut tree, records);
+    let wanted = rng.pick(&[0, 3, 30, 255]);
+    put_limits(rng, &mut tree, wanted);
+    FEW.set(rng, &mut tree);
+    tree
 }
