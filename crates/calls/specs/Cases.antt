@@ -28,32 +28,32 @@ use Rattle.calls.specs.Answers.{ceiling, ranged, question9, quoteOf, fig
 
 -- ---- trees, as the document writes them
 
-pub block : ℕ → Tree
+unfoldable pub block : ℕ → Tree
 block n = node (record { kind = Block (Plain n); limit = Unlimited }) nil
 
 -- a block whose time is a symbol
-pub symbol : ℕ → Tree
+unfoldable pub symbol : ℕ → Tree
 symbol s = node (record { kind = Block (Symbol s); limit = Unlimited }) nil
 
 infixl 60 _/_at_
 -- a/m@k
-pub _/_at_ : Tree → ℕ → ℕ → Tree
+unfoldable pub _/_at_ : Tree → ℕ → ℕ → Tree
 (node n f) / m at k = node (record { kind = n .kind; limit = AtMost k (Plain m) }) f
 
 -- (a, b, ..)
-pub sequence : Forest → Tree
+unfoldable pub sequence : Forest → Tree
 sequence f = node (record { kind = Sequence; limit = Unlimited }) f
 
 -- (a, b)
-pub both : Tree → Tree → Tree
+unfoldable pub both : Tree → Tree → Tree
 both a b = sequence (a ▸ b ▸ nil)
 
 -- C(a|b)
-pub either : Tree → Tree → Tree
+unfoldable pub either : Tree → Tree → Tree
 either a b = node (record { kind = Choice; limit = Unlimited }) (a ▸ b ▸ nil)
 
 -- a loop of this bound, its body and its exit
-pub loop : ℕ → Tree → Tree → Tree
+unfoldable pub loop : ℕ → Tree → Tree → Tree
 loop n b e = node (record { kind = Loop (Plain n); limit = Unlimited }) (b ▸ e ▸ nil)
 
 -- ---- what a case says

@@ -158,7 +158,7 @@ pub fn list(table: &[u8], values: &[u64], out: &mut [u64]) -> Listed
 // ---- Simplifying
 
 // Writes the first n bytes of a table over the front of a buffer.
-fn write_bytes(table: &[u8], n: usize, out: &mut [u8])
+pub fn write_bytes(table: &[u8], n: usize, out: &mut [u8])
     requires { ⌜ (n ≤ length (now table)) × (n ≤ length (now out)) ⌝ }
     ensures { λ _. ⌜ now (out .exit) ≡ over (take n (now (table .entry))) (now (out .entry)) ⌝ }
 {

@@ -169,7 +169,7 @@ pub fn put_node(out: &mut [u8], at: usize, kind: Kind, limit: Limit, count: u8) 
 // ---- Reading
 
 // The node at record p.
-fn node_at(table: &[u8], p: usize) -> Node
+pub fn node_at(table: &[u8], p: usize) -> Node
     requires { ⌜ p < recordCount (now table) ⌝ }
     ensures { λ r. ⌜ r ≡ firstNode (drop (recordLength * p) (now (table .entry))) ⌝ }
 {
@@ -178,7 +178,7 @@ fn node_at(table: &[u8], p: usize) -> Node
 }
 
 // How many children it has.
-fn children_at(table: &[u8], p: usize) -> usize
+pub fn children_at(table: &[u8], p: usize) -> usize
     requires { ⌜ p < recordCount (now table) ⌝ }
     ensures { λ r. ⌜ (r ≡ childByte (drop (recordLength * p) (now (table .entry)))) × (r < 256) ⌝ }
 {

@@ -308,7 +308,7 @@ pub struct Survey {
 }
 
 // The loops around a node's first child: a loop is around its body alone.
-fn loops_inside(kind: Kind, outer: u8) -> u8
+pub fn loops_inside(kind: Kind, outer: u8) -> u8
     requires { ⌜ outer ≤ mostLoops ⌝ }
     ensures { λ r. ⌜ r ≡ around kind outer ⌝ }
 {
@@ -412,7 +412,7 @@ impl Survey {
     }
 
     // The first of questions 5 to 7 that says no, or 0.
-    fn refusal(self) -> u64
+    pub fn refusal(self) -> u64
         ensures { λ r. ⌜ r ≡ surveyRefusal self ⌝ }
     {
         if self.fits {

@@ -172,7 +172,7 @@ whole-each : (p : List ℕ → Bool) → ((n : Node) (c : ℕ) (r : List ℕ) �
     → (t : Tree) → T (listed t) → T (each p (recordCount (encode t)) (encode t))
 whole-each p h t l = rw (count-records t) (rw (← append-nil (encode t)) (each-tree p h t l 0 [] (unfold each in tt)))
 
-whole-form : (t : Tree) → T (formTrees (recordCount (encode t)) 1 (encode t))
+pub whole-form : (t : Tree) → T (formTrees (recordCount (encode t)) 1 (encode t))
 whole-form t = rw (count-records t) (rw (← append-nil (encode t)) (subst T (sym (form-tree t 0 0 [])) (unfold formTrees in tt)))
 
 pub not-refused : (t : Tree) → Accepted t → refusal (encode t) ≡ 0

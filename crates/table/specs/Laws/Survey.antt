@@ -49,7 +49,7 @@ leb-max a b n = go (leb a n) (leb b n) refl refl
 
 -- ---- a node by itself
 
-around-rest : (k : Kind) (d : ℕ) → around (rest k) d ≡ d
+pub around-rest : (k : Kind) (d : ℕ) → around (rest k) d ≡ d
 unfolding around rest
 around-rest (Block v) d = refl
 around-rest Sequence d = refl
