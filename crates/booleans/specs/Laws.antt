@@ -14,6 +14,11 @@ unfolding _and_
 join-and true b t u = u
 join-and false b t u = absurd t
 
+pub and-false : (b : Bool) → (b and false) ≡ false
+unfolding _and_
+and-false true = refl
+and-false false = refl
+
 pub T-is : (b : Bool) → T b → b ≡ true
 T-is true h = refl
 T-is false h = absurd h

@@ -9,7 +9,7 @@ use lib.ListN.{length, getD, drop}
 use lib.Seq.{drop-cons, drop-length}
 use borrow.Author.Tests.{lt-ltb, le-ltb, le-leb, lt-leb, leb-true, leb-false, not-true, not-false}
 use Rattle.booleans.specs.Tests.{_and_}
-use Rattle.booleans.specs.Laws.{&&-both, is-T, same-test}
+use Rattle.booleans.specs.Laws.{&&-both, and-false, is-T, same-test}
 use Rattle.arguments.specs.declared.Allowance.{Allowance}
 use Rattle.arguments.specs.Allowances.{zeroDigit, nineDigit, isDigit, allDigits, numberFrom, mostSteps, isAllowance, allowanceAnswer}
 
@@ -40,11 +40,6 @@ one-read cs n i l h d = h ∙ rw (drop-cons cs i 0 l, d) refl
 pub other-character : (cs : List ℕ) (n i : ℕ) → i < length cs → Read cs n i → isDigit (getD cs i 0) ≡ false → Allowance.NoNumber ≡ allowanceAnswer cs
 unfolding readFrom allDigits numberFrom _and_
 other-character cs n i l h d = sym (h ∙ rw (drop-cons cs i 0 l, d) refl)
-
-and-false : (b : Bool) → (b and false) ≡ false
-unfolding _and_
-and-false true = refl
-and-false false = refl
 
 -- more digits stand for no less
 number-grows : (n : ℕ) (cs : List ℕ) → n ≤ numberFrom n cs

@@ -12,6 +12,7 @@ use Rattle.table.specs.Bytes.{AreBytes}
 use Rattle.table.specs.Table.{encode, decode, recordCount}
 use Rattle.table.specs.Questions.{Accepted}
 use Rattle.table.specs.Checking.{refusal}
+use Rattle.table.specs.Laws.Reading.{part-to}
 use Rattle.table.specs.Laws.RoundTrip.{length-encode}
 use Rattle.table.specs.Laws.Accepted.{IsTable, is-table}
 use Rattle.table.specs.Laws.NotRefused.{reads-back, not-refused}
@@ -20,7 +21,6 @@ use Rattle.evaluate.specs.Laws.Monotone.{figure-mono, fits-zeros}
 use Rattle.simplify.specs.Steps.{Made, isNone, step, steps}
 use Rattle.simplify.specs.Laws.Stepping.{Kept}
 use Rattle.simplify.specs.Laws.Stepwise.{steps-kept, steps-made, steps-within, steps-spent, steps-finished}
-use Rattle.stepping.specs.Laws.Budget.{part-is}
 use Rattle.calls.specs.declared.Checked.{Checked}
 use Rattle.calls.specs.declared.Quote.{Quote}
 use Rattle.calls.specs.declared.Simplified.{Simplified}
@@ -136,7 +136,7 @@ pub both-asked : (b : List ℕ) (n : ℕ) (v w out buffer : List ℕ) (checked :
     → k ≡ simplifiedLength answer → sales ≡ figureAnswer (take (k - 0) (drop 0 buffer)) w → Promises b v reception → Promises (take (k - 0) (drop 0 buffer)) w sales
     → Demand3 b n v w buffer checked answer reception sales × Asked b n v w out buffer checked answer reception sales
 both-asked b n v w out buffer checked answer reception sales k h c a o r e s p q =
-    let part : take (k - 0) (drop 0 buffer) ≡ soldBytes answer buffer = part-is buffer k ∙ ap (λ x. take x buffer) e in
+    let part : take (k - 0) (drop 0 buffer) ≡ soldBytes answer buffer = part-to buffer k ∙ ap (λ x. take x buffer) e in
     let lent : sales ≡ figureAnswer (soldBytes answer buffer) w = s ∙ ap (λ x. figureAnswer x w) part in (
       rw (lent, r, o, a, c) (demand3 b h n v w out),
       record { checks = c; simplifies = a; writes = o; quotes = r; sells = lent; promised = p; promisedSales = subst (λ x. Promises x w sales) part q },

@@ -8,7 +8,7 @@ use native.Mathlib.Omega.{arith}
 use lib.Dec.{T, le→leb, leb, leb→le}
 use lib.ListN.{drop, getD, length}
 use borrow.Author.Tests.{lt-leb, not-false, not-true}
-use Rattle.booleans.specs.Laws.{T-is, both, by-cond, by-conds, is-T}
+use Rattle.booleans.specs.Laws.{T-is, and-false, both, by-cond, by-conds, is-T}
 use Rattle.booleans.specs.Tests.{_and_}
 use Rattle.table.specs.Numbers.{mostTime, recordLength}
 use Rattle.table.specs.Questions.{kindInRange, listed, timeInRange}
@@ -29,7 +29,7 @@ use Rattle.rewrite.specs.Blocks.{Parted, Standing, baresAt, keptRecords,
 use Rattle.rewrite.specs.Children.{any, childAt, offset, wanted}
 use Rattle.rewrite.specs.Nodes.{Block, Choice, Kind, Limit, Loop, Node, Plain, Sequence, Symbol, Unlimited}
 use Rattle.rewrite.specs.Writing.{Wrote, front, nodeOf, ruleAt, slice}
-use Rattle.rewrite.specs.Laws.Records.{and-false, subtree-bytes, ⧺-assoc}
+use Rattle.rewrite.specs.Laws.Records.{subtree-bytes, ⧺-assoc}
 use Rattle.rewrite.specs.declared.Bares.{Bares}
 use Rattle.rewrite.specs.declared.Wanted.{Wanted}
 

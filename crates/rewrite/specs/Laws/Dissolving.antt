@@ -9,7 +9,7 @@ use lib.Dec.{T, leb, leb→le, le→leb}
 use lib.ListN.{drop}
 use borrow.Author.Tests.{lt-leb}
 use Rattle.booleans.specs.Tests.{_and_}
-use Rattle.booleans.specs.Laws.{T-is, both, is-T}
+use Rattle.booleans.specs.Laws.{and-false, T-is, both, is-T}
 use Rattle.table.specs.Numbers.{mostChildren, recordLength}
 use Rattle.table.specs.Table.{childByte, encodes, firstNode, recordBytes, recordCount, top}
 use Rattle.table.specs.Trees.{Forest, Tree, nil, node, _▸_, _⧺_, records, recordsIn, size}
@@ -24,7 +24,7 @@ use Rattle.rewrite.specs.Nodes.{Kind, Node}
 use Rattle.rewrite.specs.Children.{Left, any, childAt, dissolve, offset, wanted}
 use Rattle.rewrite.specs.declared.Wanted.{Wanted}
 use Rattle.rewrite.specs.Writing.{Wrote, front, ruleAt, slice}
-use Rattle.rewrite.specs.Laws.Records.{and-false, is-sum-at, it, rule-at, some-yes, unfit-at, wrote-as, zero-no, ⧺-assoc}
+use Rattle.rewrite.specs.Laws.Records.{is-sum-at, it, rule-at, some-yes, unfit-at, wrote-as, zero-no, ⧺-assoc}
 
 -- ---- the first tree of a row that passes a test
 

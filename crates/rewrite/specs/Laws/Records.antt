@@ -26,11 +26,6 @@ use Rattle.rewrite.specs.Writing.{Wrote, front, ruleAt, slice}
 
 -- ---- tests
 
-pub and-false : (x : Bool) → (x and false) ≡ false
-unfolding _and_
-and-false true = refl
-and-false false = refl
-
 pub zero-is : (n : ℕ) → eqb n 0 ≡ leb n 0
 zero-is zero = refl
 zero-is (suc n) = ne-eqb (suc n) 0 (λ e. omega arith) ∙ sym (lt-leb (suc n) 0 (omega arith))

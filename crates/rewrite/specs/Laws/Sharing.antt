@@ -10,7 +10,7 @@ use lib.Dec.{T, eqb, eqb→eq, eqb-refl, leb, leb→le, ltb}
 use lib.ListN.{drop, getD, length, length-drop, length-take}
 use lib.Seq.{drop-cons, drop-length, getD-drop, getD-take}
 use borrow.Author.Tests.{eq-eqb, le-leb, lt-leb, ltb-false, ltb-true, ne-eqb, not-false, not-true}
-use Rattle.booleans.specs.Laws.{T-is, both, is-T, join-and, same-test}
+use Rattle.booleans.specs.Laws.{T-is, and-false, both, is-T, join-and, same-test}
 use Rattle.booleans.specs.Tests.{_and_}
 use Rattle.evaluate.specs.Closed.{closed, isUnlimited}
 use Rattle.simplify.specs.Rules.{allPairs, children, firstOf, firsts, headOf, isPair, limitOf, rule8, secondOf, sharedOut, shares, tailOf, when}
@@ -29,7 +29,7 @@ use Rattle.subtrees.specs.Laws.Records.{count-at, kids-at, kind-at, node-at}
 use Rattle.rewrite.specs.Nodes.{Block, Choice, Kind, Limit, Loop, Node, Sequence, Unlimited}
 use Rattle.rewrite.specs.Sharing.{Appended, PairsAt, RoomFor, firstsAt, pairs, sameBytes, sharedAt, sharing, topBytes}
 use Rattle.rewrite.specs.Writing.{Wrote, front, nodeOf, ruleAt, slice}
-use Rattle.rewrite.specs.Laws.Records.{and-false, some-yes, subtree-bytes, subtree-sound, two-at, unfit-at, unlimited-at, wrote-as, zero-is, zero-no}
+use Rattle.rewrite.specs.Laws.Records.{some-yes, subtree-bytes, subtree-sound, two-at, unfit-at, unlimited-at, wrote-as, zero-is, zero-no}
 
 -- ---- bytes compared one by one
 

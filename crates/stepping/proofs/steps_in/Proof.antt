@@ -6,7 +6,8 @@ use borrow.Author.Needs.{needs}
 use lib.ListN.{length, take}
 use Rattle.table.specs.Numbers.{recordLength}
 use lib.Seq.{length-take-le}
-use Rattle.stepping.specs.Laws.Budget.{Stage, going-start, part-is, part-ready, stage-ends, stage-fewer, stage-next, stage-on, stage-short, turn-of, Turn}
+use Rattle.table.specs.Laws.Reading.{part-to}
+use Rattle.stepping.specs.Laws.Budget.{Stage, going-start, part-ready, stage-ends, stage-fewer, stage-next, stage-on, stage-short, turn-of, Turn}
 use Rattle.stepping.proofs.steps_in.Statement.{statement}
 use Rattle.stepping.proofs.steps_in.Tie as tie
 
@@ -38,7 +39,7 @@ loop-holds c =
     let call = c .before .before .before .before .before .before in
     let start = call .before .before .before .before .before .before .before .before .before .before in
     let a = start .args in
-    (record { going = going-start _ _ (start .pre .0); next = rw (part-is (a .work .now) (a .len)) at (call .step-onto .ensures); room = start .pre .1 .0 }, search needs, search needs, search needs, search needs)
+    (record { going = going-start _ _ (start .pre .0); next = rw (part-to (a .work .now) (a .len)) at (call .step-onto .ensures); room = start .pre .1 .0 }, search needs, search needs, search needs, search needs)
 
 -- what the function was given, at a turn
 abbrev from : (c : tie.Then1 Inv-loop μ-loop) → tie.Start Inv-loop μ-loop
@@ -102,7 +103,7 @@ loop-again c =
     let l = then .before .before .loop in
     let t = turn then in
     let g = stage-next _ _ _ _ _ _ _ _ (l .inv .0) (t .some) (t .more) _ _ (call .copy-records .ensures .0) (call .copy-records .ensures .1) in (
-      record { going = g; next = rw (part-is _ _) at (step .step-onto2 .ensures); room = omega (arith, call .copy-records .ensures .0, t .room, call .copy-records .kept) },
+      record { going = g; next = rw (part-to _ _) at (step .step-onto2 .ensures); room = omega (arith, call .copy-records .ensures .0, t .room, call .copy-records .kept) },
       omega (arith, call .copy-records .kept, l .inv .1),
       omega (arith, step .step-onto2 .kept, l .inv .2),
       omega (arith, step .step-onto2 .kept, l .inv .3),

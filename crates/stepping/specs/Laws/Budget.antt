@@ -13,8 +13,9 @@ use borrow.Author.Tests.{eqb-false, eqb-true, ltb-false, ltb-true}
 use Rattle.table.specs.Numbers.{recordLength}
 use Rattle.table.specs.Questions.{Accepted}
 use Rattle.table.specs.Table.{decode, encode, encodes, recordCount}
-use Rattle.table.specs.Trees.{Forest, Tree, nil, _▸_, records, recordsIn}
+use Rattle.table.specs.Trees.{Tree, nil, _▸_, records, recordsIn}
 use Rattle.table.specs.Laws.NotRefused.{reads-back}
+use Rattle.table.specs.Laws.Reading.{part-to}
 use Rattle.table.specs.Laws.RoundTrip.{length-encode}
 use Rattle.evaluate.specs.Evaluate.{fits, zeros}
 use Rattle.simplify.specs.Steps.{Made, also, isNone, onward, step, steps}
@@ -143,16 +144,12 @@ pub record Stage (b₀ : List ℕ) (n : ℕ) (work : List ℕ) (long k at m : �
   pub next : Rewritten (stepped (decode (take long work))) (take long work) at m out
   pub room : long ≤ length work
 
--- what `&work[0..n]` holds
-pub part-is : (work : List ℕ) (n : ℕ) → take (n - 0) (drop 0 work) ≡ take n work
-part-is work n = ap (λ k. take k work) (sub-zero n)
-
 -- a part of a buffer, ready for a step: facts, marks and a second buffer have room for a table of so many bytes
 pub part-ready : (work : List ℕ) (n bytes facts marks out : ℕ) → Simplifiable (take n work) → n ≤ length work → n ≤ bytes → bytes ≤ recordLength * facts → marksEach * bytes ≤ recordLength * marks → bytes ≤ out
     → let b = take (n - 0) (drop 0 work) in Simplifiable b × (((recordCount b ≤ facts) × (marksEach * recordCount b ≤ marks)) × (length b ≤ out))
 part-ready work n bytes facts marks out s l e f g h =
     let long = length-take-le n work l in
-    rw (part-is work n) (s, ((omega arith, omega arith), omega arith))
+    rw (part-to work n) (s, ((omega arith, omega arith), omega arith))
 
 module _ (b₀ : List ℕ) (n : ℕ) (work : List ℕ) (long k at m : ℕ) (out : List ℕ) (s : Stage b₀ n work long k at m out) where
   long-is : length (take long work) ≡ long

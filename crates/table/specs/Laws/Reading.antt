@@ -65,6 +65,10 @@ is-limit (suc k) m h = refl
 pub part-from : (b : List ℕ) (k : ℕ) → take (length b - k) (drop k b) ≡ drop k b
 part-from b k = take-all (length b - k) (drop k b) (rw length-drop (omega arith))
 
+-- what `&b[0..k]` holds
+pub part-to : (b : List ℕ) (k : ℕ) → take (k - 0) (drop 0 b) ≡ take k b
+part-to b k = ap (λ n. take n b) (sub-zero k)
+
 -- the part that starts at record i, as code that lends `&b[recordLength * i..]` has it
 abbrev pub partAt : List ℕ → ℕ → List ℕ
 partAt b i = take (length b - recordLength * i) (drop (recordLength * i) b)
@@ -81,7 +85,7 @@ next-part b i =
     let e : recordLength * (i + 1) ≡ recordLength * i + recordLength = omega arith in
     rw (e, drop-drop) refl
 
-none-left : (n i : ℕ) → n ≤ i → n - i ≡ 0
+pub none-left : (n i : ℕ) → n ≤ i → n - i ≡ 0
 none-left n i h = omega arith
 
 -- ---- a pass over the records with one test
