@@ -1,0 +1,82 @@
+use Prim.Native.Nat.{_*_, _+_, _≤_}
+use native.Mathlib.Omega.{arith}
+use borrow.Author.Needs.{needs}
+use Rattle.table.specs.Numbers.{mostRecords}
+use Rattle.table.specs.Table.{recordCount}
+use Rattle.graft.specs.Laws.Making.{made-all, made-long, made-room, product-small}
+use Rattle.graft.specs.Laws.Tables.{count-few, length-is}
+use Rattle.graft.proofs.make_graft.Statement.{statement}
+use Rattle.graft.proofs.make_graft.Tie as tie
+
+-- what it was lent
+abbrev start : tie.After-count-occurrences → tie.Start
+start c = c .before .before .before .before
+
+-- no more than the most records, each of them a block that so many more take the place of
+small : (c : tie.After-count-occurrences) → c .count-occurrences .result * (recordCount (start c .args .sent .now) + 1) ≤ mostRecords * (mostRecords + 1)
+small c =
+    let s = start c in
+    product-small (c .count-occurrences .result) (recordCount (s .args .sent .now)) (omega (arith, count-few (s .args .host .now) (s .pre .0), c .count-occurrences .ensures .1)) (count-few (s .args .sent .now) (s .pre .1 .0))
+
+count-occurrences-requires : tie.Need-count-occurrences-requires
+count-occurrences-requires c κs = search needs
+
+add-if1 : tie.Need-add-if1
+add-if1 c = search needs
+
+mul-if1 : tie.Need-mul-if1
+mul-if1 c = omega (arith, small c)
+
+add-if1-2 : tie.Need-add-if1-2
+add-if1-2 c = omega (arith, small c, count-few (start c .args .host .now) (start c .pre .0))
+
+returns : tie.Need-returns
+returns c = made-long _ _ _ (start (c .before) .pre .0) (start (c .before) .pre .1 .0) _ _ (c .before .count-occurrences .ensures .0) (c .if1 .taken)
+
+slice-aggregate-rename-all : tie.Need-slice-aggregate-rename-all
+slice-aggregate-rename-all c = search needs
+
+rename-all-requires : tie.Need-rename-all-requires
+rename-all-requires c κs =
+    let s = start (c .before .before) in
+    (s .pre .1 .0, omega (arith, length-is (s .args .sent .now) (s .pre .1 .0), count-few (s .args .sent .now) (s .pre .1 .0)))
+
+slice-aggregate-put-all : tie.Need-slice-aggregate-put-all
+slice-aggregate-put-all c = search needs
+
+put-all-requires : tie.Need-put-all-requires
+put-all-requires c κs =
+    let names = c .before .before .before in
+    let else = names .before .before in
+    let s = start (else .before) in
+    let a = s .args in
+    let room = made-room (a .host .now) (a .sent .now) (a .symbol) (s .pre .0) (s .pre .1 .0) _ (else .before .count-occurrences .ensures .0) (else .if1 .left) in
+    (omega (arith, names .rename-all .kept, count-few (a .sent .now) (s .pre .1 .0)), omega (arith, room, s .pre .1 .1))
+
+same-length : tie.Need-same-length
+same-length c = search needs
+
+returns-2 : tie.Need-returns-2
+returns-2 c =
+    let put = c .before .before in
+    let names = put .before .before .before .before in
+    let else = names .before .before in
+    let s = start (else .before) in
+    let a = s .args in
+    made-all (a .host .now) (a .sent .now) (a .symbol) (s .pre .0) (s .pre .1 .0) _ (else .before .count-occurrences .ensures .0) (else .if1 .left) _ _ _ (names .rename-all .ensures) (omega (arith, put .put-all .kept, s .pre .1 .1)) (put .put-all .ensures)
+
+pub make-graft-spec : {M : Type 1} → statement M
+make-graft-spec =
+    tie.close
+    (tie.spec
+    count-occurrences-requires
+    add-if1
+    mul-if1
+    add-if1-2
+    returns
+    slice-aggregate-rename-all
+    rename-all-requires
+    slice-aggregate-put-all
+    put-all-requires
+    same-length
+    returns-2)

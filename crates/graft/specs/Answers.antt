@@ -1,0 +1,49 @@
+-- Document 02, CR 1: what grafting answers for any input, and the bytes that it writes.
+use mathlib.Core.Bool.{Bool, cond, not}
+use mathlib.Core.List.{List, []}
+use Prim.Native.Nat.{ℕ}
+use lib.Dec.{eqb, leb, ltb}
+use lib.ListN.{length}
+use Rattle.booleans.specs.Tests.{_and_}
+use Rattle.table.specs.Numbers.{firstTimeSymbol, howManySymbols}
+use Rattle.table.specs.Table.{decode, encode}
+use Rattle.table.specs.Checking.{question1, question5, question7, refusal}
+use Rattle.graft.specs.Graft.{graft, uses}
+use Rattle.graft.specs.declared.Grafted.{Grafted}
+
+-- 11. the replaced symbol is 16 to 31, and the sent table does not use it
+unfoldable pub question11 : (sent : List ℕ) (symbol : ℕ) → Bool
+question11 b s = leb firstTimeSymbol s and ltb s howManySymbols and not (uses s (decode b))
+
+-- the result: the table of the grafted tree
+unfoldable pub graftTable : (host sent : List ℕ) (symbol : ℕ) → List ℕ
+graftTable h b s = encode (graft s (decode b) (decode h))
+
+-- 12. the result passes questions 1, 5 and 7
+unfoldable pub question12 : (result : List ℕ) → Bool
+question12 b = question1 b and question5 b and question7 b
+
+-- Questions 1 to 7 are all put to the host, then all to the sent table; then come the new questions, then question 8 for the result.
+unfoldable pub graftRefusal : (host sent : List ℕ) (symbol : ℕ) (out : List ℕ) → ℕ
+graftRefusal h b s out =
+    cond (eqb (refusal h) 0)
+    (cond (eqb (refusal b) 0)
+    (cond (question11 b s) (cond (question12 (graftTable h b s)) (cond (leb (length (graftTable h b s)) (length out)) 0 8) 12) 11)
+    (refusal b))
+    (refusal h)
+
+unfoldable pub graftAnswer : (host sent : List ℕ) (symbol : ℕ) (out : List ℕ) → Grafted
+graftAnswer h b s out = cond (eqb (graftRefusal h b s out) 0) (Grafted.Written (length (graftTable h b s))) (Grafted.Refused (graftRefusal h b s out))
+
+-- the bytes it writes: none where it is refused
+unfoldable pub graftWrites : (host sent : List ℕ) (symbol : ℕ) (out : List ℕ) → List ℕ
+graftWrites h b s out = cond (eqb (graftRefusal h b s out) 0) (graftTable h b s) []
+
+-- document 02's number for each case, 0 for none, and the result's length, 0 where it is refused
+unfoldable pub graftedRefusal : Grafted → ℕ
+graftedRefusal (Grafted.Written n) = 0
+graftedRefusal (Grafted.Refused q) = q
+
+unfoldable pub graftedLength : Grafted → ℕ
+graftedLength (Grafted.Written n) = n
+graftedLength (Grafted.Refused q) = 0

@@ -1,0 +1,117 @@
+-- The grafted figure equals the host's figure with the symbol set to the sent table's figure, on the figure call's answers.
+use mathlib.Core.Path.{_≡_, refl, ap, sym, subst, _∙_}
+use mathlib.Core.Bool.{Bool, true, false, cond}
+use mathlib.Core.List.{List, [], _∷_}
+use Prim.Native.Nat.{ℕ, zero, suc, _<_, _≤_, _+_}
+use native.Mathlib.Nat.{add-zero}
+use native.Mathlib.Omega.{arith}
+use lib.Dec.{T, eqb, eqb→eq, leb→le, ltb→lt, le→leb}
+use lib.ListN.{getD, length, length-set, set}
+use lib.Seq.{getD-set-other, getD-set-same}
+use borrow.Author.Tests.{eqb-true, eqb-false, le-ltb}
+use Rattle.booleans.specs.Laws.{both, join-and, T-is}
+use Rattle.table.specs.Numbers.{firstTimeSymbol, howManySymbols, howManyValues, mostTime}
+use Rattle.table.specs.Table.{decode, recordCount}
+use Rattle.table.specs.Trees.{Tree}
+use Rattle.table.specs.Checking.{refusal}
+use Rattle.table.specs.Laws.Accepted.{IsTable}
+use Rattle.evaluate.specs.Evaluate.{figure, fits, valuesOf}
+use Rattle.evaluate.specs.Laws.Ranges.{figure-most}
+use Rattle.calls.specs.Answers.{ceiling, checkAnswer, figureAnswer, question9, quotedFigure, quotedRefusal, quoteOf, ranged}
+use Rattle.calls.specs.declared.Checked.{Checked}
+use Rattle.calls.specs.Laws.Figures.{figure-is, figure-of, figured}
+use Rattle.graft.specs.Graft.{graft, uses}
+use Rattle.graft.specs.Answers.{graftTable, question11, question12}
+use Rattle.graft.specs.Promises.{GraftPromised, Quoted, hostValues}
+use Rattle.graft.specs.Laws.Grafted.{graft-figure, graft-fits, graft-needs, setValue}
+use Rattle.graft.specs.Laws.Tables.{accepted-table}
+use Rattle.graft.specs.Laws.Result.{result-accepted, result-reads, sent-is}
+
+-- ---- a desk's values with one of them set
+
+values-at : (vs : List ℕ) (s x : ℕ) → s < length vs → (k : ℕ) → valuesOf (set vs s x) k ≡ setValue (valuesOf vs) s x k
+unfolding setValue
+values-at vs s x l k = go (eqb k s) refl
+  where
+    go : (b : Bool) → eqb k s ≡ b → getD (set vs s x) k 0 ≡ cond b x (getD vs k 0)
+    go true e = ap (λ i. getD (set vs s x) i 0) (eqb-true k s e) ∙ getD-set-same vs s x 0 l
+    go false e = getD-set-other vs s k x 0 (eqb-false k s e)
+
+values-set : (vs : List ℕ) (s x : ℕ) → s < length vs → valuesOf (set vs s x) ≡ setValue (valuesOf vs) s x
+values-set vs s x l i k = values-at vs s x l k i
+
+ranged-set : (i : ℕ) (vs : List ℕ) (s x : ℕ) → x ≤ ceiling (i + s) → T (ranged i vs) → T (ranged i (set vs s x))
+unfolding ranged
+ranged-set i [] s x l h = h
+ranged-set i (y ∷ vs) zero x l h = join-and _ _ (le→leb x (ceiling i) (rw add-zero at l)) (both _ _ h .1)
+ranged-set i (y ∷ vs) (suc s) x l h =
+    let e : i + suc s ≡ suc i + s = omega arith in
+    let (a, b) = both _ _ h in
+    join-and _ _ a (ranged-set (suc i) vs s x (rw e at l) b)
+
+time-ceiling : (s : ℕ) → firstTimeSymbol ≤ s → ceiling (0 + s) ≡ mostTime
+unfolding ceiling
+time-ceiling s g = let e : 0 + s ≡ s = omega arith in rw (e, le-ltb s firstTimeSymbol g) refl
+
+set-allowed : (vs : List ℕ) (s x : ℕ) → firstTimeSymbol ≤ s → x ≤ mostTime → T (question9 vs) → T (question9 (set vs s x))
+unfolding question9
+set-allowed vs s x g l h =
+    let (a, b) = both _ _ h in
+    join-and _ _ (subst (λ k. T (eqb k howManyValues)) (sym (length-set vs s x)) a) (ranged-set 0 vs s x (omega (arith, time-ceiling s g)) b)
+
+-- ---- the three figures
+
+-- what the figure call answers of an accepted tree, with values that question 9 accepts
+quotes-alike : (vs ws : List ℕ) (t u : Tree) → question9 vs ≡ question9 ws → fits (valuesOf vs) t ≡ fits (valuesOf ws) u → figure (valuesOf vs) t ≡ figure (valuesOf ws) u → quoteOf vs t ≡ quoteOf ws u
+unfolding quoteOf
+quotes-alike vs ws t u a b c = rw (a, b, c) refl
+
+module _ (h b vs : List ℕ) (s : ℕ) (H : IsTable h) (B : IsTable b) (eleven : T (question11 b s)) (twelve : T (question12 (graftTable h b s))) where
+  -- what the figure call answers of the result
+  result-quoted : figureAnswer (graftTable h b s) vs ≡ quoteOf vs (graft s (decode b) (decode h))
+  result-quoted = figure-of (graftTable h b s) vs (result-accepted h b s H B twelve) ∙ ap (quoteOf vs) (result-reads h b s H B)
+
+  -- Where the sent table has a figure, the figure call answers of the result what it answers of the host with the symbol set to that figure.
+  pub graft-quoted : Quoted b vs → figureAnswer (graftTable h b s) vs ≡ figureAnswer h (hostValues b s vs)
+  unfolding question11
+  graft-quoted z =
+      let (nine, f, x) = figured b vs (accepted-table b B) z in
+      let (low, high) = both _ _ (both _ _ eleven .0) in
+      let g = leb→le firstTimeSymbol s low in
+      let o = sent-is h b s H B in
+      let l = H .accepted .listed in
+      let long : s < length vs = omega (arith, ltb→lt s howManySymbols high, eqb→eq (length vs) howManyValues (nine-long nine)) in
+      let w : valuesOf (hostValues b s vs) ≡ setValue (valuesOf vs) s (figure (valuesOf vs) (decode b)) =
+      ap (λ y. valuesOf (set vs s y)) x ∙ values-set vs s (figure (valuesOf vs) (decode b)) long in
+      let small : quotedFigure (figureAnswer b vs) ≤ mostTime = omega (arith, x, figure-most (valuesOf vs) (decode b) f) in
+      let same9 : question9 vs ≡ question9 (hostValues b s vs) = T-is _ nine ∙ sym (T-is _ (set-allowed vs s _ g small nine)) in
+      let fit : fits (valuesOf vs) (graft s (decode b) (decode h)) ≡ fits (valuesOf (hostValues b s vs)) (decode h) =
+      graft-fits (valuesOf vs) s g (decode b) o f (decode h) l ∙ ap (λ v. fits v (decode h)) (sym w) in
+      let fig : figure (valuesOf vs) (graft s (decode b) (decode h)) ≡ figure (valuesOf (hostValues b s vs)) (decode h) =
+      graft-figure (valuesOf vs) s g (decode b) o (decode h) l ∙ ap (λ v. figure v (decode h)) (sym w) in
+      result-quoted ∙ quotes-alike vs _ _ _ same9 fit fig ∙ sym (figure-of h _ (accepted-table h H))
+    where
+      nine-long : T (question9 vs) → T (eqb (length vs) howManyValues)
+      nine-long k = unfold question9 in both _ _ k .0
+
+  -- Where the host uses the symbol, a figure of the result means one of the sent table.
+  sent-quoted : T (uses s (decode h)) → Quoted (graftTable h b s) vs → Quoted b vs
+  unfolding quotedRefusal
+  sent-quoted u z =
+      let (nine, f, x) = figured (graftTable h b s) vs (result-accepted h b s H B twelve) z in
+      let fit = graft-needs (valuesOf vs) s (decode b) (sent-is h b s H B) (decode h) u (rw (result-reads h b s H B) at f) in
+      ap quotedRefusal (figure-of b vs (accepted-table b B) ∙ figure-is vs (decode b) nine fit)
+
+-- ---- the promise
+
+checked-accepted : (b : List ℕ) → refusal b ≡ 0 → checkAnswer b ≡ Checked.Accepted (recordCount b)
+unfolding checkAnswer
+checked-accepted b e = rw e refl
+
+pub graft-promised : (h b : List ℕ) (s : ℕ) → IsTable h → IsTable b → T (question11 b s) → T (question12 (graftTable h b s)) → GraftPromised h b s (graftTable h b s)
+graft-promised h b s H B eleven twelve = record {
+  checked = checked-accepted (graftTable h b s) (result-accepted h b s H B twelve);
+  figures = λ vs x y z. ap quotedFigure (graft-quoted h b vs s H B eleven twelve x);
+  answers = λ vs x. graft-quoted h b vs s H B eleven twelve x;
+  exist = λ u vs z. let x = sent-quoted h b vs s H B eleven twelve u z in (x, ap quotedRefusal (sym (graft-quoted h b vs s H B eleven twelve x)) ∙ z);
+}

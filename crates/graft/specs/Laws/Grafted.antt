@@ -1,0 +1,285 @@
+-- The grafted tree: the host's named loop, and the host's list with the symbol set to the sent tree's figure.
+use mathlib.Core.Path.{_≡_, refl, ap, ap₂, _∙_, sym, subst}
+use mathlib.Core.Bool.{Bool, true, false, cond, _||_}
+use Prim.Native.Nat.{ℕ, suc, min, _≤_}
+use native.Mathlib.Omega.{arith}
+use lib.Dec.{T, eqb, leb, ltb, eqb→eq, le→leb, ltb→lt}
+use borrow.Author.Tests.{eq-eqb, ne-eqb}
+use Rattle.graft.specs.Nodes.{Number, Plain, Symbol, Limit, Unlimited, AtMost, Kind, Block, Sequence, Choice, Loop}
+use Rattle.booleans.specs.Tests.{_and_}
+use Rattle.booleans.specs.Laws.{both, join-and, by-cond, or-else, is-T, T-is}
+use Rattle.table.specs.Numbers.{firstTimeSymbol, mostTime, wholeRun}
+use Rattle.table.specs.Trees.{Tree, node, Forest, nil, _▸_, size, rest, around}
+use Rattle.table.specs.Questions.{Accepted, arity, countInRange, kindInRange, limitInRange, listed, listedIn, nameOk, named, namedIn, timeInRange}
+use Rattle.lists.specs.Streams.{Stream, S, add, cap, const, group, shift}
+use Rattle.evaluate.specs.Evaluate.{Values, amount, before, figure, fits, fitsIn, inner, join, limit, list, name, nameIn, rounds, seen, start, turns}
+use Rattle.evaluate.specs.Closed.{stays, closed, closedIn}
+use Rattle.evaluate.specs.Laws.Evaluator.{Fair}
+use Rattle.evaluate.specs.Laws.Ranges.{figure-most}
+use Rattle.evaluate.specs.Laws.Constant.{closedIn-const, closedIn-run}
+use Rattle.graft.specs.Graft.{graft, graftIn, inPlace, isSymbol, rename, uses, usesIn, zeroBlock}
+use Rattle.graft.specs.Laws.Renamed.{rename-closed, rename-fits, rename-list, rename-listed, rename-named}
+
+-- what is asked of a sent tree
+pub accepted-fair : (u : Tree) → Accepted u → Fair u 0
+accepted-fair u a = record { listed = a .listed; nested = a .nested; named = a .named; weighed = a .weighed }
+
+-- the children of the loop that is put in place
+abbrev placed : Tree → Forest
+placed u = rename u 0 ▸ zeroBlock ▸ nil
+
+placed-closed : (u : Tree) → Fair u 0 → T (closedIn (Loop (Plain 1)) (placed u) 0)
+unfolding closed stays around rest
+placed-closed u s = join-and _ _ (rename-closed u 0 (s .listed) (s .nested) (s .named)) (unfold _and_ in tt)
+
+-- a block with the symbol has no children
+pub symbol-only : (s : ℕ) (k : Kind) (f : Forest) → T (isSymbol s k) → T (arity k (size f)) → (k ≡ Block (Symbol s)) × (f ≡ nil)
+unfolding isSymbol arity size
+symbol-only s (Block (Plain n)) f h a = absurd h
+symbol-only s (Block (Symbol k)) nil h a = (ap (λ x. Block (Symbol x)) (eqb→eq k s h), refl)
+symbol-only s (Block (Symbol k)) (t ▸ f) h a = let e : suc (size f) ≡ 0 = eqb→eq (suc (size f)) 0 a in absurd (omega arith)
+symbol-only s Sequence f h a = absurd h
+symbol-only s Choice f h a = absurd h
+symbol-only s (Loop n) f h a = absurd h
+
+-- it names the whole run, and its list repeats the symbol's value
+symbol-alone : (s : ℕ) (k : Kind) (f : Forest) → T (isSymbol s k) → T (arity k (size f)) → (nameIn k f ≡ wholeRun) × ((v : Values) → before v k f ≡ const (v s))
+unfolding name list start amount
+symbol-alone s k f h a = let (x, y) = symbol-only s k f h a in (ap₂ nameIn x y, λ v. ap₂ (before v) x y)
+
+-- ---- names
+
+place-name : (u : Tree) (l : Limit) → Fair u 0 → name (inPlace u l) ≡ inner l wholeRun
+unfolding inPlace name
+place-name u l s = ap (inner l) (closedIn-run (Loop (Plain 1)) (placed u) (placed-closed u s))
+
+module _ (s : ℕ) (u : Tree) (o : Fair u 0) where
+  mutual
+    unfolding graft listed name
+
+    pub graft-name : (t : Tree) → T (listed t) → name (graft s u t) ≡ name t
+    graft-name (node n f) h =
+        let (p, c) = both _ _ h in
+        by-cond (λ t. name t ≡ inner (n .limit) (nameIn (n .kind) f)) (isSymbol s (n .kind)) _ _
+        (λ b. place-name u (n .limit) o ∙ ap (inner (n .limit)) (sym (symbol-alone s (n .kind) f b (both _ _ p .1) .0)))
+        (λ e. ap (inner (n .limit)) (graftIn-name (n .kind) f c))
+
+    pub graftIn-name : (k : Kind) (f : Forest) → T (listedIn f) → nameIn k (graftIn s u f) ≡ nameIn k f
+    graftIn-name k nil h = refl
+    graftIn-name k (t ▸ f) h = let (a, b) = both _ _ h in ap₂ (λ x y. min (seen k x) y) (graft-name t a) (graftIn-name (rest k) f b)
+
+-- ---- lists
+
+first-turn : (k : ℕ) (f : Stream) → rounds k 1 f 0 ≡ f 0
+unfolding rounds const
+first-turn k f = by-cond (λ (g : Stream). g 0 ≡ f 0) (leb k 1) (const (group 1 f 0)) (group 1 f) (λ h. one) (λ h. one)
+  where
+    one : group 1 f 0 ≡ f 0
+    one = unfold group S shift in omega arith
+
+-- the loop's first member before its limit is the sent tree's figure
+place-first : (v : Values) (u : Tree) → Fair u 0 → before v (Loop (Plain 1)) (placed u) 0 ≡ figure v u
+unfolding list join add turns amount rest start const figure limit
+place-first v u s =
+    let e = first-turn (name (rename u 0)) (list v (rename u 0)) in
+    let q = ap (λ f. f 0) (rename-list v u 0 (s .nested) (s .named)) in
+    omega (arith, e, q)
+
+place-list : (v : Values) (u : Tree) (l : Limit) → Fair u 0 → list v (inPlace u l) ≡ limit v l (const (figure v u))
+unfolding inPlace list
+place-list v u l s =
+    ap (limit v l) (closedIn-const v (Loop (Plain 1)) (placed u) (placed-closed u s) ∙ ap const (place-first v u s))
+
+-- ---- values that agree but for symbol s: of symbols from 16 on, only times read them
+
+module _ (v w : Values) (s : ℕ) (h : firstTimeSymbol ≤ s) (same : (k : ℕ) → eqb k s ≡ false → v k ≡ w k) where
+  amount-but : (m : Number) → T (countInRange m) → amount v m ≡ amount w m
+  unfolding amount countInRange
+  amount-but (Plain n) r = refl
+  amount-but (Symbol k) r = same k (ne-eqb k s (λ e. omega (arith, ltb→lt k firstTimeSymbol r)))
+
+  limit-but : (l : Limit) (f : Stream) → T (limitInRange l) → limit v l f ≡ limit w l f
+  unfolding limit limitInRange
+  limit-but Unlimited f r = refl
+  limit-but (AtMost k m) f r = ap (λ n. cap n f) (amount-but m (both _ _ r .1))
+
+  start-but : (k : Kind) → T (kindInRange k) → isSymbol s k ≡ false → start v k ≡ start w k
+  unfolding start isSymbol amount
+  start-but (Block (Plain n)) r e = refl
+  start-but (Block (Symbol k)) r e = ap const (same k e)
+  start-but Sequence r e = refl
+  start-but Choice r e = refl
+  start-but (Loop n) r e = refl
+
+  turns-but : (k : Kind) (i : ℕ) (f : Stream) → T (kindInRange k) → turns v k i f ≡ turns w k i f
+  unfolding turns kindInRange
+  turns-but (Block t) i f r = refl
+  turns-but Sequence i f r = refl
+  turns-but Choice i f r = refl
+  turns-but (Loop n) i f r = ap (λ m. rounds i m f) (amount-but n r)
+
+-- the values with symbol s set to x
+unfoldable pub setValue : Values → (s x : ℕ) → Values
+setValue v s x k = cond (eqb k s) x (v k)
+
+pub set-other : (v : Values) (s x k : ℕ) → eqb k s ≡ false → v k ≡ setValue v s x k
+unfolding setValue
+set-other v s x k e = rw e refl
+
+rest-in-range : (k : Kind) → T (kindInRange (rest k))
+unfolding kindInRange rest
+rest-in-range (Block t) = tt
+rest-in-range Sequence = tt
+rest-in-range Choice = tt
+rest-in-range (Loop n) = tt
+
+rest-no-symbol : (s : ℕ) (k : Kind) → isSymbol s (rest k) ≡ false
+unfolding isSymbol rest
+rest-no-symbol s (Block t) = refl
+rest-no-symbol s Sequence = refl
+rest-no-symbol s Choice = refl
+rest-no-symbol s (Loop n) = refl
+
+set-there : (v : Values) (s x : ℕ) → setValue v s x s ≡ x
+unfolding setValue
+set-there v s x = rw (eq-eqb s s refl) refl
+
+module _ (v : Values) (s : ℕ) (g : firstTimeSymbol ≤ s) (u : Tree) (o : Fair u 0) where
+  mutual
+    unfolding graft listed list
+
+    -- the grafted tree's list is the host's with the symbol set to the sent tree's figure
+    pub graft-list : (t : Tree) → T (listed t) → list v (graft s u t) ≡ list (setValue v s (figure v u)) t
+    graft-list (node n f) h =
+        let (p, c) = both _ _ h in
+        let (q, a) = both _ _ p in
+        let (k, l) = both _ _ q in
+        by-cond (λ t. list v t ≡ limit (setValue v s (figure v u)) (n .limit) (before (setValue v s (figure v u)) (n .kind) f)) (isSymbol s (n .kind)) _ _
+        (λ b.
+        place-list v u (n .limit) o ∙ limit-but v (setValue v s (figure v u)) s g (set-other v s (figure v u)) (n .limit) _ l
+        ∙ ap (limit (setValue v s (figure v u)) (n .limit)) (ap const (sym (set-there v s (figure v u))) ∙ sym (symbol-alone s (n .kind) f b a .1 (setValue v s (figure v u)))))
+        (λ e. limit-but v (setValue v s (figure v u)) s g (set-other v s (figure v u)) (n .limit) _ l ∙ ap (limit (setValue v s (figure v u)) (n .limit)) (graft-before (n .kind) f k e c))
+
+    pub graft-before : (k : Kind) (f : Forest) → T (kindInRange k) → isSymbol s k ≡ false → T (listedIn f) → before v k (graftIn s u f) ≡ before (setValue v s (figure v u)) k f
+    graft-before k nil r e h = start-but v (setValue v s (figure v u)) s g (set-other v s (figure v u)) k r e
+    graft-before k (t ▸ f) r e h =
+        let (a, b) = both _ _ h in
+        ap₂ (join k)
+        (turns-but v (setValue v s (figure v u)) s g (set-other v s (figure v u)) k _ _ r ∙ ap₂ (turns (setValue v s (figure v u)) k) (graft-name s u o t a) (graft-list t a))
+        (graft-before (rest k) f (rest-in-range k) (rest-no-symbol s k) b)
+
+  -- the grafted figure equals the host's figure with the symbol set to the sent tree's figure
+  pub graft-figure : (t : Tree) → T (listed t) → figure v (graft s u t) ≡ figure (setValue v s (figure v u)) t
+  unfolding figure
+  graft-figure t h = ap (λ f. f 0) (graft-list t h)
+
+-- ---- question 10
+
+zero-fits : (v : Values) → T (fits v zeroBlock and true)
+unfolding fits list start amount const _and_
+zero-fits v = tt
+
+place-fits : (v : Values) (u : Tree) (l : Limit) → Fair u 0 → T (fits v u) → T (fits v (inPlace u l))
+unfolding inPlace fits
+place-fits v u l s h =
+    join-and _ _ (subst (λ x. T (leb x mostTime)) (sym (place-first v u s)) (le→leb _ _ (figure-most v u h)))
+    (join-and _ _ (is-T _ (rename-fits v u 0 (s .nested) (s .named) ∙ T-is _ h)) (zero-fits v))
+
+symbol-fits : (w : Values) (s : ℕ) (k : Kind) (f : Forest) → T (isSymbol s k) → T (arity k (size f)) → w s ≤ mostTime → T (leb (before w k f 0) mostTime and fitsIn w f)
+unfolding fits const
+symbol-fits w s k f h a l =
+    let first : before w k f 0 ≡ w s = ap (λ (g : Stream). g 0) (symbol-alone s k f h a .1 w) in
+    join-and _ _ (le→leb (before w k f 0) mostTime (omega (arith, first))) (subst (λ (g : Forest). T (fitsIn w g)) (sym (symbol-only s k f h a .1)) tt)
+
+module _ (v : Values) (s : ℕ) (g : firstTimeSymbol ≤ s) (u : Tree) (o : Fair u 0) (y : T (fits v u)) where
+  set-low : setValue v s (figure v u) s ≤ mostTime
+  set-low = omega (arith, set-there v s (figure v u), figure-most v u y)
+
+  mutual
+    unfolding graft listed fits
+
+    -- where question 10 says yes to the sent tree, it says of the grafted tree what it says of the host
+    pub graft-fits : (t : Tree) → T (listed t) → fits v (graft s u t) ≡ fits (setValue v s (figure v u)) t
+    graft-fits (node n f) h =
+        let (p, c) = both _ _ h in
+        let (q, a) = both _ _ p in
+        by-cond (λ t. fits v t ≡ (leb (before (setValue v s (figure v u)) (n .kind) f 0) mostTime and fitsIn (setValue v s (figure v u)) f)) (isSymbol s (n .kind)) _ _
+        (λ b. T-is _ (place-fits v u (n .limit) o y) ∙ sym (T-is _ (symbol-fits (setValue v s (figure v u)) s (n .kind) f b a set-low)))
+        (λ e. ap₂ _and_ (ap (λ k. leb (k 0) mostTime) (graft-before v s g u o (n .kind) f (both _ _ q .0) e c)) (graftIn-fits f c))
+
+    graftIn-fits : (f : Forest) → T (listedIn f) → fitsIn v (graftIn s u f) ≡ fitsIn (setValue v s (figure v u)) f
+    graftIn-fits nil h = refl
+    graftIn-fits (t ▸ f) h = let (a, b) = both _ _ h in ap₂ _and_ (graft-fits t a) (graftIn-fits f b)
+
+either : (a b : Bool) {Q : Type 0} → T (a || b) → (T a → Q) → (T b → Q) → Q
+either true b h f g = f tt
+either false b h f g = g h
+
+module _ (v : Values) (s : ℕ) (u : Tree) (o : Fair u 0) where
+  mutual
+    unfolding graft uses inPlace fits
+
+    -- where the host uses the symbol, question 10 says yes to the grafted tree only if it does to the sent tree
+    pub graft-needs : (t : Tree) → T (uses s t) → T (fits v (graft s u t)) → T (fits v u)
+    graft-needs (node n f) h =
+        by-cond (λ t. T (fits v t) → T (fits v u)) (isSymbol s (n .kind)) _ _
+        (λ b y. subst T (rename-fits v u 0 (o .nested) (o .named)) (both _ _ (both _ _ y .1) .0))
+        (λ e y. graftIn-needs f (or-else (isSymbol s (n .kind)) (usesIn s f) h e) (both _ _ y .1))
+
+    graftIn-needs : (f : Forest) → T (usesIn s f) → T (fitsIn v (graftIn s u f)) → T (fits v u)
+    graftIn-needs nil h y = absurd h
+    graftIn-needs (t ▸ f) h y = let (a, b) = both _ _ y in either (uses s t) (usesIn s f) h (λ x. graft-needs t x a) (λ x. graftIn-needs f x b)
+
+-- ---- questions 2, 3 and 6: always yes
+
+zero-listed : T (listed zeroBlock and true)
+unfolding listed kindInRange timeInRange limitInRange arity size _and_
+zero-listed = tt
+
+zero-named : (d : ℕ) → T (named zeroBlock d and true)
+unfolding named nameOk _and_
+zero-named d = tt
+
+place-listed : (u : Tree) (l : Limit) → Fair u 0 → T (limitInRange l) → T (listed (inPlace u l))
+unfolding inPlace listed kindInRange countInRange timeInRange limitInRange arity size
+place-listed u l s h =
+    join-and _ _ (join-and _ _ (join-and _ _ tt h) tt) (join-and _ _ (rename-listed u 0 (s .nested) (s .weighed) (s .listed)) zero-listed)
+
+place-named : (u : Tree) (l : Limit) (d : ℕ) → Fair u 0 → T (nameOk l d) → T (named (inPlace u l) d)
+unfolding inPlace named around rest nameOk
+place-named u l d s h = join-and _ _ h (join-and _ _ (rename-named u 0 (suc d) (omega arith) (s .named)) (zero-named d))
+
+pub size-grafted : (s : ℕ) (u : Tree) (f : Forest) → size (graftIn s u f) ≡ size f
+unfolding size graft
+size-grafted s u nil = refl
+size-grafted s u (t ▸ f) = ap suc (size-grafted s u f)
+
+module _ (s : ℕ) (u : Tree) (o : Fair u 0) where
+  mutual
+    unfolding graft listed
+
+    pub graft-listed : (t : Tree) → T (listed t) → T (listed (graft s u t))
+    graft-listed (node n f) h =
+        let (p, c) = both _ _ h in
+        let (q, a) = both _ _ p in
+        by-cond (λ t. T (listed t)) (isSymbol s (n .kind)) _ _
+        (λ b. place-listed u (n .limit) o (both _ _ q .1))
+        (λ e. join-and _ _ (join-and _ _ q (rw (size-grafted s u f) a)) (graftIn-listed f c))
+
+    graftIn-listed : (f : Forest) → T (listedIn f) → T (listedIn (graftIn s u f))
+    graftIn-listed nil h = tt
+    graftIn-listed (t ▸ f) h = let (a, b) = both _ _ h in join-and _ _ (graft-listed t a) (graftIn-listed f b)
+
+  mutual
+    unfolding graft named
+
+    pub graft-named : (t : Tree) (d : ℕ) → T (named t d) → T (named (graft s u t) d)
+    graft-named (node n f) d h =
+        let (a, b) = both _ _ h in
+        by-cond (λ t. T (named t d)) (isSymbol s (n .kind)) _ _
+        (λ c. place-named u (n .limit) d o a)
+        (λ e. join-and _ _ a (graftIn-named (n .kind) f d b))
+
+    graftIn-named : (k : Kind) (f : Forest) (d : ℕ) → T (namedIn k f d) → T (namedIn k (graftIn s u f) d)
+    graftIn-named k nil d h = tt
+    graftIn-named k (t ▸ f) d h = let (a, b) = both _ _ h in join-and _ _ (graft-named t (around k d) a) (graftIn-named (rest k) f d b)

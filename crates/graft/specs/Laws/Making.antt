@@ -1,0 +1,97 @@
+-- The program's pieces on accepted tables: the count and the splice.
+use mathlib.Core.Path.{_≡_, refl, ap, ap₂, sym, _∙_}
+use mathlib.Core.Bool.{false, not, _&&_}
+use mathlib.Core.List.{List, [], _++_, append-nil}
+use Prim.Native.Nat.{ℕ, zero, suc, _+_, _*_, _%_, _<_, _≤_}
+use native.Mathlib.Nat.{add-zero, mul-le-mul-left, mul-le-mul-right, le-trans}
+use native.Mathlib.Omega.{arith}
+use lib.Dec.{eqb, leb, ltb}
+use lib.ListN.{length}
+use borrow.Author.Tests.{lt-leb, lt-ltb, ne-eqb}
+use Rattle.booleans.specs.Tests.{_and_}
+use Rattle.booleans.specs.Laws.{and-false, and-is}
+use Rattle.table.specs.Numbers.{firstTimeSymbol, howManySymbols, mostRecords, recordLength}
+use Rattle.table.specs.Questions.{listed}
+use Rattle.table.specs.Table.{decode, encode, recordCount}
+use Rattle.table.specs.Trees.{Tree, records}
+use Rattle.table.specs.Checking.{question1}
+use Rattle.table.specs.Laws.Accepted.{IsTable}
+use Rattle.table.specs.Laws.RoundTrip.{length-encode}
+use Rattle.table.specs.Laws.Trees.{some-records}
+use Rattle.rewrite.specs.Writing.{front}
+use Rattle.graft.specs.Graft.{graft, rename, uses}
+use Rattle.graft.specs.Answers.{graftTable, question11, question12}
+use Rattle.graft.specs.Splice.{GraftMade, occurrences, occurrencesIn, splice, spliceRecords}
+use Rattle.graft.specs.Laws.Tables.{count-is, whole-table}
+use Rattle.graft.specs.Laws.Splice.{occurrences-tree, graft-records, splice-tree, uses-occurrences}
+
+module _ (h : List ℕ) (t : IsTable h) where
+  pub splice-table : (s : ℕ) (u : Tree) → splice s (encode (rename u 0)) (recordCount h) h ≡ encode (graft s u (decode h))
+  splice-table s u =
+      let e = splice-tree s u (decode h) (t .accepted .listed) 0 [] in
+      sym (ap₂ (splice s (encode (rename u 0))) (add-zero _ ∙ sym (count-is h t)) (whole-table h t)) ∙ e ∙ none s (encode (rename u 0)) (encode (graft s u (decode h)))
+    where
+      none : (s : ℕ) (body x : List ℕ) → x ++ splice s body 0 [] ≡ x
+      none s body x = unfold splice in append-nil x
+
+  pub occurrences-table : (s : ℕ) → occurrencesIn s (recordCount h) h ≡ occurrences s (decode h)
+  occurrences-table s = sym (ap₂ (occurrencesIn s) (add-zero _ ∙ sym (count-is h t)) (whole-table h t)) ∙ occurrences-tree s (decode h) (t .accepted .listed) 0 [] ∙ none s (occurrences s (decode h))
+    where
+      none : (s x : ℕ) → x + occurrencesIn s 0 [] ≡ x
+      none s x = unfold occurrencesIn in add-zero x
+
+  pub long-table : (s : ℕ) (u : Tree) → spliceRecords s (records u) (recordCount h) h ≡ records (graft s u (decode h))
+  unfolding spliceRecords
+  long-table s u = rw (occurrences-table s) (omega (arith, count-is h t, graft-records s u (decode h) (t .accepted .listed)))
+
+-- ---- question 11
+
+-- the program's count answers whether the sent table uses the symbol
+pub uses-none : (b : List ℕ) → IsTable b → (s count : ℕ) → count ≡ occurrencesIn s (recordCount b) b → eqb count 0 ≡ not (uses s (decode b))
+uses-none b t s count e = go count (e ∙ occurrences-table b t s)
+  where
+    go : (k : ℕ) → k ≡ occurrences s (decode b) → eqb k 0 ≡ not (uses s (decode b))
+    go zero q = rw (uses-occurrences s (decode b), ← q) refl
+    go (suc k) q = rw (uses-occurrences s (decode b), ← q, lt-ltb 0 (suc k) (omega arith), ne-eqb (suc k) 0 (omega arith)) refl
+
+pub asked-11 : (b : List ℕ) → IsTable b → (s count : ℕ) → count ≡ occurrencesIn s (recordCount b) b → (leb firstTimeSymbol s && ltb s howManySymbols && eqb count 0) ≡ question11 b s
+unfolding question11
+asked-11 b t s count e = rw (and-is, and-is, uses-none b t s count e) refl
+
+-- ---- the result
+
+pub product-small : (a b : ℕ) → a ≤ mostRecords → b ≤ mostRecords → a * (b + 1) ≤ mostRecords * (mostRecords + 1)
+product-small a b h i = let j : b + 1 ≤ mostRecords + 1 = omega arith in le-trans (mul-le-mul-right (b + 1) h) (mul-le-mul-left mostRecords j)
+
+long-asked : (x : List ℕ) → recordLength * mostRecords < length x → question12 x ≡ false
+unfolding question12 question1 _and_
+long-asked x l = rw (lt-leb (length x) (recordLength * mostRecords) l, and-false (eqb (length x % recordLength) 0 and leb recordLength (length x))) refl
+
+module _ (h b : List ℕ) (s : ℕ) (H : IsTable h) (B : IsTable b) where
+  result-records : records (graft s (decode b) (decode h)) ≡ recordCount h + occurrencesIn s (recordCount h) h * suc (recordCount b)
+  result-records =
+      graft-records s (decode b) (decode h) (H .accepted .listed) ∙ rw (← count-is h H, ← count-is b B, ← occurrences-table h H s) refl
+
+  -- more than 512 records fail question 1
+  pub made-long : (work : List ℕ) (count : ℕ) → count ≡ occurrencesIn s (recordCount h) h → mostRecords < recordCount h + count * (recordCount b + 1) → GraftMade h b s 0 work
+  unfolding graftTable
+  made-long work count e l = record {
+    long = λ z. long-asked (encode (graft s (decode b) (decode h))) (rw length-encode (omega (arith, result-records, rw e at l)));
+    bytes = λ z. absurd (z refl);
+    room = omega arith;
+  }
+
+  module _ (count : ℕ) (e : count ≡ occurrencesIn s (recordCount h) h) (l : recordCount h + count * (recordCount b + 1) ≤ mostRecords) where
+    pub made-room : spliceRecords s (recordCount b) (recordCount h) h ≤ mostRecords
+    made-room = rw (count-is b B) (omega (arith, long-table h H s (decode b), result-records, rw e at l))
+
+    pub made-all : (body work : List ℕ) (r : ℕ) → front (recordCount b) body ≡ encode (rename (decode b) 0) → length work ≡ recordLength * mostRecords
+        → (r ≡ spliceRecords s (recordCount b) (recordCount h) h) × (front r work ≡ splice s (front (recordCount b) body) (recordCount h) h) → GraftMade h b s r work
+    unfolding graftTable
+    made-all body work r f w (x, y) =
+        let n : r ≡ records (graft s (decode b) (decode h)) = x ∙ ap (λ m. spliceRecords s m (recordCount h) h) (count-is b B) ∙ long-table h H s (decode b) in
+        record {
+          long = λ z. absurd (omega (arith, n, some-records (graft s (decode b) (decode h))));
+          bytes = λ z. y ∙ ap (λ (c : List ℕ). splice s c (recordCount h) h) f ∙ splice-table h H s (decode b);
+          room = omega (arith, x, made-room);
+        }
