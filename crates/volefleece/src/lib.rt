@@ -4,7 +4,9 @@ use calls::Ending;
 use calls::Listed;
 use calls::Quote;
 use calls::Simplified;
+use graft::Grafted;
 ghost use mathlib.Core.Path.{_≡_};
+ghost use lib.ListN.{take};
 ghost use Rattle.calls.specs.Answers.{checkAnswer, checkedRefusal, checkedRecords};
 ghost use Rattle.calls.specs.Answers.{figureAnswer, quotedRefusal, quotedFigure};
 ghost use Rattle.calls.specs.Promises.{Promised};
@@ -12,6 +14,8 @@ ghost use Rattle.evaluate.specs.Evaluate.{valuesOf};
 ghost use Rattle.table.specs.Table.{decode};
 ghost use Rattle.calls.specs.Answers.{listAnswer, listedRefusal, listedPairs, listWrites, over};
 ghost use Rattle.calls.specs.Answers.{finishedNumber, simplifyAnswer, simplifyWrites};
+ghost use Rattle.graft.specs.Answers.{graftAnswer, graftWrites, graftedLength, graftedRefusal};
+ghost use Rattle.graft.specs.Promises.{GraftPromised};
 ghost use Rattle.volefleece.specs.Simplified.{Numbers};
 
 #[repr(C)]
@@ -121,6 +125,31 @@ pub extern "C" fn vf_simplify(table: &[u8], allowance: u64, out: &mut [u8]) -> V
             length: 0,
             steps: 0,
             finished: 0,
+        },
+    }
+}
+
+#[repr(C)]
+pub struct VfGrafted {
+    pub refused: u64,
+    pub length: u64,
+}
+
+#[no_mangle]
+pub extern "C" fn vf_graft(host: &[u8], sent: &[u8], symbol: u64, out: &mut [u8]) -> VfGrafted
+    ensures answer { λ r. ⌜ (r .refused ≡ graftedRefusal (graftAnswer (now (host .entry)) (now (sent .entry)) symbol (now (out .entry)))) × (r .length ≡ graftedLength (graftAnswer (now (host .entry)) (now (sent .entry)) symbol (now (out .entry)))) ⌝ }
+    ensures promise { λ r. ⌜ (r .refused ≡ 0 → GraftPromised (now (host .entry)) (now (sent .entry)) symbol (take (r .length) (now (out .exit)))) ⌝ }
+    ensures written { λ r. ⌜ now (out .exit) ≡ over (graftWrites (now (host .entry)) (now (sent .entry)) symbol (now (out .entry))) (now (out .entry)) ⌝ }
+{
+    let answer = graft::graft(host, sent, symbol, out);
+    match answer {
+        Grafted::Written(bytes) => VfGrafted {
+            refused: 0,
+            length: bytes as u64,
+        },
+        Grafted::Refused(question) => VfGrafted {
+            refused: question,
+            length: 0,
         },
     }
 }
