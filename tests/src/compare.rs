@@ -1,9 +1,14 @@
 //! One table, both readers: their answers must agree, and the library must leave the table alone.
+//! Whatever is lent to a call, to be read or written, stands between bytes that it may not change.
 
 use crate::ffi::{self, Checked};
 use crate::format::RECORD_BYTES;
 use crate::reader;
 use crate::rng::Rng;
+use std::fmt::Debug;
+
+/// Bytes on both sides of what is lent.
+const SIDE: usize = 32;
 
 /// What the second reader answers.
 pub fn second_check(table: &[u8]) -> Checked {
@@ -16,7 +21,6 @@ pub fn second_check(table: &[u8]) -> Checked {
 /// Makes a call on a copy of the bytes whose address is `shift` past a multiple of 16, with
 /// `filler` on both sides, and asserts that no byte of all this has changed.
 pub fn lend<A>(bytes: &[u8], shift: usize, filler: u8, call: impl FnOnce(&[u8]) -> A) -> A {
-    const SIDE: usize = 32;
     let mut buffer = vec![filler; SIDE + bytes.len() + SIDE];
     let start = buffer.as_ptr().align_offset(16) + shift;
     let end = start + bytes.len();
@@ -25,6 +29,40 @@ pub fn lend<A>(bytes: &[u8], shift: usize, filler: u8, call: impl FnOnce(&[u8]) 
     let answer = call(&buffer[start..end]);
     assert!(buffer == before, "the call changed its input");
     answer
+}
+
+/// Makes a call on a buffer of so many bytes at a random address. Gives its answer and the bytes that
+/// it wrote, as many from the front as `length` reads off the answer, and asserts that no other byte
+/// has changed.
+pub fn lend_out<A: Debug>(
+    rng: &mut Rng,
+    room: usize,
+    length: impl FnOnce(&A) -> u64,
+    call: impl FnOnce(&mut [u8]) -> A,
+) -> (A, Vec<u8>) {
+    let start = SIDE + rng.index(16);
+    let before = pattern(rng, start + room + SIDE);
+    let mut after = before.clone();
+    let answer = call(&mut after[start..start + room]);
+    let length = usize::try_from(length(&answer)).expect("a small number");
+    assert!(length <= room, "{answer:?}, with room for {room}");
+    let end = start + length;
+    assert!(
+        after[..start] == before[..start] && after[end..] == before[end..],
+        "{answer:?}, and bytes beside the table have changed"
+    );
+    (answer, after[start..end].to_vec())
+}
+
+/// Bytes of which each differs from the next ones, and from call to call.
+fn pattern(rng: &mut Rng, length: usize) -> Vec<u8> {
+    let mut byte = rng.byte();
+    let step = rng.byte() | 1;
+    let next = || {
+        byte = byte.wrapping_add(step);
+        byte
+    };
+    std::iter::repeat_with(next).take(length).collect()
 }
 
 /// Compares tables and counts the answers, so that a test can assert what it has reached.

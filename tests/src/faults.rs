@@ -20,18 +20,18 @@ pub fn tree(rng: &mut Rng, faults: &[u64]) -> Tree {
         children.push(trees::spine(rng, depth, loops));
     }
     if faults.contains(&7) {
-        children.push(heavy_tree());
+        children.push(heavy_tree(8));
     }
     rng.shuffle(&mut children);
     Tree::new(Kind::Sequence, children)
 }
 
-/// A whole-run limit under 8 loops, of weight 256.
-fn heavy_tree() -> Tree {
+/// A whole-run limit under so many loops: 7 give it weight 128, and 8 weight 256.
+pub fn heavy_tree(loops: usize) -> Tree {
     let amount = Amount::Plain(1);
     let mut tree = Tree::block(7);
     tree.limit = Some(Limit { names: 255, amount });
-    for _ in 0..8 {
+    for _ in 0..loops {
         tree = Tree::new(Kind::Loop(amount), vec![tree, Tree::block(5)]);
     }
     tree

@@ -2,9 +2,11 @@
 //! stay few and plain; the tests use the safe wrappers alone.
 
 mod figure;
+mod graft;
 mod simplify;
 
 pub use figure::{figure, list, Figure, Listed};
+pub use graft::{graft, Grafted};
 pub use simplify::{simplify, Simplified};
 
 /// The answer of `vf_check`.

@@ -1,19 +1,21 @@
 //! Tests of the volefleece static library against a second implementation, written apart from it
-//! and straight from document 01.
+//! and straight from documents 01 and 02.
 //!
 //! - `format`: the numbers of the table's format, each behind one name.
 //! - `trees`: a plain tree, its encoder and its random generators.
 //! - `reader`: the second reader, questions 1 to 7.
 //! - `evaluator`: the second evaluator, questions 8 to 10.
 //! - `simplifier`: the second simplifier.
+//! - `grafter`: the second grafter, questions 11 and 12.
 //! - `fits`: where the rules of simplifying fit, for small tables.
 //! - `members`, `runs`: lists member by member, and the dearest run, both for small trees.
 //! - `ffi`: the library's functions, declared and wrapped.
 //! - `tables`, `cases`: hand-written tables, and document 01's cases.
 //! - `damage`, `faults`, `noise`: tables that are wrong in some way.
-//! - `compare`: one table, both readers.
+//! - `compare`: one table, both readers, and what is lent to any call.
 //! - `quotes`: one table with values, both evaluators.
 //! - `simplifications`: one table with an allowance and a buffer, both simplifiers.
+//! - `grafts`: two tables with a symbol and a buffer, both grafters.
 //! - `programs`: the programs as processes, and their files.
 //! - `rng`: a small deterministic generator of random numbers.
 
@@ -25,6 +27,8 @@ pub mod faults;
 pub mod ffi;
 pub mod fits;
 pub mod format;
+pub mod grafter;
+pub mod grafts;
 pub mod members;
 pub mod noise;
 pub mod programs;

@@ -19,7 +19,13 @@ pub fn check(table: &[u8]) -> Result<Tree, u64> {
     let Some(tree) = exactly_one_tree(&records) else {
         return Err(4);
     };
-    let nodes = nodes(&tree);
+    check_tree(&tree)?;
+    Ok(tree)
+}
+
+/// Questions 5 to 7, which look at the tree alone: the number of the first one answered "no".
+pub fn check_tree(tree: &Tree) -> Result<(), u64> {
+    let nodes = nodes(tree);
     if !nodes.iter().all(is_within_depth_and_loops) {
         return Err(5);
     }
@@ -29,7 +35,7 @@ pub fn check(table: &[u8]) -> Result<Tree, u64> {
     if nodes.iter().map(weight).sum::<u64>() > MOST_WEIGHT {
         return Err(7);
     }
-    Ok(tree)
+    Ok(())
 }
 
 /// A record's fields, whatever they hold.

@@ -1,14 +1,11 @@
 //! One table with an allowance and a buffer, both simplifiers: the call's answer and every byte that it
 //! writes must be the second simplifier's, and it may change nothing but the front of its buffer.
 
-use crate::compare::{lend, shown};
+use crate::compare::{lend, lend_out, shown};
 use crate::ffi;
 use crate::rng::Rng;
 use crate::simplifier::{self, Simplified, Trace};
 use crate::trees::Tree;
-
-/// Bytes on both sides of the buffer, which no call may change.
-const SIDE: usize = 32;
 
 /// The library's answer with the table that it wrote, or its refusal, on a buffer of so many bytes.
 pub fn simplify(
@@ -17,21 +14,13 @@ pub fn simplify(
     allowance: u64,
     room: usize,
 ) -> Result<Simplified, u64> {
-    let start = SIDE + rng.index(16);
-    let before = pattern(rng, start + room + SIDE);
-    let mut after = before.clone();
-    let out = &mut after[start..start + room];
     let (shift, filler) = (rng.index(16), rng.pick(&[0, 1, 255]));
-    let answer = lend(table, shift, filler, |table| {
-        ffi::simplify(table, allowance, out)
+    let length = |answer: &ffi::Simplified| answer.length;
+    let (answer, bytes) = lend_out(rng, room, length, |out| {
+        lend(table, shift, filler, |table| {
+            ffi::simplify(table, allowance, out)
+        })
     });
-    let length = usize::try_from(answer.length).expect("a small number");
-    assert!(length <= room, "{answer:?}, with room for {room}");
-    let end = start + length;
-    assert!(
-        after[..start] == before[..start] && after[end..] == before[end..],
-        "{answer:?}, and bytes beside the table have changed"
-    );
     match answer {
         ffi::Simplified {
             refused: 0,
@@ -39,7 +28,7 @@ pub fn simplify(
             finished: finished @ 0..=1,
             ..
         } => Ok(Simplified {
-            bytes: after[start..end].to_vec(),
+            bytes,
             steps,
             finished: finished == 1,
         }),
@@ -51,17 +40,6 @@ pub fn simplify(
         } => Err(answer.refused),
         _ => panic!("no such answer: {answer:?}"),
     }
-}
-
-/// Bytes of which each differs from the next ones, and from call to call.
-fn pattern(rng: &mut Rng, length: usize) -> Vec<u8> {
-    let mut byte = rng.byte();
-    let step = rng.byte() | 1;
-    let next = || {
-        byte = byte.wrapping_add(step);
-        byte
-    };
-    std::iter::repeat_with(next).take(length).collect()
 }
 
 /// Compares simplifyings and counts the answers, so that a test can assert what it has reached.

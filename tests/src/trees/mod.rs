@@ -2,11 +2,13 @@
 //! may name anything.
 
 mod amounts;
+mod places;
 mod random;
 mod redundant;
 
 use crate::format::*;
 pub use amounts::Amounts;
+pub use places::{deepest_block, drop_symbol, put_symbol};
 pub use random::{grow, loops_around, pad, put_limits, spine, within_limits, without_limits};
 pub use redundant::{crowded, deepest, redundant};
 
@@ -51,6 +53,11 @@ impl Tree {
     /// A block of a plain time.
     pub fn block(time: u64) -> Self {
         Tree::new(Kind::Block(Amount::Plain(time)), Vec::new())
+    }
+
+    /// A block whose time is a symbol.
+    pub fn symbol_block(symbol: u64) -> Self {
+        Tree::new(Kind::Block(Amount::Symbol(symbol)), Vec::new())
     }
 
     pub fn records(&self) -> usize {

@@ -1,0 +1,114 @@
+//! Two tables with a symbol and a buffer, both grafters: the call's answer and every byte that it
+//! writes must be the second grafter's, it may change nothing but the front of its buffer, and what it
+//! writes must be a table that checking accepts.
+
+use crate::compare::{lend, lend_out, shown};
+use crate::ffi::{self, Checked, Grafted};
+use crate::format::RECORD_BYTES;
+use crate::grafter;
+use crate::rng::Rng;
+
+/// The table that the library wrote, or its refusal, on a buffer of so many bytes.
+pub fn graft(
+    rng: &mut Rng,
+    host: &[u8],
+    sent: &[u8],
+    symbol: u64,
+    room: usize,
+) -> Result<Vec<u8>, u64> {
+    let shifts = [rng.index(16), rng.index(16)];
+    let filler = rng.pick(&[0, 1, 255]);
+    let length = |answer: &Grafted| answer.length;
+    let (answer, bytes) = lend_out(rng, room, length, |out| {
+        lend(host, shifts[0], filler, |host| {
+            lend(sent, shifts[1], filler, |sent| {
+                ffi::graft(host, sent, symbol, out)
+            })
+        })
+    });
+    match answer {
+        Grafted { refused: 0, .. } => Ok(bytes),
+        Grafted { refused, length: 0 } => Err(refused),
+        Grafted { .. } => panic!("a refusal with a length: {answer:?}"),
+    }
+}
+
+/// Compares grafts and counts the answers, so that a test can assert what it has reached.
+#[derive(Debug)]
+pub struct Grafts {
+    rng: Rng,
+    /// The answers, 0 or a refusal's number.
+    refused: [u64; 13],
+    /// How many tables were written with the sent one in no place, in one, and in more.
+    places: [u64; 3],
+}
+
+impl Grafts {
+    /// The seed decides the addresses and buffers alone.
+    pub fn new(seed: u64) -> Self {
+        Grafts {
+            rng: Rng::new(!seed),
+            refused: [0; 13],
+            places: [0; 3],
+        }
+    }
+
+    /// What both grafters answer on a buffer of so many bytes.
+    pub fn answer(
+        &mut self,
+        host: &[u8],
+        sent: &[u8],
+        symbol: u64,
+        room: usize,
+    ) -> Result<Vec<u8>, u64> {
+        let second = grafter::graft(host, sent, symbol, room);
+        let answer = graft(&mut self.rng, host, sent, symbol, room);
+        assert!(
+            answer == second,
+            "symbol {symbol}, room {room}: the library {}\nnot {}\nhost {}sent {}",
+            shown_answer(&answer),
+            shown_answer(&second),
+            shown(host),
+            shown(sent)
+        );
+        match &answer {
+            Ok(written) => {
+                let accepted = Checked::accept(written.len() / RECORD_BYTES);
+                assert_eq!(ffi::check(written), accepted, "{}", shown(written));
+                // A graft adds the sent table and one record: the loop's is the block's own.
+                let places = (written.len() - host.len()) / (sent.len() + RECORD_BYTES);
+                self.refused[0] += 1;
+                self.places[places.min(2)] += 1;
+            }
+            Err(question) => self.refused[*question as usize] += 1,
+        }
+        answer
+    }
+
+    /// The same where the answer itself does not matter.
+    pub fn compare(&mut self, host: &[u8], sent: &[u8], symbol: u64, room: usize) {
+        drop(self.answer(host, sent, symbol, room));
+    }
+
+    /// Asserts that each of these answers, 0 or a refusal's number, occurred at least so often.
+    pub fn assert_reached(&self, least: &[(usize, u64)]) {
+        for &(refused, times) in least {
+            let occurred = self.refused[refused];
+            assert!(occurred >= times, "answer {refused}: {self:?}");
+        }
+    }
+
+    /// Asserts that so many tables were written with the sent one in no place, as many with it in one,
+    /// and as many with it in more.
+    pub fn assert_places(&self, times: u64) {
+        let mut places = self.places.iter();
+        assert!(places.all(|&written| written >= times), "{self:?}");
+    }
+}
+
+fn shown_answer(answer: &Result<Vec<u8>, u64>) -> String {
+    match answer {
+        Ok(written) => format!("writes {}", shown(written)),
+        Err(question) => format!("refuses {question}"),
+    }
+}
