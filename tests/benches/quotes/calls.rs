@@ -1,8 +1,7 @@
 //! The calls against plain Rust.
 
 use crate::quote::{quotes, Quote, LIMITS, SIZES};
-use crate::timing::{median, medians, Call};
-use std::hint::black_box;
+use crate::timing::{each, median, microseconds};
 use volefleece_tests::evaluator;
 use volefleece_tests::ffi;
 use volefleece_tests::format::LIST_ROOM;
@@ -66,17 +65,7 @@ fn times(quotes: &[Quote]) -> Vec<f64> {
         each(quotes, |q| evaluator::list(&q.table, &q.values, LIST_ROOM)),
         each(quotes, |q| evaluator::evaluate(&q.tree, &q.values)),
     ];
-    let medians = medians(REPETITIONS, calls);
-    let microseconds = medians.iter().map(|time| time.as_secs_f64() * 1e6);
-    microseconds.map(|all| all / quotes.len() as f64).collect()
-}
-
-fn each<'q, A>(quotes: &'q [Quote], mut call: impl FnMut(&Quote) -> A + 'q) -> Call<'q> {
-    Box::new(move || {
-        for quote in quotes {
-            black_box(call(black_box(quote)));
-        }
-    })
+    microseconds(REPETITIONS, quotes.len(), calls)
 }
 
 fn print_times(times: &[f64]) {

@@ -1,10 +1,11 @@
-//! Measures the library against plain Rust, on the same tables in one run: checking against the
-//! second reader, the figure and list calls against reader and evaluator, simplifying against the second
-//! simplifier. Both sides start from bytes and are built for release, Rust without overflow checks. Then
-//! come the stack that the calls want and, where they are there, the desk program and `lp_solve` as
-//! processes.
+//! Measures the library against plain Rust, on the same tables in one run: checking against the second
+//! reader, the figure and list calls against reader and evaluator, simplifying and grafting against the
+//! second simplifier and grafter. Both sides start from bytes and are built for release, Rust without
+//! overflow checks. Then come the stack that the calls want and, where they are there, the desk program
+//! and `lp_solve` as processes.
 
 mod calls;
+mod graft;
 mod processes;
 mod program;
 mod quote;
@@ -19,6 +20,8 @@ fn main() {
     calls::measure();
     println!();
     simplify::measure();
+    println!();
+    graft::measure();
     println!();
     stack::measure();
     println!();

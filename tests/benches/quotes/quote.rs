@@ -58,7 +58,7 @@ fn limited_tree(rng: &mut Rng, records: usize, weight: u64) -> Tree {
 }
 
 /// A sequence or choice of blocks, and where they are too many, of another one.
-fn flat_tree(rng: &mut Rng, records: usize) -> Tree {
+pub fn flat_tree(rng: &mut Rng, records: usize) -> Tree {
     let mut children = vec![Tree::block(0); (records - 1).min(MOST_CHILDREN)];
     if records - 1 > MOST_CHILDREN {
         children[0] = flat_tree(rng, records - MOST_CHILDREN);

@@ -1,8 +1,7 @@
 //! The simplifying call against plain Rust.
 
 use crate::quote::{quotes, LIMITS, SIZES};
-use crate::timing::{median, medians, Call};
-use std::hint::black_box;
+use crate::timing::{each, median, microseconds};
 use volefleece_tests::ffi;
 use volefleece_tests::format::{MOST_RECORDS, RECORD_BYTES};
 use volefleece_tests::rng::Rng;
@@ -75,7 +74,10 @@ fn measure_tables(records: usize, name: &str, tables: &[Vec<u8>]) {
     let simplified: Vec<Simplified> = tables.iter().map(|table| agreed(table)).collect();
     let steps = median(simplified.iter().map(|table| table.steps).collect());
     let left = median(simplified.iter().map(|table| table.bytes.len()).collect()) / RECORD_BYTES;
-    let [library, rust] = times(tables);
+    let times = times(tables);
+    let [library, rust] = times[..] else {
+        panic!("one time for each call");
+    };
     println!(
         "{records:7} {name:9} {steps:6} {left:6} | {library:8.2} {rust:8.2} {:5.2}",
         library / rust
@@ -97,21 +99,11 @@ fn second(table: &[u8]) -> Simplified {
 }
 
 /// The library's and plain Rust's time for a table.
-fn times(tables: &[Vec<u8>]) -> [f64; 2] {
+fn times(tables: &[Vec<u8>]) -> Vec<f64> {
     let mut out = [0; MOST_RECORDS * RECORD_BYTES];
     let calls = vec![
         each(tables, |table| ffi::simplify(table, u64::MAX, &mut out)),
-        each(tables, second),
+        each(tables, |table| second(table)),
     ];
-    let medians = medians(REPETITIONS, calls);
-    let microseconds = |call: usize| medians[call].as_secs_f64() * 1e6 / tables.len() as f64;
-    [microseconds(0), microseconds(1)]
-}
-
-fn each<'t, A>(tables: &'t [Vec<u8>], mut call: impl FnMut(&[u8]) -> A + 't) -> Call<'t> {
-    Box::new(move || {
-        for table in tables {
-            black_box(call(black_box(table)));
-        }
-    })
+    microseconds(REPETITIONS, tables.len(), calls)
 }

@@ -1,15 +1,19 @@
-//! The stack that the calls want on the deepest tables. A child process makes them with less and less
-//! stack, until it no longer returns.
+//! The stack that the calls want on the deepest tables, and grafting on the longest too. A child
+//! process makes them with less and less stack, until it no longer returns.
 
+use crate::quote::flat_tree;
 use std::env;
 use std::hint::black_box;
 use std::process::{Command, Stdio};
 use volefleece_tests::ffi;
-use volefleece_tests::format::LIST_ROOM;
+use volefleece_tests::format::{LIST_ROOM, MOST_RECORDS, RECORD_BYTES};
 use volefleece_tests::rng::Rng;
-use volefleece_tests::trees::{self, Amounts};
+use volefleece_tests::trees::{self, Amount, Amounts, Kind, Tree};
 
 const PROBE: &str = "--stack-probe";
+
+/// The symbol that is grafted.
+const SYMBOL: u64 = 16;
 
 pub fn measure() {
     let sizes = (2..=32).rev().map(|size| 32 * size);
@@ -38,21 +42,17 @@ pub fn is_probe() -> bool {
     env::args().any(|argument| argument == PROBE)
 }
 
-/// Quotes and simplifies tables of depth 32 with every number of loops.
 pub fn probe() {
-    let small = Amounts {
-        time: 9,
-        bound: 3,
-        limit: 9,
-        // Without any, one step would simplify all.
-        symbols: 4,
-    };
     let mut rng = Rng::new(1);
+    quote_and_simplify(&mut rng);
+    graft_deepest(&mut rng);
+    graft_longest(&mut rng);
+}
+
+/// Quotes and simplifies tables of depth 32 with every number of loops.
+fn quote_and_simplify(rng: &mut Rng) {
     for loops in (0..=8).cycle().take(90) {
-        let mut tree = trees::spine(&mut rng, 32, loops);
-        trees::put_limits(&mut rng, &mut tree, 255);
-        small.set(&mut rng, &mut tree);
-        let table = tree.encode();
+        let table = spine(rng, 32, loops, 255).encode();
         assert_eq!(ffi::check(black_box(&table)).refused, 0);
         assert_eq!(ffi::figure(&table, &[0; 32]).refused, 0);
         let mut out = vec![0; LIST_ROOM];
@@ -60,4 +60,64 @@ pub fn probe() {
         let mut out = vec![0; table.len()];
         assert_eq!(ffi::simplify(&table, u64::MAX, &mut out).refused, 0);
     }
+}
+
+/// Grafts with results of depth 32, the place at every depth, and with results twice as deep, which are
+/// refused.
+fn graft_deepest(rng: &mut Rng) {
+    for place in 1..=31 {
+        let [host, sent] = [place, 32 - place].map(|depth| match depth {
+            1 => Tree::block(7),
+            _ => spine(rng, depth, 3.min(depth - 2), 120),
+        });
+        assert_eq!(graft_at_deepest(host, sent), 0);
+    }
+    for loops in 0..=8 {
+        let [host, sent] = [loops, 8 - loops].map(|loops| spine(rng, 32, loops, 120));
+        assert_eq!(graft_at_deepest(host, sent), 12);
+    }
+}
+
+/// A tree that deep with limits of such weight, of small numbers.
+fn spine(rng: &mut Rng, depth: usize, loops: usize, weight: u64) -> Tree {
+    let small = Amounts {
+        time: 9,
+        bound: 3,
+        limit: 9,
+        // Without any, one step would simplify all.
+        symbols: 4,
+    };
+    let mut tree = trees::spine(rng, depth, loops);
+    trees::put_limits(rng, &mut tree, weight);
+    small.set(rng, &mut tree);
+    tree
+}
+
+/// The answer where the host's deepest block is the only place.
+fn graft_at_deepest(mut host: Tree, mut sent: Tree) -> u64 {
+    trees::drop_symbol(&mut host, SYMBOL);
+    trees::drop_symbol(&mut sent, SYMBOL);
+    trees::deepest_block(&mut host).kind = Kind::Block(Amount::Symbol(SYMBOL));
+    graft(&host, &sent)
+}
+
+/// Grafts with the most records and places that there can be, from flat tables, and with far more than
+/// there can be, which are refused.
+fn graft_longest(rng: &mut Rng) {
+    let [many, most] = [171, MOST_RECORDS].map(|records| {
+        let mut tree = flat_tree(rng, records);
+        trees::put_symbol(rng, &mut tree, SYMBOL, records);
+        tree
+    });
+    let [long, longest] = [MOST_RECORDS - 2, MOST_RECORDS].map(|records| flat_tree(rng, records));
+    assert_eq!(graft(&Tree::symbol_block(SYMBOL), &long), 0);
+    assert_eq!(graft(&many, &Tree::block(7)), 0);
+    assert_eq!(graft(&most, &longest), 12);
+}
+
+/// The library's answer.
+fn graft(host: &Tree, sent: &Tree) -> u64 {
+    let mut out = vec![0; MOST_RECORDS * RECORD_BYTES];
+    let (host, sent) = (host.encode(), sent.encode());
+    ffi::graft(black_box(&host), black_box(&sent), SYMBOL, &mut out).refused
 }

@@ -1,0 +1,129 @@
+//! The grafting call against plain Rust.
+
+use crate::quote::SIZES;
+use crate::timing::{each, microseconds};
+use volefleece_tests::ffi;
+use volefleece_tests::format::{MOST_RECORDS, RECORD_BYTES};
+use volefleece_tests::grafter;
+use volefleece_tests::rng::Rng;
+use volefleece_tests::trees;
+
+const PAIRS: usize = 16;
+const REPETITIONS: usize = 301;
+
+const SYMBOL: u64 = 16;
+const LONGEST: usize = MOST_RECORDS * RECORD_BYTES;
+
+const HEADING: &str = "
+                                   |        graft
+records parts   host   sent places |    lib   Rust ratio";
+
+pub fn measure() {
+    println!(
+        "Microseconds a call, medians of {REPETITIONS} repetitions over {PAIRS} pairs of tables, and the"
+    );
+    println!(
+        "library's time by plain Rust's. Of the result's records most are the host's or the sent table's,"
+    );
+    println!(
+        "put in one place, or a small one is put in many. All tables have limits. The library's buffer is"
+    );
+    println!("used again and not cleared; plain Rust makes a new table.");
+    println!("{HEADING}");
+    for records in SIZES {
+        for parts in PARTS {
+            measure_pairs(records, parts);
+        }
+    }
+}
+
+/// What a result is made of.
+#[derive(Clone, Copy)]
+enum Parts {
+    /// One place in a large host, and a small sent table.
+    Host,
+    /// One place in a small host, and a large sent table.
+    Sent,
+    /// A small sent table in many places.
+    Many,
+}
+
+const PARTS: [Parts; 3] = [Parts::Host, Parts::Sent, Parts::Many];
+
+impl Parts {
+    fn name(self) -> &'static str {
+        match self {
+            Parts::Host => "host",
+            Parts::Sent => "sent",
+            Parts::Many => "many",
+        }
+    }
+
+    /// The sent table's records, and the places that it is put in.
+    fn sent_and_places(self, records: usize) -> (usize, usize) {
+        match self {
+            Parts::Host => (records / 8, 1),
+            Parts::Sent => (records * 7 / 8, 1),
+            Parts::Many => (3, records / 8),
+        }
+    }
+}
+
+struct Pair {
+    host: Vec<u8>,
+    sent: Vec<u8>,
+}
+
+fn measure_pairs(records: usize, parts: Parts) {
+    let (sent, places) = parts.sent_and_places(records);
+    // Each place adds the sent table and one record.
+    let host = records - places * (sent + 1);
+    let mut rng = Rng::new(records as u64);
+    let pairs = std::iter::from_fn(|| Some(random_pair(&mut rng, host, sent, places))).flatten();
+    let pairs: Vec<Pair> = pairs.take(PAIRS).collect();
+    for pair in &pairs {
+        assert_agreed(pair, records);
+    }
+    let mut out = [0; LONGEST];
+    let calls = vec![
+        each(&pairs, |pair| {
+            ffi::graft(&pair.host, &pair.sent, SYMBOL, &mut out)
+        }),
+        each(&pairs, |pair| {
+            grafter::graft(&pair.host, &pair.sent, SYMBOL, LONGEST)
+        }),
+    ];
+    let times = microseconds(REPETITIONS, pairs.len(), calls);
+    let [library, rust] = times[..] else {
+        panic!("one time for each call");
+    };
+    println!(
+        "{records:7} {:5} {host:6} {sent:6} {places:6} | {library:6.2} {rust:6.2} {:5.2}",
+        parts.name(),
+        library / rust
+    );
+}
+
+/// Tables of so many records, the host's with so many places, unless it has too few blocks. No result
+/// is too deep, has too many loops or is too heavy.
+fn random_pair(rng: &mut Rng, host: usize, sent: usize, places: usize) -> Option<Pair> {
+    let [mut host, mut sent] = [host, sent].map(|records| trees::grow(rng, records, 16, 3));
+    trees::put_limits(rng, &mut host, 55);
+    trees::put_limits(rng, &mut sent, 200 / places as u64);
+    trees::put_symbol(rng, &mut host, SYMBOL, places);
+    trees::drop_symbol(&mut sent, SYMBOL);
+    (host.places(SYMBOL) == places).then(|| Pair {
+        host: host.encode(),
+        sent: sent.encode(),
+    })
+}
+
+fn assert_agreed(pair: &Pair, records: usize) {
+    let Pair { host, sent } = pair;
+    let second = grafter::graft(host, sent, SYMBOL, LONGEST).expect("room for the result");
+    assert_eq!(second.len(), records * RECORD_BYTES);
+    let mut out = [0; LONGEST];
+    let answer = ffi::graft(host, sent, SYMBOL, &mut out);
+    assert_eq!((answer.refused, answer.length), (0, second.len() as u64));
+    assert_eq!(out[..second.len()], second);
+}
