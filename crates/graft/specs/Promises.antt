@@ -1,5 +1,6 @@
 -- Document 02, CR 1: what a written graft promises, said of the answers of checking and of the figure call.
 use mathlib.Core.Path.{_≡_}
+use mathlib.Core.Bool.{false}
 use mathlib.Core.List.{List}
 use Prim.Native.Nat.{ℕ}
 use lib.Dec.{T}
@@ -22,6 +23,8 @@ hostValues b s vs = set vs s (quotedFigure (figureAnswer b vs))
 pub record GraftPromised (host sent : List ℕ) (symbol : ℕ) (written : List ℕ) : Type 0 where
   -- checking answers the written table's number of records
   pub checked : checkAnswer written ≡ Checked.Accepted (recordCount written)
+  -- a host that does not use the symbol is written as it is
+  pub unused : uses symbol (decode host) ≡ false → written ≡ host
   -- the grafted figure equals the host's figure with the symbol set to the sent table's figure, wherever all three figures exist
   pub figures : (values : List ℕ) → Quoted sent values → Quoted host (hostValues sent symbol values) → Quoted written values
       → quotedFigure (figureAnswer written values) ≡ quotedFigure (figureAnswer host (hostValues sent symbol values))

@@ -25,7 +25,7 @@ use Rattle.graft.specs.Answers.{graftTable, question11, question12}
 use Rattle.graft.specs.Promises.{GraftPromised, Quoted, hostValues}
 use Rattle.graft.specs.Laws.Grafted.{graft-figure, graft-fits, graft-needs, setValue}
 use Rattle.graft.specs.Laws.Tables.{accepted-table}
-use Rattle.graft.specs.Laws.Result.{result-accepted, result-reads, sent-is}
+use Rattle.graft.specs.Laws.Result.{result-accepted, result-reads, result-unused, sent-is}
 
 -- ---- a desk's values with one of them set
 
@@ -111,6 +111,7 @@ checked-accepted b e = rw e refl
 pub graft-promised : (h b : List ℕ) (s : ℕ) → IsTable h → IsTable b → T (question11 b s) → T (question12 (graftTable h b s)) → GraftPromised h b s (graftTable h b s)
 graft-promised h b s H B eleven twelve = record {
   checked = checked-accepted (graftTable h b s) (result-accepted h b s H B twelve);
+  unused = result-unused h b s H B;
   figures = λ vs x y z. ap quotedFigure (graft-quoted h b vs s H B eleven twelve x);
   answers = λ vs x. graft-quoted h b vs s H B eleven twelve x;
   exist = λ u vs z. let x = sent-quoted h b vs s H B eleven twelve u z in (x, ap quotedRefusal (sym (graft-quoted h b vs s H B eleven twelve x)) ∙ z);

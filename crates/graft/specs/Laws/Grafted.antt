@@ -24,7 +24,26 @@ use Rattle.graft.specs.Laws.Renamed.{rename-closed, rename-fits, rename-
 pub accepted-fair : (u : Tree) → Accepted u → Fair u 0
 accepted-fair u a = record { listed = a .listed; nested = a .nested; named = a .named; weighed = a .weighed }
 
--- the children of the loop that is put in place
+-- ---- a tree that does not use the symbol stays as it is
+
+or-none : (a b : Bool) → (a || b) ≡ false → (a ≡ false) × (b ≡ false)
+or-none true b e = absurd (subst T e tt)
+or-none false b e = (refl, e)
+
+module _ (s : ℕ) (u : Tree) where
+  mutual
+    unfolding graft uses
+
+    pub graft-unused : (t : Tree) → uses s t ≡ false → graft s u t ≡ t
+    graft-unused (node n f) e = let (x, y) = or-none (isSymbol s (n .kind)) (usesIn s f) e in rw x (ap (node n) (graftIn-unused f y))
+
+    graftIn-unused : (f : Forest) → usesIn s f ≡ false → graftIn s u f ≡ f
+    graftIn-unused nil e = refl
+    graftIn-unused (t ▸ f) e = let (x, y) = or-none (uses s t) (usesIn s f) e in ap₂ _▸_ (graft-unused t x) (graftIn-unused f y)
+
+-- ---- the loop that is put in place
+
+-- its children
 abbrev placed : Tree → Forest
 placed u = rename u 0 ▸ zeroBlock ▸ nil
 

@@ -21,9 +21,9 @@ use Rattle.table.specs.Laws.RoundTrip.{length-encode}
 use Rattle.table.specs.Laws.Survey.{fitting, surveyOf, tree-surveyed}
 use Rattle.table.specs.Laws.Trees.{some-records}
 use Rattle.evaluate.specs.Laws.Evaluator.{Fair}
-use Rattle.graft.specs.Graft.{graft}
+use Rattle.graft.specs.Graft.{graft, uses}
 use Rattle.graft.specs.Answers.{graftTable, question12}
-use Rattle.graft.specs.Laws.Grafted.{accepted-fair, graft-listed, graft-named}
+use Rattle.graft.specs.Laws.Grafted.{accepted-fair, graft-listed, graft-named, graft-unused}
 
 -- ---- a tree that is as questions 2, 3 and 6 ask
 
@@ -84,6 +84,10 @@ module _ (h b : List ℕ) (s : ℕ) (H : IsTable h) (B : IsTable b) where
   pub result-reads : decode (graftTable h b s) ≡ graft s (decode b) (decode h)
   unfolding graftTable
   result-reads = reads-back _ result-listed
+
+  pub result-unused : uses s (decode h) ≡ false → graftTable h b s ≡ h
+  unfolding graftTable
+  result-unused e = ap encode (graft-unused s (decode b) (decode h) e) ∙ H .back
 
   pub result-accepted : T (question12 (graftTable h b s)) → refusal (graftTable h b s) ≡ 0
   unfolding graftTable
