@@ -6,6 +6,17 @@ use crate::rng::Rng;
 /// Longer than any table that question 1 lets through.
 const LONGEST: usize = 9_000;
 
+/// Every kind, those the more often that get furthest.
+pub const KINDS: [fn(&mut Rng) -> Vec<u8>; 7] = [
+    bytes,
+    whole_records,
+    small_bytes,
+    good_records,
+    first_tree,
+    first_tree,
+    first_tree,
+];
+
 pub fn bytes(rng: &mut Rng) -> Vec<u8> {
     let length = rng.size(0..=LONGEST);
     (0..length).map(|_| rng.byte()).collect()

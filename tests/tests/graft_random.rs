@@ -616,21 +616,12 @@ fn damage(rng: &mut Rng, table: &mut Vec<u8>) {
 #[test]
 fn noise_of_every_kind() {
     let (mut rng, mut grafts) = start(514);
-    let kinds = [
-        noise::bytes,
-        noise::whole_records,
-        noise::small_bytes,
-        noise::good_records,
-        noise::first_tree,
-        noise::first_tree,
-        noise::first_tree,
-    ];
     for round in 0..40_000 {
         let [host, sent] = [0, 1].map(|at| {
             if is_spared(at, round) {
                 tree(&mut rng, SMALL).encode()
             } else {
-                kinds[rng.index(kinds.len())](&mut rng)
+                rng.pick(&noise::KINDS)(&mut rng)
             }
         });
         // Of the time symbols, noise has but 16 and 31.

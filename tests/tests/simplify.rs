@@ -364,17 +364,8 @@ fn faulty_table(rng: &mut Rng, faults: &[u64]) -> Vec<u8> {
 #[test]
 fn noise_of_every_kind() {
     let (mut rng, mut simplifications) = start(415);
-    let kinds = [
-        noise::bytes,
-        noise::whole_records,
-        noise::small_bytes,
-        noise::good_records,
-        noise::first_tree,
-        noise::first_tree,
-        noise::first_tree,
-    ];
     for round in 0..40_000 {
-        let table = kinds[round % kinds.len()](&mut rng);
+        let table = noise::KINDS[round % noise::KINDS.len()](&mut rng);
         let allowance = rng.pick(&[0, 1, 3, u64::MAX]);
         let room = table.len() + rng.pick(&[0, 0, 16]);
         simplifications.compare(&table, allowance, room);
