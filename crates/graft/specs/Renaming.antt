@@ -36,10 +36,11 @@ renamedRecords (suc n) w ends b =
     renamedRecord (length (stillAround w ends)) b
     ++ renamedRecords n (w - 1 + childByte b) (entered (firstNode b .kind) w (stillAround w ends)) (drop recordLength b)
 
--- the counts in an array, the innermost loop's last; it has room for one more than there can be
+-- room for the counts of the loops around a node, and one more
 abbrev pub loopRoom : ℕ
 loopRoom = suc mostLoops
 
+-- the counts in an array, the innermost loop's last
 unfoldable pub stack : (ends : List ℕ) (outer : ℕ) → List ℕ
 stack e zero = []
 stack e (suc n) = getD e n 0 ∷ stack e n

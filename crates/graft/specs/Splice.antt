@@ -1,4 +1,4 @@
--- Grafting as the program does it: records of the host copied, or put in place of, one after the other.
+-- Grafting as the program does it: one record of the host after the other is copied, or the sent table put in its place.
 use mathlib.Core.Path.{_≡_}
 use mathlib.Core.Bool.{cond, false}
 use mathlib.Core.List.{List, [], _++_}
@@ -49,7 +49,7 @@ unfoldable mutual
   occurrencesOf s nil = 0
   occurrencesOf s (t ▸ f) = occurrences s t + occurrencesOf s f
 
--- the result was made at the front of a buffer, r records; or r is 0 and question 12 refuses it, which has more records than a table may have
+-- the result was made at the front of a buffer, r records; or r is 0, and question 12 refuses it
 pub record GraftMade (h b : List ℕ) (s r : ℕ) (work : List ℕ) : Type 0 where
   pub long : r ≡ 0 → question12 (graftTable h b s) ≡ false
   pub bytes : (r ≡ 0 → ⊥) → front r work ≡ graftTable h b s

@@ -1,4 +1,4 @@
--- The host's records, copied or put in place of one after the other, are the grafted tree's table.
+-- The host's records, each copied or with the sent table in its place, are the grafted tree's table.
 use mathlib.Core.Path.{_≡_, refl, ap, ap₂, sym, subst, _∙_}
 use mathlib.Core.Bool.{Bool, true, false, cond, _||_}
 use mathlib.Core.List.{List, _++_, append-assoc, append-nil}
