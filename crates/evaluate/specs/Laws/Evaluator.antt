@@ -56,7 +56,7 @@ pub fair-first : (k : Kind) (t : Tree) (f : Forest) (d : ℕ) → FairIn k (t �
 unfolding listed loops named weight
 fair-first k t f d a = record { listed = both _ _ (a .listed) .0; nested = omega (arith, a .nested); named = both _ _ (a .named) .0; weighed = omega (arith, a .weighed) }
 
-rest-ranged : (k : Kind) → T (kindInRange (rest k))
+pub rest-ranged : (k : Kind) → T (kindInRange (rest k))
 unfolding kindInRange rest
 rest-ranged (Block t) = tt
 rest-ranged Sequence = tt

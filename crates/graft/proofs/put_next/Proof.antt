@@ -1,5 +1,5 @@
 use native.Mathlib.Omega.{arith}
-use Rattle.graft.specs.Laws.Splicing.{block-yes, put-no, put-yes}
+use Rattle.graft.specs.Laws.Splicing.{occurs-yes, put-no, put-yes}
 use borrow.Author.Needs.{needs}
 use Rattle.graft.proofs.put_next.Statement.{statement}
 use Rattle.graft.proofs.put_next.Tie as tie
@@ -15,7 +15,7 @@ put-place-requires c κs =
     let then = c .before in
     let node = then .before .before in
     let start = node .before .before .before .before in
-    let one = block-yes _ _ _ _ (node .node-at .ensures) (then .before .is-symbol .ensures) (then .if1 .taken) in
+    let one = occurs-yes _ _ _ _ (node .node-at .ensures) (then .before .is-symbol .ensures) (then .if1 .taken) in
     (start .pre .1, omega (arith, rw (← one) at (start .pre .2)))
 
 copy-records-requires : tie.Need-copy-records-requires

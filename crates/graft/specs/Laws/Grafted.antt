@@ -14,7 +14,7 @@ use Rattle.table.specs.Questions.{Accepted, arity, countInRange, kindInRange, l
 use Rattle.lists.specs.Streams.{Stream, S, add, cap, const, group, shift}
 use Rattle.evaluate.specs.Evaluate.{Values, amount, before, figure, fits, fitsIn, inner, join, limit, list, name, nameIn, rounds, seen, start, turns}
 use Rattle.evaluate.specs.Closed.{stays, closed, closedIn}
-use Rattle.evaluate.specs.Laws.Evaluator.{Fair}
+use Rattle.evaluate.specs.Laws.Evaluator.{Fair, rest-ranged}
 use Rattle.evaluate.specs.Laws.Ranges.{figure-most}
 use Rattle.evaluate.specs.Laws.Constant.{closedIn-const, closedIn-run}
 use Rattle.graft.specs.Graft.{graft, graftIn, inPlace, isSymbol, rename, uses, usesIn, zeroBlock}
@@ -145,13 +145,6 @@ pub set-other : (v : Values) (s x k : ℕ) → eqb k s ≡ false → v k ≡ set
 unfolding setValue
 set-other v s x k e = rw e refl
 
-rest-in-range : (k : Kind) → T (kindInRange (rest k))
-unfolding kindInRange rest
-rest-in-range (Block t) = tt
-rest-in-range Sequence = tt
-rest-in-range Choice = tt
-rest-in-range (Loop n) = tt
-
 rest-no-symbol : (s : ℕ) (k : Kind) → isSymbol s (rest k) ≡ false
 unfolding isSymbol rest
 rest-no-symbol s (Block t) = refl
@@ -185,7 +178,7 @@ module _ (v : Values) (s : ℕ) (g : firstTimeSymbol ≤ s) (u : Tree) (o : Fair
         let (a, b) = both _ _ h in
         ap₂ (join k)
         (turns-but v (setValue v s (figure v u)) s g (set-other v s (figure v u)) k _ _ r ∙ ap₂ (turns (setValue v s (figure v u)) k) (graft-name s u o t a) (graft-list t a))
-        (graft-before (rest k) f (rest-in-range k) (rest-no-symbol s k) b)
+        (graft-before (rest k) f (rest-ranged k) (rest-no-symbol s k) b)
 
   -- the grafted figure equals the host's figure with the symbol set to the sent tree's figure
   pub graft-figure : (t : Tree) → T (listed t) → figure v (graft s u t) ≡ figure (setValue v s (figure v u)) t

@@ -81,7 +81,7 @@ module _ (s : ℕ) (u : Tree) where
         rw (add-assoc, append-assoc, append-assoc)
         (splice-tree t a (recordsIn f + m) (encodes f ++ z) ∙ ap (λ (x : List ℕ). encode (graft s u t) ++ x) (splice-forest f b m z))
 
--- ---- blocks counted
+-- ---- occurrences counted
 
 mutual
   unfolding listed Writes encode records occurrences

@@ -20,13 +20,13 @@ module _ (s : ℕ) (b : List ℕ) (n : Node) (r : Bool) (e : n ≡ firstNode b) 
   kind-is : r ≡ isSymbol s (firstNode b .kind)
   kind-is = f ∙ ap (λ (m : Node). isSymbol s (m .kind)) e
 
-  pub block-yes : r ≡ true → 1 ≡ occursFirst s b
+  pub occurs-yes : r ≡ true → 1 ≡ occursFirst s b
   unfolding occursFirst
-  block-yes t = rw (← kind-is, t) refl
+  occurs-yes t = rw (← kind-is, t) refl
 
-  pub block-no : r ≡ false → 0 ≡ occursFirst s b
+  pub occurs-no : r ≡ false → 0 ≡ occursFirst s b
   unfolding occursFirst
-  block-no t = rw (← kind-is, t) refl
+  occurs-no t = rw (← kind-is, t) refl
 
   module _ (body : List ℕ) where
     splice-yes : r ≡ true → placeBytes body (n .limit) ≡ spliceFirst s body b
@@ -39,11 +39,11 @@ module _ (s : ℕ) (b : List ℕ) (n : Node) (r : Bool) (e : n ≡ firstNode b) 
 
     pub put-yes : (m at z : ℕ) (out new : List ℕ) → r ≡ true → (z ≡ at + (m + 2)) × (front z new ≡ front at out ++ placeBytes body (n .limit))
         → (z ≡ at + (1 + occursFirst s b * suc m)) × (front z new ≡ front at out ++ spliceFirst s body b)
-    put-yes m at z out new t (x, y) = (rw (← block-yes t) (omega arith), y ∙ ap (λ (w : List ℕ). front at out ++ w) (splice-yes t))
+    put-yes m at z out new t (x, y) = (rw (← occurs-yes t) (omega arith), y ∙ ap (λ (w : List ℕ). front at out ++ w) (splice-yes t))
 
     pub put-no : (m at z : ℕ) (out new : List ℕ) → r ≡ false → (z ≡ at + 1) × (front z new ≡ front at out ++ take recordLength b)
         → (z ≡ at + (1 + occursFirst s b * suc m)) × (front z new ≡ front at out ++ spliceFirst s body b)
-    put-no m at z out new t (x, y) = (rw (← block-no t) (omega arith), y ∙ ap (λ (w : List ℕ). front at out ++ w) (splice-no t))
+    put-no m at z out new t (x, y) = (rw (← occurs-no t) (omega arith), y ∙ ap (λ (w : List ℕ). front at out ++ w) (splice-no t))
 
 -- the three parts of what stands in a block's place
 pub place-parts : (l : Limit) (body : List ℕ) (m at first end r : ℕ) (out o₁ o₂ o₃ : List ℕ)
@@ -55,7 +55,7 @@ unfolding placeBytes
 place-parts l body m at first end r out o₁ o₂ o₃ (x₁, y₁) (x₂, y₂) (x₃, y₃) =
     (omega arith, y₃ ∙ rw (y₂, y₁, append-assoc, append-assoc, append-assoc) refl)
 
--- ---- blocks counted
+-- ---- occurrences counted
 
 pub record Counted (s : ℕ) (b : List ℕ) (count i : ℕ) : Type 0 where
   pub within : i ≤ recordCount b
