@@ -41,7 +41,8 @@ fn are_values(values: &[u64]) -> bool {
     values.len() == VALUES && (0..).zip(values).all(|(at, &value)| value <= ceiling(at))
 }
 
-fn ceiling(symbol: u64) -> u64 {
+/// The largest value of a symbol.
+pub fn ceiling(symbol: u64) -> u64 {
     if COUNT_SYMBOLS.contains(&symbol) {
         MOST_COUNT
     } else {

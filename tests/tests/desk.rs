@@ -21,6 +21,14 @@ const MIDDLING: Amounts = Amounts {
     symbols: 3,
 };
 
+/// Figures below the ceiling, as long as few values are absent.
+const SMALL: Amounts = Amounts {
+    time: 1_000,
+    bound: 20,
+    limit: 20,
+    symbols: 2,
+};
+
 fn with_files(tree: &[u8], values: &[u8]) -> Folder {
     let folder = Folder::with_tree(DESK, tree);
     folder.write(VALUES, values);
@@ -56,9 +64,9 @@ fn expect(tree: &[u8], values: &[u8]) -> Result<u64, u64> {
     answer
 }
 
-/// The 32 values of a file, unless its length is refused.
+/// The 32 values of a file, those that it leaves out at their ceilings, unless its length is refused.
 fn numbers(values: &[u8]) -> Option<[u64; 32]> {
-    let mut numbers = [0; 32];
+    let mut numbers: [u64; 32] = std::array::from_fn(|symbol| evaluator::ceiling(symbol as u64));
     let (whole, rest) = values.as_chunks();
     if whole.len() > numbers.len() || !rest.is_empty() {
         return None;
@@ -76,13 +84,24 @@ fn line(answer: Result<u64, u64>) -> String {
     }
 }
 
-/// (loop n of 1, X, Y), whose symbols are the first value and the last two.
+/// A tree whose figure is its only symbol's value.
+fn only_symbol(symbol: u64) -> Vec<u8> {
+    match symbol {
+        0..16 => symbol_repeat(symbol, block(1), block(0)),
+        _ => symbol_block(symbol),
+    }
+}
+
+/// A choice whose symbols are the first value and the last two.
 fn first_and_last() -> Vec<u8> {
-    sequence(&[
-        symbol_repeat(0, block(1), block(0)),
-        symbol_block(30),
-        symbol_block(31),
-    ])
+    choice(&[0, 30, 31].map(only_symbol))
+}
+
+/// The 32 values that absent ones count.
+fn ceilings() -> [u64; 32] {
+    let mut ceilings = [1_000_000; 32];
+    ceilings[16..].fill(1_000_000_000_000);
+    ceilings
 }
 
 /// Enough values for a file that is too long.
@@ -137,23 +156,6 @@ fn a_missing_tree_is_empty() {
 }
 
 #[test]
-fn missing_values_are_0() {
-    let folder = Folder::with_tree(DESK, &sequence(&[block(7), first_and_last()]));
-    says(&folder, "figure 7");
-    assert!(!folder.path(VALUES).exists());
-}
-
-#[test]
-fn absent_last_values_are_0() {
-    let values = many_values();
-    let figures = [(0, 0), (8, 5), (240, 5), (248, 205), (256, 1_205)];
-    for (length, figure) in figures {
-        let line = format!("figure {figure}");
-        quotes(&first_and_last(), &values[..length], &line);
-    }
-}
-
-#[test]
 fn other_lengths_of_values_are_refused_9() {
     let values = many_values();
     for length in [1, 4, 7, 9, 15, 247, 249, 255, 257, 263, 264, 265, 272, 320] {
@@ -164,7 +166,7 @@ fn other_lengths_of_values_are_refused_9() {
 
 #[test]
 fn long_trees_are_refused_1() {
-    let values = [0; 136];
+    let values = [0; 256];
     let longest = long(512);
     quotes(&longest, &values, "figure 1");
     quotes(&long(513), &values, "refused 1");
@@ -195,6 +197,87 @@ fn values_that_cannot_be_read_are_told() {
     let folder = Folder::new(DESK);
     folder.put_folder(VALUES);
     folder.expect_complaint(&NONE, "values.tab: ");
+}
+
+// Absent values.
+
+#[test]
+fn the_smallest_trees_with_all_values_written() {
+    quotes(&block(7), &[0; 256], "figure 7");
+    quotes(&symbol_block(16), &[0; 256], "figure 0");
+}
+
+#[test]
+fn missing_values_count_their_ceilings() {
+    for (tree, line) in [
+        (block(7), "figure 7"),
+        (symbol_block(16), "figure 1000000000000"),
+        (symbol_block(31), "figure 1000000000000"),
+        (symbol_repeat(0, block(1), block(0)), "figure 1000000"),
+        (symbol_repeat(15, block(3), block(2)), "figure 3000002"),
+        (
+            repeat(5, symbol_limited(block(2), 3, 1), block(0)),
+            "figure 10",
+        ),
+    ] {
+        let folder = Folder::with_tree(DESK, &tree);
+        says(&folder, line);
+        assert!(!folder.path(VALUES).exists());
+        quotes(&tree, &[], line);
+    }
+}
+
+#[test]
+fn every_number_of_values_may_be_written() {
+    let written: [u64; 32] = std::array::from_fn(|symbol| 1 + symbol as u64);
+    for count in 0..=32 {
+        let low = values_file(&written[..count]);
+        let high = values_file(&ceilings()[..count]);
+        for symbol in 0..32 {
+            let tree = only_symbol(symbol as u64);
+            let ceiling = ceilings()[symbol];
+            let value = if symbol < count {
+                written[symbol]
+            } else {
+                ceiling
+            };
+            quotes(&tree, &low, &format!("figure {value}"));
+            quotes(&tree, &high, &format!("figure {ceiling}"));
+        }
+    }
+}
+
+#[test]
+fn the_last_value_written_may_be_0_or_too_large() {
+    for count in 1..=32 {
+        let last = count - 1;
+        let tree = only_symbol(last as u64);
+        let mut values = ceilings();
+        values[last] = 0;
+        quotes(&tree, &values_file(&values[..count]), "figure 0");
+        values[last] = ceilings()[last] + 1;
+        quotes(&tree, &values_file(&values[..count]), "refused 9");
+    }
+}
+
+#[test]
+fn absent_values_may_be_too_large_for_a_figure() {
+    let count = |time| symbol_repeat(0, block(time), block(0));
+    quotes(&count(1_000_000), &[], "figure 1000000000000");
+    quotes(&count(1_000_001), &[], "refused 10");
+    quotes(
+        &count(1_000_001),
+        &values_file(&[999_999]),
+        "figure 999999999999",
+    );
+    let times = sequence(&[symbol_block(30), symbol_block(31)]);
+    let zeros = values_file(&[0; 32]);
+    quotes(&times, &zeros[..240], "refused 10");
+    quotes(&times, &zeros[..248], "figure 1000000000000");
+    quotes(&times, &zeros, "figure 0");
+    let and_one = sequence(&[symbol_block(31), block(1)]);
+    quotes(&and_one, &zeros[..248], "refused 10");
+    quotes(&and_one, &zeros, "figure 1");
 }
 
 // Questions.
@@ -261,7 +344,8 @@ fn random_tables_are_quoted() {
         let records = rng.size(1..=60);
         let mut tree = trees::within_limits(&mut rng, records);
         MIDDLING.set(&mut rng, &mut tree);
-        let count = rng.size(0..=32);
+        let absent = rng.pick(&[0, 0, 8, 16, 32]);
+        let count = 32 - rng.size(0..=absent);
         let values = values_file(&MIDDLING.values(&mut rng)[..count]);
         match expect(&tree.encode(), &values) {
             Ok(figure) => figures += u64::from(figure > 0),
@@ -293,4 +377,26 @@ fn random_lengths_of_values() {
         refused += u64::from(expect(&first_and_last(), &values[..length]) == Err(9));
     }
     assert!((50..=150).contains(&refused), "{refused}");
+}
+
+#[test]
+fn leaving_values_out_never_lowers_a_quote() {
+    let mut rng = Rng::new(504);
+    let (mut same, mut higher) = (0, 0);
+    for _ in 0..400 {
+        let records = rng.size(1..=8);
+        let mut tree = trees::within_limits(&mut rng, records);
+        SMALL.set(&mut rng, &mut tree);
+        let tree = tree.encode();
+        let values = values_file(&SMALL.values(&mut rng));
+        let written = rng.size(0..=32);
+        let fewer = rng.size(0..=written);
+        let long = expect(&tree, &values[..8 * written]);
+        if let (Ok(long), Ok(short)) = (long, expect(&tree, &values[..8 * fewer])) {
+            assert!(long <= short, "{long}, {short}");
+            same += u64::from(long == short);
+            higher += u64::from(long < short);
+        }
+    }
+    assert!(same > 20 && higher > 20, "{same}, {higher}");
 }

@@ -1,10 +1,10 @@
--- The starred cases of document 01, "Cases", as one list, checked against the definitions by one proof.
+-- The starred cases of document 01, "Cases", and the desk's of document 02, request 2, each as one list, checked against the definitions by one proof.
 use mathlib.Core.Path.{_≡_, refl}
 use mathlib.Core.Bool.{Bool, true, false}
-use mathlib.Core.List.{List, [], _∷_}
-use Prim.Native.Nat.{ℕ, zero, suc}
+use mathlib.Core.List.{List, [], _∷_, _++_}
+use Prim.Native.Nat.{ℕ, zero, suc, _*_}
 use lib.Dec.{eqb}
-use lib.ListN.{length}
+use lib.ListN.{length, replicate}
 use Rattle.booleans.specs.Tests.{_and_}
 use Rattle.table.specs.Numbers.{howManyValues, mostRecords}
 use Rattle.table.specs.Trees.{Tree, node, Forest, nil, _▸_, _⧺_, size, rest, around, records}
@@ -25,6 +25,7 @@ use Rattle.calls.specs.declared.Quote.{Quote}
 use Rattle.calls.specs.declared.Ending.{Ending}
 use Rattle.calls.specs.declared.Simplified.{Simplified}
 use Rattle.calls.specs.Answers.{ceiling, ranged, question9, quoteOf, figureAnswer, simplifyRefusal, endingOf, made, madeAnswer, simplifyAnswer, simplifyWrites}
+use Rattle.calls.specs.Files.{valueLength, valueIn, valuesFrom, valuesWhole, filesAnswer}
 
 -- ---- trees, as the document writes them
 
@@ -63,6 +64,8 @@ pub data Case : Type 0 where
   quotes : Tree → ℕ → Case
   -- the tree's list has these pairs
   lists : Tree → Pairs → Case
+  -- the desk answers this figure on the tree's table and a values.tab of these bytes
+  files : Tree → (values : List ℕ) → ℕ → Case
   -- simplifying the tree's table, into a buffer of its length, writes this tree's and finishes after so many steps
   becomes : (original result : Tree) → (count : ℕ) → Case
 
@@ -97,6 +100,7 @@ hasWritten long count (Simplified.Refused q) = false
 pub holds : Case → Bool
 holds (quotes t x) = isFigure x (figureAnswer (encode t) (noughts howManyValues))
 holds (lists t ps) = samePairs ps (listPairs zeros t)
+holds (files t v x) = isFigure x (filesAnswer (encode t) v)
 holds (becomes t u n) =
     let out = noughts (length (encode t)) in
     hasWritten (length (encode u)) n (simplifyAnswer (encode t) mostRecords out) and sameNumbers (simplifyWrites (encode t) mostRecords out) (encode u)
@@ -149,11 +153,35 @@ starred =
     ∷ becomes (either (both (block 5) (symbol 16)) (both (block 4) (symbol 16))) (both (block 5) (symbol 16)) 2
     ∷ []
 
+-- zeros in a file
+zeroValues : ℕ → List ℕ
+zeroValues n = noughts (valueLength * n)
+
+pub absent : List Case
+absent =
+    -- all 32 values written: case A, and one block of symbol 16
+    files (block 7) (zeroValues 32) 7
+    ∷ files (symbol 16) (zeroValues 32) 0
+    -- that block with its value the last written, the first absent, and with no values.tab
+    ∷ files (symbol 16) (zeroValues 17) 0
+    ∷ files (symbol 16) (zeroValues 16) 1000000000000
+    ∷ files (symbol 16) [] 1000000000000
+    ∷ []
+
 -- to unfold this is to unfold all that the cases compute with
 unfoldable pub computed : ℕ
-unfolding block symbol _/_at_ sequence both either loop noughts isFigure samePairs sameNumbers isFinished hasWritten holds allHold _and_ _⧺_ size rest around records S const add cap group shift merge next taken amount inner outward seen name limit rounds turns join start list figure fits arity timeInRange countInRange kindInRange limitInRange listed depth loops nameOk named share weight stays closed isPlain plainKind plainLimit symbolFree sameNumber sameLimit sameKind same isUnlimited isBlock isSum limitOf children relimit leaf bare timeOfKind timeOf when rule1 gives anyGives giveWay rule2 alone rule3 rule4 isZero anyZero without rule5 bares others total largest rule6 atFirst rule7 isPair headOf tailOf firstOf secondOf allPairs firsts shares sharedOut rule8 exit rule9 orElse also rule inside step isNone onward steps toBytes fromBytes flag numFrom kindByte valueNum kindFrom loopByte limitNum limitFrom recordBytes encode firstNode childByte firstOnes afterOnes forest top decode formTrees each limitCount recordInRange firstNo question1 question2 question3 question4 question5 question6 question7 refusal placeOf turned place inFront tail pairs listPairs ceiling ranged question9 quoteOf figureAnswer simplifyRefusal endingOf made madeAnswer simplifyAnswer simplifyWrites
+unfolding block symbol _/_at_ sequence both either loop noughts isFigure samePairs sameNumbers isFinished hasWritten holds allHold _and_ _⧺_ size rest around records S const add cap group shift merge next taken amount inner outward seen name limit rounds turns join start list figure fits arity timeInRange countInRange kindInRange limitInRange listed depth loops nameOk named share weight stays closed isPlain plainKind plainLimit symbolFree sameNumber sameLimit sameKind same isUnlimited isBlock isSum limitOf children relimit leaf bare timeOfKind timeOf when rule1 gives anyGives giveWay rule2 alone rule3 rule4 isZero anyZero without rule5 bares others total largest rule6 atFirst rule7 isPair headOf tailOf firstOf secondOf allPairs firsts shares sharedOut rule8 exit rule9 orElse also rule inside step isNone onward steps toBytes fromBytes flag numFrom kindByte valueNum kindFrom loopByte limitNum limitFrom recordBytes encode firstNode childByte firstOnes afterOnes forest top decode formTrees each limitCount recordInRange firstNo question1 question2 question3 question4 question5 question6 question7 refusal placeOf turned place inFront tail pairs listPairs ceiling ranged question9 quoteOf figureAnswer simplifyRefusal endingOf made madeAnswer simplifyAnswer simplifyWrites valueIn valuesFrom valuesWhole filesAnswer
 computed = 0
 
 pub starred-hold : allHold starred ≡ true
 unfolding starred caseE term caseI computed
 starred-hold = refl
+
+pub absent-hold : allHold absent ≡ true
+unfolding absent zeroValues computed
+absent-hold = refl
+
+-- what 32 absent values count
+pub all-absent : valuesFrom howManyValues 0 [] ≡ replicate 16 1000000 ++ replicate 16 1000000000000
+unfolding computed
+all-absent = refl

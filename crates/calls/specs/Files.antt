@@ -1,7 +1,8 @@
--- Document 01, "The desk program": what it decides from the bytes of tree.tab and values.tab.
+-- Document 01, "The desk program", with request 2 of document 02: what it decides from the bytes of tree.tab and values.tab.
+use mathlib.Core.Path.{_≡_}
 use mathlib.Core.Bool.{Bool, cond}
-use mathlib.Core.List.{List, [], _∷_}
-use Prim.Native.Nat.{ℕ, zero, suc, _%_, _*_}
+use mathlib.Core.List.{List, [], _∷_, _++_}
+use Prim.Native.Nat.{ℕ, zero, suc, _%_, _*_, _≤_}
 use lib.Dec.{eqb, leb}
 use lib.ListN.{length, take, drop}
 use Rattle.booleans.specs.Tests.{_and_}
@@ -9,19 +10,15 @@ use Rattle.table.specs.Numbers.{howManyValues}
 use Rattle.table.specs.Bytes.{fromBytes}
 use Rattle.table.specs.Checking.{refusal}
 use Rattle.calls.specs.declared.Quote.{Quote}
-use Rattle.calls.specs.Answers.{figureAnswer}
+use Rattle.calls.specs.Answers.{ceiling, figureAnswer, quotedFigure, quotedRefusal}
 
 -- bytes that a value takes in values.tab
 abbrev pub valueLength : ℕ
 valueLength = 8
 
--- what an absent last value counts, by its number
-abbrev pub absent : ℕ → ℕ
-absent i = 0
-
--- value i, with the file's bytes from its place on
+-- value i, with the file's bytes from its place on: an absent one counts the most that its place allows
 unfoldable pub valueIn : ℕ → List ℕ → ℕ
-valueIn i [] = absent i
+valueIn i [] = ceiling i
 valueIn i (x ∷ b) = fromBytes (take valueLength (x ∷ b))
 
 -- n values from value i on
@@ -36,3 +33,10 @@ valuesWhole b = eqb (length b % valueLength) 0 and leb (length b) (valueLength *
 unfoldable pub filesAnswer : (tree values : List ℕ) → Quote
 filesAnswer t v =
     cond (eqb (refusal t) 0) (cond (valuesWhole v) (figureAnswer t (valuesFrom howManyValues 0 v)) (Quote.Refused 9)) (Quote.Refused (refusal t))
+
+-- What a quote of a tree and a file promises: with more values written after the file's own, the figure is no higher, where both get one. So leaving last
+-- values out never lowers a quote.
+unfoldable pub BlanksPromise : (tree values : List ℕ) → Quote → Type 0
+BlanksPromise t v q =
+    (more : List ℕ) → let written = filesAnswer t (v ++ more) in
+    quotedRefusal q ≡ 0 → quotedRefusal written ≡ 0 → quotedFigure written ≤ quotedFigure q

@@ -1,8 +1,8 @@
 -- Laws, in the order in which they lean on each other.
 pub mod Copies
 pub mod Values
-pub mod Files
 pub mod Figures
+pub mod Files
 pub mod Evaluated
 pub mod Promises
 pub mod Demand

@@ -14,7 +14,7 @@ ghost use Rattle.table.specs.Numbers.{howManyValues, listRoom};
 ghost use Rattle.calls.specs.Demand.{Asked, Demand3};
 ghost use Rattle.calls.specs.Promises.{ListPromises, Promises};
 ghost use Rattle.calls.specs.Answers.{checkAnswer, ceiling, endingOf, figureAnswer, listAnswer, listWrites, made, madeAnswer, over, question9, simplifiedLength, simplifyAnswer, simplifyWrites};
-ghost use Rattle.calls.specs.Files.{absent, filesAnswer, valueIn, valueLength, valuesFrom, valuesWhole};
+ghost use Rattle.calls.specs.Files.{BlanksPromise, filesAnswer, valueIn, valueLength, valuesFrom, valuesWhole};
 
 // How many values a desk holds.
 pub const HOW_MANY_VALUES: usize = 32;
@@ -273,14 +273,7 @@ pub fn both_desks(
 
 // ---- The desk's files
 
-// What value i counts where a file ends before it.
-fn absent_value(i: usize) -> u64
-    ensures { λ r. ⌜ r ≡ absent i ⌝ }
-{
-    0
-}
-
-// Value i of a file of whole values.
+// Value i of a file of whole values. An absent one counts its ceiling, so that a blank never flatters a quote.
 fn value_of(bytes: &[u8], i: usize) -> u64
     requires { ⌜ (length (now bytes) % valueLength ≡ 0) × (i < howManyValues) ⌝ }
     ensures { λ r. ⌜ r ≡ valueIn i (drop (valueLength * i) (now (bytes .entry))) ⌝ }
@@ -289,7 +282,7 @@ fn value_of(bytes: &[u8], i: usize) -> u64
     if at < bytes.len() {
         table::read_u64(bytes, at)
     } else {
-        absent_value(i)
+        ceiling_of(i)
     }
 }
 
@@ -317,7 +310,8 @@ fn values_whole(bytes: &[u8]) -> bool
 
 // What the desk program decides from the bytes of tree.tab and values.tab.
 pub fn quote_files(tree: &[u8], values: &[u8]) -> Quote
-    ensures { λ r. ⌜ r ≡ filesAnswer (now (tree .entry)) (now (values .entry)) ⌝ }
+    ensures answer { λ r. ⌜ r ≡ filesAnswer (now (tree .entry)) (now (values .entry)) ⌝ }
+    ensures promise { λ r. ⌜ BlanksPromise (now (tree .entry)) (now (values .entry)) r ⌝ }
 {
     if values_whole(values) {
         let numbers = values_of(values);

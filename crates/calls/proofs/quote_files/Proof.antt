@@ -2,7 +2,7 @@ use mathlib.Core.Path.{sym, ap, _∙_}
 use borrow.Author.Needs.{needs}
 use Rattle.calls.specs.declared.Quote.{Quote}
 use Rattle.calls.specs.Answers.{figureAnswer}
-use Rattle.calls.specs.Laws.Files.{whole-length, files-whole, files-refused, files-other}
+use Rattle.calls.specs.Laws.Files.{whole-length, files-kept, files-whole, files-refused, files-other}
 use Rattle.calls.proofs.quote_files.Statement.{statement}
 use Rattle.calls.proofs.quote_files.Tie as tie
 
@@ -23,7 +23,8 @@ returns c =
     let v = c .before .before in
     let w = v .before in
     let a = w .before .before .before .before .args in
-    c .figure .ensures .0 ∙ ap (figureAnswer (a .tree .now)) (v .values-of .ensures) ∙ files-whole _ _ (sym (w .before .values-whole .ensures) ∙ w .if1 .taken)
+    files-kept _ _ _
+    (c .figure .ensures .0 ∙ ap (figureAnswer (a .tree .now)) (v .values-of .ensures) ∙ files-whole _ _ (sym (w .before .values-whole .ensures) ∙ w .if1 .taken))
 
 refusal-of-requires : tie.Need-refusal-of-requires
 refusal-of-requires c κs = search needs
@@ -31,13 +32,13 @@ refusal-of-requires c κs = search needs
 returns-2 : tie.Need-returns-2
 returns-2 c =
     let e = c .before .before in
-    files-other _ _ (sym (e .before .values-whole .ensures) ∙ e .if1 .left) (sym (c .before .refusal-of .ensures) ∙ c .if2 .taken)
+    files-kept _ _ _ (files-other _ _ (sym (e .before .values-whole .ensures) ∙ e .if1 .left) (sym (c .before .refusal-of .ensures) ∙ c .if2 .taken))
 
 returns-3 : tie.Need-returns-3
 returns-3 c =
     let e = c .before .before in
     let r = c .before .refusal-of .ensures in
-    ap Quote.Refused r ∙ files-refused _ _ (sym (e .before .values-whole .ensures) ∙ e .if1 .left) (λ z. c .if2 .left (r ∙ z))
+    files-kept _ _ _ (ap Quote.Refused r ∙ files-refused _ _ (sym (e .before .values-whole .ensures) ∙ e .if1 .left) (λ z. c .if2 .left (r ∙ z)))
 
 pub quote-files-spec : {M : Type 1} → statement M
 quote-files-spec =

@@ -2,16 +2,19 @@
 use mathlib.Core.Path.{_≡_, refl, sym, ap, _∙_}
 use mathlib.Core.Bool.{Bool, true, false, cond}
 use mathlib.Core.List.{List}
-use Prim.Native.Nat.{ℕ}
+use Prim.Native.Nat.{ℕ, _≤_}
 use native.Mathlib.Omega.{arith}
-use lib.Dec.{T}
-use Rattle.booleans.specs.Laws.{T-is}
+use lib.Dec.{T, eqb}
+use borrow.Author.Tests.{eqb-true}
+use Rattle.booleans.specs.Laws.{both, T-is}
 use Rattle.table.specs.Trees.{Tree}
 use Rattle.table.specs.Table.{decode}
 use Rattle.table.specs.Checking.{refusal}
 use Rattle.evaluate.specs.Evaluate.{valuesOf, figure, fits}
+use Rattle.evaluate.specs.Laws.Monotone.{figure-mono}
 use Rattle.calls.specs.declared.Quote.{Quote}
-use Rattle.calls.specs.Answers.{question9, quoteOf, figureAnswer, quotedRefusal, quotedFigure}
+use Rattle.calls.specs.Answers.{ranged, question9, quoteOf, figureAnswer, quotedRefusal, quotedFigure}
+use Rattle.calls.specs.Demand.{NoneLower}
 
 is-figure : (v : List ℕ) (t : Tree) → quotedRefusal (quoteOf v t) ≡ 0 → T (question9 v) × T (fits (valuesOf v) t) × (quotedFigure (quoteOf v t) ≡ figure (valuesOf v) t)
 unfolding quoteOf quotedRefusal quotedFigure
@@ -40,3 +43,24 @@ pub figured : (b vs : List ℕ) → refusal b ≡ 0 → quotedRefusal (figureAns
 figured b vs e p =
     let (q, f, x) = is-figure vs (decode b) (sym (ap quotedRefusal (figure-of b vs e)) ∙ p) in
     (q, f, ap quotedFigure (figure-of b vs e) ∙ x)
+
+-- a table with a figure is accepted
+answered : (b vs : List ℕ) → quotedRefusal (figureAnswer b vs) ≡ 0 → refusal b ≡ 0
+unfolding figureAnswer quotedRefusal
+answered b vs p = go (eqb (refusal b) 0) refl p
+  where
+    go : (x : Bool) → eqb (refusal b) 0 ≡ x → quotedRefusal (cond x (quoteOf vs (decode b)) (Quote.Refused (refusal b))) ≡ 0 → refusal b ≡ 0
+    go true e q = eqb-true (refusal b) 0 e
+    go false e q = q
+
+-- values none lower give no lower figure, where both get one
+pub figure-monotone : (b vs ws : List ℕ) → NoneLower vs ws → quotedRefusal (figureAnswer b vs) ≡ 0 → quotedRefusal (figureAnswer b ws) ≡ 0
+    → quotedFigure (figureAnswer b vs) ≤ quotedFigure (figureAnswer b ws)
+figure-monotone b vs ws l p q =
+    let e = answered b vs p in
+    omega (arith, figured b vs e p .2, figured b ws e q .2, figure-mono (valuesOf vs) (valuesOf ws) l (decode b))
+
+-- values that get a figure are in range
+pub figured-ranged : (b vs : List ℕ) → quotedRefusal (figureAnswer b vs) ≡ 0 → T (ranged 0 vs)
+unfolding question9
+figured-ranged b vs p = both _ _ (figured b vs (answered b vs p) p .0) .1

@@ -1,21 +1,23 @@
 -- The values of a file, as a program reads them into an array.
-use mathlib.Core.Path.{_≡_, refl, sym, ap, ap₂, _∙_}
+use mathlib.Core.Path.{_≡_, refl, sym, ap, ap₂, _∙_, subst}
 use mathlib.Core.Bool.{Bool, true, false, cond}
 use mathlib.Core.List.{List, [], _∷_, _++_}
 use Prim.Native.Nat.{ℕ, zero, suc, _+_, _*_, _%_, _<_}
 use native.Mathlib.Nat.{add-zero, zero-add}
 use native.Mathlib.Omega.{arith}
-use lib.ListN.{length, getD, take, drop, set}
-use lib.Dec.{eqb, eqb→eq}
-use lib.Seq.{drop-drop, take-suc-set, take-suc, take-all}
-use borrow.Author.Tests.{eq-eqb, ne-eqb}
+use lib.ListN.{length, getD, take, drop, set, length-drop}
+use lib.Dec.{T, eqb, eqb→eq, leb→le}
+use lib.Seq.{drop-drop, take-suc-set, take-suc, take-all, take-append-le, drop-append-le}
+use borrow.Author.Tests.{eq-eqb, ne-eqb, eqb-false}
 use Rattle.booleans.specs.Laws.{both, is-T}
 use Rattle.table.specs.Numbers.{howManyValues}
 use Rattle.table.specs.Bytes.{fromBytes}
 use Rattle.table.specs.Checking.{refusal}
 use Rattle.calls.specs.declared.Quote.{Quote}
-use Rattle.calls.specs.Answers.{figureAnswer}
-use Rattle.calls.specs.Files.{valueLength, absent, valueIn, valuesFrom, valuesWhole, filesAnswer}
+use Rattle.calls.specs.Answers.{ceiling, ranged, figureAnswer, quotedRefusal}
+use Rattle.calls.specs.Files.{BlanksPromise, valueLength, valueIn, valuesFrom, valuesWhole, filesAnswer}
+use Rattle.calls.specs.Demand.{NoneLower}
+use Rattle.calls.specs.Laws.Figures.{figure-monotone, figured-ranged}
 
 values-length : (n i : ℕ) (b : List ℕ) → length (valuesFrom n i b) ≡ n
 unfolding valuesFrom
@@ -51,7 +53,7 @@ unfolding valueIn
 value-there i [] l = absurd (omega arith)
 value-there i (x ∷ b) l = refl
 
-pub value-absent : (i : ℕ) (b : List ℕ) → length b ≡ 0 → absent i ≡ valueIn i b
+pub value-absent : (i : ℕ) (b : List ℕ) → length b ≡ 0 → ceiling i ≡ valueIn i b
 unfolding valueIn
 value-absent i [] l = refl
 value-absent i (x ∷ b) l = absurd (omega arith)
@@ -79,3 +81,41 @@ module _ (t v : List ℕ) where
 pub whole-length : (v : List ℕ) → valuesWhole v ≡ true → length v % valueLength ≡ 0
 unfolding valuesWhole
 whole-length v w = eqb→eq (length v % valueLength) 0 (both _ _ (is-T _ w) .0)
+
+-- ---- values left out
+
+-- with more written after the file, no value in range is higher
+more-lower : (n i : ℕ) (v more : List ℕ) → length v % valueLength ≡ 0 → T (ranged i (valuesFrom n i (v ++ more))) → NoneLower (valuesFrom n i (v ++ more)) (valuesFrom n i v)
+unfolding valuesFrom ranged valueIn
+more-lower zero i v more w r k = omega arith
+more-lower (suc n) i [] more w r zero = leb→le (valueIn i more) (ceiling i) (both _ _ r .0)
+more-lower (suc n) i [] more w r (suc k) = more-lower n (suc i) [] (drop valueLength more) w (both _ _ r .1) k
+more-lower (suc n) i (x ∷ v) more w r zero = rw (take-append-le valueLength (x ∷ v) more (omega arith)) (omega arith)
+more-lower (suc n) i (x ∷ v) more w r (suc k) =
+    let d = drop-append-le valueLength (x ∷ v) more (omega arith) in
+    rw d (more-lower n (suc i) (drop valueLength (x ∷ v)) more (rw length-drop (omega arith)) (rw d at (both _ _ r .1)) k)
+
+module _ (t : List ℕ) where
+  -- a file that gets a figure holds whole values
+  files-quoted : (v : List ℕ) → quotedRefusal (filesAnswer t v) ≡ 0 → valuesWhole v ≡ true
+  unfolding filesAnswer quotedRefusal
+  files-quoted v p = go (eqb (refusal t) 0) (valuesWhole v) refl p
+    where
+      go : (x y : Bool) → eqb (refusal t) 0 ≡ x → quotedRefusal (cond x (cond y (figureAnswer t (valuesFrom howManyValues 0 v)) (Quote.Refused 9)) (Quote.Refused (refusal t))) ≡ 0 → y ≡ true
+      go true true e q = refl
+      go true false e q = absurd (omega arith)
+      go false y e q = absurd (eqb-false (refusal t) 0 e q)
+
+  pub blanks-promise : (v : List ℕ) → BlanksPromise t v (filesAnswer t v)
+  unfolding BlanksPromise
+  blanks-promise v more p q =
+      let a = files-quoted v p in
+      let e = files-whole t v a in
+      let f = files-whole t (v ++ more) (files-quoted (v ++ more) q) in
+      let q′ = ap quotedRefusal f ∙ q in
+      let low = more-lower howManyValues 0 v more (whole-length v a) (figured-ranged t _ q′) in
+      rw (← e, ← f) (figure-monotone t _ _ low q′ (ap quotedRefusal e ∙ p))
+
+  -- an answer that is the desk's keeps it
+  pub files-kept : (v : List ℕ) (r : Quote) → r ≡ filesAnswer t v → (r ≡ filesAnswer t v) × BlanksPromise t v r
+  files-kept v r e = (e, subst (BlanksPromise t v) (sym e) (blanks-promise v))
