@@ -41,8 +41,7 @@ fn are_values(values: &[u64]) -> bool {
     values.len() == VALUES && (0..).zip(values).all(|(at, &value)| value <= ceiling(at))
 }
 
-/// The largest value of a symbol.
-pub fn ceiling(symbol: u64) -> u64 {
+fn ceiling(symbol: u64) -> u64 {
     if COUNT_SYMBOLS.contains(&symbol) {
         MOST_COUNT
     } else {

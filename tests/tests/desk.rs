@@ -26,8 +26,11 @@ const SMALL: Amounts = Amounts {
     time: 1_000,
     bound: 20,
     limit: 20,
-    symbols: 2,
+    symbols: 1,
 };
+
+/// Zeros enough for a file of 40 values, which is too long.
+const TOO_LONG: [u8; 320] = [0; 320];
 
 fn with_files(tree: &[u8], values: &[u8]) -> Folder {
     let folder = Folder::with_tree(DESK, tree);
@@ -66,7 +69,7 @@ fn expect(tree: &[u8], values: &[u8]) -> Result<u64, u64> {
 
 /// The 32 values of a file, those that it leaves out at their ceilings, unless its length is refused.
 fn numbers(values: &[u8]) -> Option<[u64; 32]> {
-    let mut numbers: [u64; 32] = std::array::from_fn(|symbol| evaluator::ceiling(symbol as u64));
+    let mut numbers = ceilings();
     let (whole, rest) = values.as_chunks();
     if whole.len() > numbers.len() || !rest.is_empty() {
         return None;
@@ -92,25 +95,11 @@ fn only_symbol(symbol: u64) -> Vec<u8> {
     }
 }
 
-/// A choice whose symbols are the first value and the last two.
-fn first_and_last() -> Vec<u8> {
-    choice(&[0, 30, 31].map(only_symbol))
-}
-
-/// The 32 values that absent ones count.
+/// What 32 absent values count.
 fn ceilings() -> [u64; 32] {
     let mut ceilings = [1_000_000; 32];
     ceilings[16..].fill(1_000_000_000_000);
     ceilings
-}
-
-/// Enough values for a file that is too long.
-fn many_values() -> Vec<u8> {
-    let mut values = [0; 40];
-    values[0] = 5;
-    values[30] = 200;
-    values[31] = 1_000;
-    values_file(&values)
 }
 
 /// Trees that fail questions 1 to 7, in this order.
@@ -150,18 +139,17 @@ fn the_workshops_tree_has_the_houses_figure_before_and_after() {
 fn a_missing_tree_is_empty() {
     let folder = Folder::new(DESK);
     says(&folder, "refused 1");
-    folder.write(VALUES, &many_values()[..256]);
+    folder.write(VALUES, &TOO_LONG[..256]);
     says(&folder, "refused 1");
     assert!(!folder.path(TREE).exists());
 }
 
 #[test]
 fn other_lengths_of_values_are_refused_9() {
-    let values = many_values();
     for length in [1, 4, 7, 9, 15, 247, 249, 255, 257, 263, 264, 265, 272, 320] {
-        quotes(&first_and_last(), &values[..length], "refused 9");
+        quotes(&block(7), &TOO_LONG[..length], "refused 9");
     }
-    quotes(&first_and_last(), &vec![0; 100_000], "refused 9");
+    quotes(&block(7), &vec![0; 100_000], "refused 9");
 }
 
 #[test]
@@ -235,14 +223,13 @@ fn every_number_of_values_may_be_written() {
         let high = values_file(&ceilings()[..count]);
         for symbol in 0..32 {
             let tree = only_symbol(symbol as u64);
-            let ceiling = ceilings()[symbol];
-            let value = if symbol < count {
-                written[symbol]
+            let ceiling = format!("figure {}", ceilings()[symbol]);
+            if symbol < count {
+                quotes(&tree, &low, &format!("figure {}", written[symbol]));
+                quotes(&tree, &high, &ceiling);
             } else {
-                ceiling
-            };
-            quotes(&tree, &low, &format!("figure {value}"));
-            quotes(&tree, &high, &format!("figure {ceiling}"));
+                quotes(&tree, &low, &ceiling);
+            }
         }
     }
 }
@@ -284,11 +271,16 @@ fn absent_values_may_be_too_large_for_a_figure() {
 
 #[test]
 fn a_bad_trees_number_comes_before_the_values() {
-    let long = many_values();
     let too_large = values_file(&[1_000_001]);
     for (question, tree) in (1..).zip(refused_trees()) {
         let line = format!("refused {question}");
-        for values in [&[][..], &long[..1], &long[..257], &long[..264], &too_large] {
+        for values in [
+            &[][..],
+            &TOO_LONG[..1],
+            &TOO_LONG[..257],
+            &TOO_LONG[..264],
+            &too_large,
+        ] {
             quotes(&tree, values, &line);
         }
     }
@@ -372,9 +364,10 @@ fn random_lengths_of_values() {
     let mut rng = Rng::new(503);
     let mut refused = 0;
     for _ in 0..200 {
-        let length = rng.size(0..=80) * rng.pick(&[1, 8]);
-        let values = values_file(&MIDDLING.values(&mut rng).repeat(3));
-        refused += u64::from(expect(&first_and_last(), &values[..length]) == Err(9));
+        let tree = only_symbol(rng.within(0..=31));
+        let length = rng.size(0..=40) * rng.pick(&[1, 8]);
+        let values = values_file(&MIDDLING.values(&mut rng).repeat(2));
+        refused += u64::from(expect(&tree, &values[..length]) == Err(9));
     }
     assert!((50..=150).contains(&refused), "{refused}");
 }
@@ -384,7 +377,7 @@ fn leaving_values_out_never_lowers_a_quote() {
     let mut rng = Rng::new(504);
     let (mut same, mut higher) = (0, 0);
     for _ in 0..400 {
-        let records = rng.size(1..=8);
+        let records = rng.size(1..=4);
         let mut tree = trees::within_limits(&mut rng, records);
         SMALL.set(&mut rng, &mut tree);
         let tree = tree.encode();
@@ -398,5 +391,5 @@ fn leaving_values_out_never_lowers_a_quote() {
             higher += u64::from(long < short);
         }
     }
-    assert!(same > 20 && higher > 20, "{same}, {higher}");
+    assert!(same > 50 && higher > 50, "{same}, {higher}");
 }

@@ -1,4 +1,4 @@
--- The starred cases of document 01, "Cases", and the desk's of document 02, request 2, each as one list, checked against the definitions by one proof.
+-- The starred cases of document 01, "Cases", and the desk's of document 02, request 2: each one list that one proof checks against the definitions.
 use mathlib.Core.Path.{_≡_, refl}
 use mathlib.Core.Bool.{Bool, true, false}
 use mathlib.Core.List.{List, [], _∷_, _++_}
@@ -153,8 +153,8 @@ starred =
     ∷ becomes (either (both (block 5) (symbol 16)) (both (block 4) (symbol 16))) (both (block 5) (symbol 16)) 2
     ∷ []
 
--- zeros in a file
-zeroValues : ℕ → List ℕ
+-- a file of n zeros
+pub zeroValues : ℕ → List ℕ
 zeroValues n = noughts (valueLength * n)
 
 pub absent : List Case
@@ -185,3 +185,8 @@ absent-hold = refl
 pub all-absent : valuesFrom howManyValues 0 [] ≡ replicate 16 1000000 ++ replicate 16 1000000000000
 unfolding computed
 all-absent = refl
+
+-- what a file of two values counts, the lowest byte of each first; then 14 absent counts and 16 absent times
+pub two-written : valuesFrom howManyValues 0 (1 ∷ 2 ∷ 0 ∷ 0 ∷ 0 ∷ 0 ∷ 0 ∷ 3 ∷ zeroValues 1) ≡ 216172782113784321 ∷ 0 ∷ replicate 14 1000000 ++ replicate 16 1000000000000
+unfolding zeroValues computed
+two-written = refl

@@ -36,7 +36,7 @@ filesAnswer t v =
 
 -- What a quote of a tree and a file promises: with more values written after the file's own, the figure is no higher, where both get one. So leaving last
 -- values out never lowers a quote.
-unfoldable pub BlanksPromise : (tree values : List ℕ) → Quote → Type 0
-BlanksPromise t v q =
+unfoldable pub FilesPromise : (tree values : List ℕ) → Quote → Type 0
+FilesPromise t v q =
     (more : List ℕ) → let written = filesAnswer t (v ++ more) in
     quotedRefusal q ≡ 0 → quotedRefusal written ≡ 0 → quotedFigure written ≤ quotedFigure q

@@ -14,7 +14,7 @@ ghost use Rattle.table.specs.Numbers.{howManyValues, listRoom};
 ghost use Rattle.calls.specs.Demand.{Asked, Demand3};
 ghost use Rattle.calls.specs.Promises.{ListPromises, Promises};
 ghost use Rattle.calls.specs.Answers.{checkAnswer, ceiling, endingOf, figureAnswer, listAnswer, listWrites, made, madeAnswer, over, question9, simplifiedLength, simplifyAnswer, simplifyWrites};
-ghost use Rattle.calls.specs.Files.{BlanksPromise, filesAnswer, valueIn, valueLength, valuesFrom, valuesWhole};
+ghost use Rattle.calls.specs.Files.{FilesPromise, filesAnswer, valueIn, valueLength, valuesFrom, valuesWhole};
 
 // How many values a desk holds.
 pub const HOW_MANY_VALUES: usize = 32;
@@ -286,7 +286,7 @@ fn value_of(bytes: &[u8], i: usize) -> u64
     }
 }
 
-// All the values, those of a file of whole values first.
+// All the values: those of a file of whole values, then the ceilings of the absent ones.
 fn values_of(bytes: &[u8]) -> [u64; HOW_MANY_VALUES]
     requires { ⌜ length (now bytes) % valueLength ≡ 0 ⌝ }
     ensures { λ r. ⌜ r ≡ valuesFrom howManyValues 0 (now (bytes .entry)) ⌝ }
@@ -311,7 +311,7 @@ fn values_whole(bytes: &[u8]) -> bool
 // What the desk program decides from the bytes of tree.tab and values.tab.
 pub fn quote_files(tree: &[u8], values: &[u8]) -> Quote
     ensures answer { λ r. ⌜ r ≡ filesAnswer (now (tree .entry)) (now (values .entry)) ⌝ }
-    ensures promise { λ r. ⌜ BlanksPromise (now (tree .entry)) (now (values .entry)) r ⌝ }
+    ensures promise { λ r. ⌜ FilesPromise (now (tree .entry)) (now (values .entry)) r ⌝ }
 {
     if values_whole(values) {
         let numbers = values_of(values);

@@ -4,9 +4,8 @@ use mathlib.Core.Bool.{Bool, true, false, cond}
 use mathlib.Core.List.{List}
 use Prim.Native.Nat.{ℕ, _≤_}
 use native.Mathlib.Omega.{arith}
-use lib.Dec.{T, eqb}
-use borrow.Author.Tests.{eqb-true}
-use Rattle.booleans.specs.Laws.{both, T-is}
+use lib.Dec.{T, eqb, eqb→eq}
+use Rattle.booleans.specs.Laws.{both, by-cond, T-is}
 use Rattle.table.specs.Trees.{Tree}
 use Rattle.table.specs.Table.{decode}
 use Rattle.table.specs.Checking.{refusal}
@@ -47,11 +46,7 @@ figured b vs e p =
 -- a table with a figure is accepted
 answered : (b vs : List ℕ) → quotedRefusal (figureAnswer b vs) ≡ 0 → refusal b ≡ 0
 unfolding figureAnswer quotedRefusal
-answered b vs p = go (eqb (refusal b) 0) refl p
-  where
-    go : (x : Bool) → eqb (refusal b) 0 ≡ x → quotedRefusal (cond x (quoteOf vs (decode b)) (Quote.Refused (refusal b))) ≡ 0 → refusal b ≡ 0
-    go true e q = eqb-true (refusal b) 0 e
-    go false e q = q
+answered b vs = by-cond (λ r. quotedRefusal r ≡ 0 → refusal b ≡ 0) (eqb (refusal b) 0) _ _ (λ h p. eqb→eq (refusal b) 0 h) (λ e p. p)
 
 -- values none lower give no lower figure, where both get one
 pub figure-monotone : (b vs ws : List ℕ) → NoneLower vs ws → quotedRefusal (figureAnswer b vs) ≡ 0 → quotedRefusal (figureAnswer b ws) ≡ 0

@@ -1,4 +1,4 @@
--- The values of a file, as a program reads them into an array.
+-- The values of a file, as a program reads them into an array; what is decided from both files, and that values left out never lower it.
 use mathlib.Core.Path.{_≡_, refl, sym, ap, ap₂, _∙_, subst}
 use mathlib.Core.Bool.{Bool, true, false, cond}
 use mathlib.Core.List.{List, [], _∷_, _++_}
@@ -9,13 +9,13 @@ use lib.ListN.{length, getD, take, drop, set, length-drop}
 use lib.Dec.{T, eqb, eqb→eq, leb→le}
 use lib.Seq.{drop-drop, take-suc-set, take-suc, take-all, take-append-le, drop-append-le}
 use borrow.Author.Tests.{eq-eqb, ne-eqb, eqb-false}
-use Rattle.booleans.specs.Laws.{both, is-T}
+use Rattle.booleans.specs.Laws.{both, by-cond, is-T, T-is}
 use Rattle.table.specs.Numbers.{howManyValues}
 use Rattle.table.specs.Bytes.{fromBytes}
 use Rattle.table.specs.Checking.{refusal}
 use Rattle.calls.specs.declared.Quote.{Quote}
 use Rattle.calls.specs.Answers.{ceiling, ranged, figureAnswer, quotedRefusal}
-use Rattle.calls.specs.Files.{BlanksPromise, valueLength, valueIn, valuesFrom, valuesWhole, filesAnswer}
+use Rattle.calls.specs.Files.{FilesPromise, valueLength, valueIn, valuesFrom, valuesWhole, filesAnswer}
 use Rattle.calls.specs.Demand.{NoneLower}
 use Rattle.calls.specs.Laws.Figures.{figure-monotone, figured-ranged}
 
@@ -84,8 +84,9 @@ whole-length v w = eqb→eq (length v % valueLength) 0 (both _ _ (is-T _ w) .0)
 
 -- ---- values left out
 
--- with more written after the file, no value in range is higher
-more-lower : (n i : ℕ) (v more : List ℕ) → length v % valueLength ≡ 0 → T (ranged i (valuesFrom n i (v ++ more))) → NoneLower (valuesFrom n i (v ++ more)) (valuesFrom n i v)
+-- where the values of the longer file are in range, none is above the shorter file's
+more-lower : (n i : ℕ) (v more : List ℕ) → length v % valueLength ≡ 0 → T (ranged i (valuesFrom n i (v ++ more)))
+    → NoneLower (valuesFrom n i (v ++ more)) (valuesFrom n i v)
 unfolding valuesFrom ranged valueIn
 more-lower zero i v more w r k = omega arith
 more-lower (suc n) i [] more w r zero = leb→le (valueIn i more) (ceiling i) (both _ _ r .0)
@@ -99,16 +100,14 @@ module _ (t : List ℕ) where
   -- a file that gets a figure holds whole values
   files-quoted : (v : List ℕ) → quotedRefusal (filesAnswer t v) ≡ 0 → valuesWhole v ≡ true
   unfolding filesAnswer quotedRefusal
-  files-quoted v p = go (eqb (refusal t) 0) (valuesWhole v) refl p
-    where
-      go : (x y : Bool) → eqb (refusal t) 0 ≡ x → quotedRefusal (cond x (cond y (figureAnswer t (valuesFrom howManyValues 0 v)) (Quote.Refused 9)) (Quote.Refused (refusal t))) ≡ 0 → y ≡ true
-      go true true e q = refl
-      go true false e q = absurd (omega arith)
-      go false y e q = absurd (eqb-false (refusal t) 0 e q)
+  files-quoted v =
+      by-cond (λ r. quotedRefusal r ≡ 0 → valuesWhole v ≡ true) (eqb (refusal t) 0) _ _
+      (λ h. by-cond (λ r. quotedRefusal r ≡ 0 → valuesWhole v ≡ true) (valuesWhole v) _ _ (λ w p. T-is _ w) (λ w p. absurd (omega arith)))
+      (λ e p. absurd (eqb-false (refusal t) 0 e p))
 
-  pub blanks-promise : (v : List ℕ) → BlanksPromise t v (filesAnswer t v)
-  unfolding BlanksPromise
-  blanks-promise v more p q =
+  pub files-promise : (v : List ℕ) → FilesPromise t v (filesAnswer t v)
+  unfolding FilesPromise
+  files-promise v more p q =
       let a = files-quoted v p in
       let e = files-whole t v a in
       let f = files-whole t (v ++ more) (files-quoted (v ++ more) q) in
@@ -117,5 +116,5 @@ module _ (t : List ℕ) where
       rw (← e, ← f) (figure-monotone t _ _ low q′ (ap quotedRefusal e ∙ p))
 
   -- an answer that is the desk's keeps it
-  pub files-kept : (v : List ℕ) (r : Quote) → r ≡ filesAnswer t v → (r ≡ filesAnswer t v) × BlanksPromise t v r
-  files-kept v r e = (e, subst (BlanksPromise t v) (sym e) (blanks-promise v))
+  pub files-kept : (v : List ℕ) (r : Quote) → r ≡ filesAnswer t v → (r ≡ filesAnswer t v) × FilesPromise t v r
+  files-kept v r e = (e, subst (FilesPromise t v) (sym e) (files-promise v))
