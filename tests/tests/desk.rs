@@ -21,7 +21,7 @@ const MIDDLING: Amounts = Amounts {
     symbols: 3,
 };
 
-/// Figures below the ceiling, as long as few values are absent.
+/// Symbols everywhere, and figures below the ceiling as long as few values are absent.
 const SMALL: Amounts = Amounts {
     time: 1_000,
     bound: 20,
