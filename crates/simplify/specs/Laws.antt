@@ -1,5 +1,6 @@
 -- Laws, in the order in which they lean on each other.
 pub mod Same
+pub mod Keeps
 pub mod Refines
 pub mod Context
 pub mod Forests

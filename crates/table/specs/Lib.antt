@@ -3,6 +3,7 @@ pub mod Numbers
 mod Nodes
 pub mod Trees
 pub mod Questions
+pub mod Limits
 pub mod Bytes
 pub mod Table
 pub mod Checking

@@ -19,7 +19,7 @@ use Rattle.table.specs.Laws.NotRefused.{reads-back, not-refused}
 use Rattle.evaluate.specs.Evaluate.{valuesOf, figure, fits, zeros}
 use Rattle.evaluate.specs.Laws.Monotone.{figure-mono, fits-zeros}
 use Rattle.simplify.specs.Steps.{Made, isNone, step, steps}
-use Rattle.simplify.specs.Laws.Stepping.{Kept}
+use Rattle.simplify.specs.Laws.Keeps.{Kept}
 use Rattle.simplify.specs.Laws.Stepwise.{steps-kept, steps-made, steps-within, steps-spent, steps-finished}
 use Rattle.calls.specs.declared.Checked.{Checked}
 use Rattle.calls.specs.declared.Quote.{Quote}

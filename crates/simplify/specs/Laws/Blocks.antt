@@ -1,5 +1,6 @@
 -- What the definitions say of an unlimited plain block, and of a plain block with a limit.
 use mathlib.Core.Path.{_≡_, refl, ap}
+use mathlib.Core.Bool.{Bool}
 use Prim.Native.Nat.{ℕ, _≤_}
 use native.Mathlib.Omega.{arith}
 use lib.Dec.{T, le→leb}
@@ -7,12 +8,13 @@ use Rattle.booleans.specs.Laws.{both, join-and}
 use Rattle.booleans.specs.Tests.{_and_}
 use Rattle.table.specs.Numbers.{wholeRun, mostTime}
 use Rattle.table.specs.Questions.{arity, timeInRange, kindInRange, limitInRange, listed, nameOk, named, share, weight, loops, depth}
+use Rattle.table.specs.Limits.{everyLimit, passes}
 use Rattle.table.specs.Trees.{Tree, node, nil, _▸_, size, records}
 use Rattle.lists.specs.Streams.{const}
 use Rattle.evaluate.specs.Closed.{isPlain, plainKind}
 use Rattle.evaluate.specs.Evaluate.{Values, amount, limit, start, list, inner, name, fits}
 use Rattle.evaluate.specs.Laws.Constant.{unlimited-is}
-use Rattle.simplify.specs.Nodes.{Plain, Symbol, Kind, Block, Sequence, Choice, Loop, Unlimited, Limit}
+use Rattle.simplify.specs.Nodes.{Number, Plain, Symbol, Kind, Block, Sequence, Choice, Loop, Unlimited, Limit}
 use Rattle.simplify.specs.Rules.{isBlock, timeOfKind, leaf, bare, timeOf}
 use Rattle.simplify.specs.Laws.Same.{node-is}
 
@@ -53,6 +55,10 @@ leaf-listed x l h i = join-and _ _ (join-and _ _ (join-and _ _ (le→leb x mostT
 pub leaf-named : (x d : ℕ) → T (named (leaf x Unlimited) d)
 unfolding leaf named nameOk _and_
 leaf-named x d = tt
+
+pub leaf-limits : (p : ℕ → Number → Bool) (x : ℕ) → T (everyLimit p (leaf x Unlimited))
+unfolding leaf everyLimit passes _and_
+leaf-limits p x = tt
 
 pub leaf-weight : (x d : ℕ) → weight (leaf x Unlimited) d ≡ 0
 unfolding leaf weight share

@@ -1,12 +1,16 @@
 -- Children put together: what is asked of them, and of each part.
-use mathlib.Core.Path.{_≡_}
-use Prim.Native.Nat.{_+_, max}
+use mathlib.Core.Path.{_≡_, subst, sym}
+use mathlib.Core.Bool.{Bool}
+use Prim.Native.Nat.{ℕ, _+_, max}
 use native.Mathlib.Omega.{arith}
 use lib.Dec.{T}
 use Rattle.booleans.specs.Laws.{both, join-and}
-use Rattle.table.specs.Questions.{depth, depthIn, listed, listedIn}
-use Rattle.table.specs.Trees.{Forest, nil, _▸_, _⧺_, size, records, recordsIn}
+use Rattle.table.specs.Questions.{depth, depthIn, listed, listedIn, named, namedIn}
+use Rattle.table.specs.Limits.{everyLimit, everyLimitIn}
+use Rattle.table.specs.Trees.{Tree, Forest, nil, _▸_, _⧺_, size, records, recordsIn}
 use Rattle.evaluate.specs.Evaluate.{Values, fits, fitsIn}
+use Rattle.simplify.specs.Nodes.{Kind, Number}
+use Rattle.simplify.specs.Laws.Refines.{SumKind}
 
 -- ---- children put together
 
@@ -25,12 +29,34 @@ unfolding _⧺_ depth
 depth-⧺ nil f = omega arith
 depth-⧺ (t ▸ g) f = omega (arith, depth-⧺ g f)
 
-pub fits-⧺ : (v : Values) (g f : Forest) → T (fitsIn v g) → T (fitsIn v f) → T (fitsIn v (g ⧺ f))
-unfolding _⧺_ fits
-fits-⧺ v nil f h i = i
-fits-⧺ v (t ▸ g) f h i = let (a, b) = both _ _ h in join-and _ _ a (fits-⧺ v g f b i)
+-- ---- a test of children that is a test of each
 
-pub listed-⧺ : (g f : Forest) → T (listedIn g) → T (listedIn f) → T (listedIn (g ⧺ f))
-unfolding _⧺_ listed
-listed-⧺ nil f h i = i
-listed-⧺ (t ▸ g) f h i = let (a, b) = both _ _ h in join-and _ _ a (listed-⧺ g f b i)
+pub record Each (q : Tree → Bool) (qs : Forest → Bool) : Type 0 where
+  pub none : T (qs nil)
+  pub apart : (t : Tree) (f : Forest) → T (qs (t ▸ f)) → T (q t) × T (qs f)
+  pub more : (t : Tree) (f : Forest) → T (q t) → T (qs f) → T (qs (t ▸ f))
+
+pub fits-each : (v : Values) → Each (fits v) (fitsIn v)
+unfolding fits
+fits-each v = record { none = tt; apart = λ t f h. both _ _ h; more = λ t f h i. join-and _ _ h i }
+
+pub listed-each : Each listed listedIn
+unfolding listed
+listed-each = record { none = tt; apart = λ t f h. both _ _ h; more = λ t f h i. join-and _ _ h i }
+
+pub limits-each : (p : ℕ → Number → Bool) → Each (everyLimit p) (everyLimitIn p)
+unfolding everyLimit
+limits-each p = record { none = tt; apart = λ t f h. both _ _ h; more = λ t f h i. join-and _ _ h i }
+
+pub named-each : (k : Kind) → SumKind k → (d : ℕ) → Each (λ t. named t d) (λ f. namedIn k f d)
+unfolding named
+named-each k s d = record {
+  none = tt;
+  apart = λ t f h. both _ _ (subst T (s .nameds t f d) h);
+  more = λ t f h i. subst T (sym (s .nameds t f d)) (join-and _ _ h i);
+}
+
+pub each-⧺ : {q : Tree → Bool} {qs : Forest → Bool} → Each q qs → (g f : Forest) → T (qs g) → T (qs f) → T (qs (g ⧺ f))
+unfolding _⧺_
+each-⧺ e nil f h i = i
+each-⧺ e (t ▸ g) f h i = let (a, b) = e .apart t g h in e .more t (g ⧺ f) a (each-⧺ e g f b i)

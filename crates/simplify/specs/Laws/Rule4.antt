@@ -7,6 +7,7 @@ use lib.Dec.{T, leb→le, eqb→eq}
 use Rattle.booleans.specs.Laws.{both, join-and}
 use Rattle.table.specs.Numbers.{mostTime}
 use Rattle.table.specs.Questions.{arity, listed, depth, loops, named, weight}
+use Rattle.table.specs.Limits.{everyLimit}
 use Rattle.table.specs.Trees.{Forest, nil, _▸_, size, records, recordsIn, node}
 use Rattle.table.specs.Laws.Trees.{some-records}
 use Rattle.lists.specs.Streams.{const}
@@ -36,14 +37,17 @@ records-some (t ▸ f) = omega (arith, some-records t, records-some f)
 pub rule4-refines : (n : Node) (f : Forest) → T (symbolFree (node n f)) → T (not (isBlock (n .kind))) → T (closedIn (n .kind) f 0)
     → Refines (leaf (before zeros (n .kind) f 0) (n .limit)) (node n f)
 rule4-refines n f h i r = record {
-  sameName = unfold name in unfold leaf in ap (inner (n .limit)) (sym (closedIn-run k f r));
-  sameList = λ v. unfold list in unfold leaf in unfold start in unfold amount in ap (limit v (n .limit)) (sym (closedIn-const v k f r ∙ ap const (first v)));
-  stillFits = λ v q. leaf-fits v x (n .limit) (few v q);
-  stillListed = λ q l. leaf-listed x (n .limit) (few zeros q) (unfold listed in both _ _ (both _ _ (both _ _ l .0) .0) .1);
-  deep = unfold depth in omega (arith, leaf-depth x (n .limit));
-  nested = λ d. unfold loops in omega (arith, leaf-loops x (n .limit) d);
-  stillNamed = λ d q. unfold named in unfold leaf in join-and _ _ (both _ _ q .0) tt;
-  weighed = λ d. unfold weight in unfold leaf in omega arith;
+  keeps = record {
+    sameName = unfold name in unfold leaf in ap (inner (n .limit)) (sym (closedIn-run k f r));
+    sameList = λ v. unfold list in unfold leaf in unfold start in unfold amount in ap (limit v (n .limit)) (sym (closedIn-const v k f r ∙ ap const (first v)));
+    stillFits = λ v q. leaf-fits v x (n .limit) (few v q);
+    stillListed = λ q l. leaf-listed x (n .limit) (few zeros q) (unfold listed in both _ _ (both _ _ (both _ _ l .0) .0) .1);
+    deep = unfold depth in omega (arith, leaf-depth x (n .limit));
+    nested = λ d. unfold loops in omega (arith, leaf-loops x (n .limit) d);
+    stillNamed = λ d q. unfold named in unfold leaf in join-and _ _ (both _ _ q .0) tt;
+    weighed = λ d. unfold weight in unfold leaf in omega arith;
+    limits = λ p q. unfold everyLimit in unfold leaf in join-and _ _ (both _ _ q .0) tt;
+  };
   fewer = λ l. unfold records in omega (arith, leaf-records x (n .limit), records-some f, arity-some k (size f) i (unfold listed in both _ _ (both _ _ l .0) .1));
 }
   where

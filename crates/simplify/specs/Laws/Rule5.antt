@@ -5,6 +5,7 @@ use native.Mathlib.Omega.{arith}
 use lib.Dec.{T, eqb→eq}
 use Rattle.booleans.specs.Laws.{both, by-cond, or-else}
 use Rattle.table.specs.Questions.{listed, depth}
+use Rattle.table.specs.Limits.{everyLimit}
 use Rattle.table.specs.Trees.{Tree, nil, _▸_, records, Forest, size, node}
 use Rattle.evaluate.specs.Evaluate.{fits, join, before}
 use Rattle.evaluate.specs.Laws.Monotone.{before-falls, nameIn-le}
@@ -12,7 +13,7 @@ use Rattle.evaluate.specs.Laws.Joins.{zero-join}
 use Rattle.simplify.specs.Nodes.{Unlimited, Kind, Node}
 use Rattle.simplify.specs.Rules.{leaf, timeOf, isZero, anyZero, without, isSum}
 use Rattle.simplify.specs.Laws.Refines.{RefinesIn, SumKind, tail-sum, Refines, node-refines, sum-is, arity-of, of-arity}
-use Rattle.simplify.specs.Laws.Rules2And3.{named-apart}
+use Rattle.simplify.specs.Laws.Forests.{named-each}
 use Rattle.simplify.specs.Laws.Blocks.{bare-is, leaf-list, leaf-name, leaf-records}
 
 -- ---- rule 5
@@ -23,16 +24,19 @@ zero-is t h = let (a, b) = both _ _ h in bare-is t a ∙ ap (λ x. leaf x Unlimi
 
 module _ (k : Kind) (s : SumKind k) where
   dropped : (f : Forest) → RefinesIn k f (leaf 0 Unlimited ▸ f)
-  unfolding fits listed depth records
+  unfolding fits listed depth everyLimit records
   dropped f = record {
-    sameName = omega (arith, s .names (leaf 0 Unlimited) f, leaf-name 0, nameIn-le k f);
-    sameList = λ v. sym (s .lists v (leaf 0 Unlimited) f ∙ ap (λ x. join k x (before v k f)) (leaf-list v 0) ∙ zero-join k _ (before-falls v k f));
-    stillFits = λ v b h. both _ _ h .1;
-    stillListed = λ b h l. both _ _ l .1;
-    deep = omega arith;
-    nested = λ d. omega (arith, s .loopses (leaf 0 Unlimited) f d);
-    stillNamed = λ d h. named-apart k s (leaf 0 Unlimited) f d h .1;
-    weighed = λ d. omega (arith, s .weights (leaf 0 Unlimited) f d);
+    keeps = record {
+      sameName = omega (arith, s .names (leaf 0 Unlimited) f, leaf-name 0, nameIn-le k f);
+      sameList = λ v. sym (s .lists v (leaf 0 Unlimited) f ∙ ap (λ x. join k x (before v k f)) (leaf-list v 0) ∙ zero-join k _ (before-falls v k f));
+      stillFits = λ v b h. both _ _ h .1;
+      stillListed = λ b h l. both _ _ l .1;
+      deep = omega arith;
+      nested = λ d. omega (arith, s .loopses (leaf 0 Unlimited) f d);
+      stillNamed = λ d h. named-each k s d .apart (leaf 0 Unlimited) f h .1;
+      weighed = λ d. omega (arith, s .weights (leaf 0 Unlimited) f d);
+      limits = λ p h. both _ _ h .1;
+    };
     fewer = λ l. omega (arith, leaf-records 0 Unlimited);
   }
 

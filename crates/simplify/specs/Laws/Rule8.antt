@@ -1,25 +1,27 @@
 -- Rule 8: a closed second child is shared out of a choice.
 use mathlib.Core.Path.{_≡_, ap, _∙_, refl, ap₂, sym, subst}
-use mathlib.Core.Bool.{true}
+use mathlib.Core.Bool.{Bool, true}
 use Prim.Native.Nat.{suc, ℕ, _≤_, min, max, _+_, _<_}
 use native.Mathlib.Omega.{arith}
 use lib.Dec.{T, leb→le, le→leb}
 use Rattle.booleans.specs.Laws.{both, join-and}
 use Rattle.booleans.specs.Tests.{_and_}
 use Rattle.table.specs.Numbers.{mostTime, wholeRun}
-use Rattle.table.specs.Questions.{listed, listedIn, depth, depthIn, loops, loopsIn, named, namedIn, weight, weightIn, arity, kindInRange, limitInRange, nameOk, share}
+use Rattle.table.specs.Questions.{listed, depth, depthIn, loops, loopsIn, named, weight, weightIn, arity, kindInRange, limitInRange, nameOk, share}
+use Rattle.table.specs.Limits.{everyLimit, passes}
 use Rattle.table.specs.Trees.{nil, _▸_, node, Tree, Forest, size, rest, around, records, recordsIn}
 use Rattle.lists.specs.Streams.{const, add, merge}
 use Rattle.lists.specs.Laws.MergeLaws.{merge-zero, merge-lift, add-zero-r}
 use Rattle.lists.specs.Laws.Sums.{const-falls, add-falls}
 use Rattle.evaluate.specs.Closed.{closed}
-use Rattle.evaluate.specs.Evaluate.{inner, name, seen, nameIn, Values, limit, start, list, before, turns, join, fits, fitsIn}
+use Rattle.evaluate.specs.Evaluate.{inner, name, seen, nameIn, Values, limit, start, list, before, turns, join, fits}
 use Rattle.evaluate.specs.Laws.Constant.{unlimited-is, closed-const}
 use Rattle.evaluate.specs.Laws.Monotone.{name-le, list-falls, before-falls}
-use Rattle.simplify.specs.Nodes.{Sequence, Unlimited, Choice, Limit}
+use Rattle.simplify.specs.Nodes.{Sequence, Unlimited, Choice, Limit, Number}
 use Rattle.simplify.specs.Rules.{children, isPair, headOf, tailOf, firstOf, secondOf, allPairs, firsts, shares, sharedOut}
-use Rattle.simplify.specs.Laws.Refines.{Refines}
+use Rattle.simplify.specs.Laws.Refines.{Refines, choice-sum}
 use Rattle.simplify.specs.Laws.Same.{at, kind-is, node-is, same-is}
+use Rattle.simplify.specs.Laws.Forests.{Each, fits-each, listed-each, limits-each, named-each}
 
 -- two-child sequences
 abbrev pub pair : Tree → Tree → Tree
@@ -67,15 +69,11 @@ each-list v t (u ▸ c) x k e =
     ap₂ merge (ap (add (list v t)) (add-zero-r (list v x))) (each-list v u c x k e)
     ∙ rw e (merge-lift k (list v t) (before v Choice (u ▸ c)) (list-falls v t) (before-falls v Choice (u ▸ c)))
 
-each-fits : (v : Values) (c : Forest) (x : Tree) → T (fitsIn v (withEach c x)) → T (fitsIn v c)
-unfolding withEach fits
-each-fits v nil x h = tt
-each-fits v (t ▸ c) x h = let (p, q) = both _ _ h in join-and _ _ (both _ _ (both _ _ p .1) .0) (each-fits v c x q)
-
-each-listed : (c : Forest) (x : Tree) → T (listedIn (withEach c x)) → T (listedIn c)
-unfolding withEach listed
-each-listed nil x h = tt
-each-listed (t ▸ c) x h = let (p, q) = both _ _ h in join-and _ _ (both _ _ (both _ _ p .1) .0) (each-listed c x q)
+-- a test of each pair, which asks the same of its first child
+each-first : {q : Tree → Bool} {qs : Forest → Bool} → Each q qs → (x : Tree) → ((t : Tree) → T (q (pair t x)) → T (q t)) → (c : Forest) → T (qs (withEach c x)) → T (qs c)
+unfolding withEach
+each-first e x l nil h = e .none
+each-first e x l (t ▸ c) h = let (a, b) = e .apart (pair t x) (withEach c x) h in e .more t c (l t a) (each-first e x l c b)
 
 each-depth : (t : Tree) (c : Forest) (x : Tree) → suc (depthIn (t ▸ c)) ≤ depthIn (withEach (t ▸ c) x)
 unfolding withEach depth
@@ -89,11 +87,6 @@ each-loops : (c : Forest) (x : Tree) (d : ℕ) → loopsIn Choice c d ≤ loopsI
 unfolding withEach loops around rest
 each-loops nil x d = omega arith
 each-loops (t ▸ c) x d = omega (arith, each-loops c x d)
-
-each-named : (c : Forest) (x : Tree) (d : ℕ) → T (namedIn Choice (withEach c x) d) → T (namedIn Choice c d)
-unfolding withEach named around rest
-each-named nil x d h = tt
-each-named (t ▸ c) x d h = let (p, q) = both _ _ h in join-and _ _ (both _ _ (both _ _ p .1) .0) (each-named c x d q)
 
 each-weight : (c : Forest) (x : Tree) (d : ℕ) → weightIn Choice c d ≤ weightIn Choice (withEach c x) d
 unfolding withEach weight around rest
@@ -131,7 +124,7 @@ shared-fits v l t c x r h =
     let i : before v Choice (t ▸ c) 0 ≤ mostTime = omega (arith, shared-first v (t ▸ c) x) in
     let j : before v Sequence (node (at Choice Unlimited) (t ▸ c) ▸ x ▸ nil) 0 ≤ mostTime = omega arith in
     let y = both _ _ (both _ _ p .1) .1 in
-    join-and _ _ (le→leb _ _ j) (join-and _ _ (join-and _ _ (le→leb _ _ i) (each-fits v (t ▸ c) x b)) y)
+    join-and _ _ (le→leb _ _ j) (join-and _ _ (join-and _ _ (le→leb _ _ i) (each-first (fits-each v) x (λ u m. both _ _ (both _ _ m .1) .0) (t ▸ c) b)) y)
 
 shared-listed : (l : Limit) (t : Tree) (c : Forest) (x : Tree) → T (listed (node (at Choice l) (withEach (t ▸ c) x))) → T (listed (factored l (t ▸ c) x))
 unfolding listed withEach kindInRange limitInRange
@@ -142,7 +135,7 @@ shared-listed l t c x h =
     let y = both _ _ (both _ _ p .1) .1 in
     let w : T (arity Sequence (size (node (at Choice Unlimited) (t ▸ c) ▸ x ▸ nil))) = unfold size in unfold arity in unfold _and_ in tt in
     let g : T (arity Choice (size (t ▸ c))) = subst (λ k. T (arity Choice k)) (each-size (t ▸ c) x) j in
-    let u : T (listed (node (at Choice Unlimited) (t ▸ c))) = join-and _ _ (join-and _ _ (join-and true true tt tt) g) (each-listed (t ▸ c) x b) in
+    let u : T (listed (node (at Choice Unlimited) (t ▸ c))) = join-and _ _ (join-and _ _ (join-and true true tt tt) g) (each-first listed-each x (λ u m. both _ _ (both _ _ m .1) .0) (t ▸ c) b) in
     join-and _ _ (join-and _ _ i w) (join-and _ _ u y)
 
 shared-loops : (l : Limit) (t : Tree) (c : Forest) (x : Tree) (d : ℕ) → loops (factored l (t ▸ c) x) d ≤ loops (node (at Choice l) (withEach (t ▸ c) x)) d
@@ -160,7 +153,15 @@ shared-named l t c x d h =
     let (a, b) = both _ _ h in
     let (p, q) = both _ _ b in
     let y = both _ _ (both _ _ p .1) .1 in
-    join-and _ _ a (join-and _ _ (join-and _ _ tt (each-named (t ▸ c) x d b)) y)
+    join-and _ _ a (join-and _ _ (join-and _ _ tt (each-first (named-each Choice choice-sum d) x (λ u m. both _ _ (both _ _ m .1) .0) (t ▸ c) b)) y)
+
+shared-limits : (p : ℕ → Number → Bool) (l : Limit) (t : Tree) (c : Forest) (x : Tree) → T (everyLimit p (node (at Choice l) (withEach (t ▸ c) x))) → T (everyLimit p (factored l (t ▸ c) x))
+unfolding everyLimit withEach passes
+shared-limits p l t c x h =
+    let (a, b) = both _ _ h in
+    let (q, r) = both _ _ b in
+    let y = both _ _ (both _ _ q .1) .1 in
+    join-and _ _ a (join-and _ _ (join-and _ _ tt (each-first (limits-each p) x (λ u m. both _ _ (both _ _ m .1) .0) (t ▸ c) b)) y)
 
 shared-weight : (l : Limit) (t : Tree) (c : Forest) (x : Tree) (d : ℕ) → weight (factored l (t ▸ c) x) d ≤ weight (node (at Choice l) (withEach (t ▸ c) x)) d
 unfolding weight withEach share around rest
@@ -173,14 +174,17 @@ shared-records l t c x z = omega (arith, each-records c x)
 pub shared-refines : (l : Limit) (t : Tree) (c : Forest) (x : Tree) → T (closed x 0) → 1 ≤ size c
     → Refines (factored l (t ▸ c) x) (node (at Choice l) (withEach (t ▸ c) x))
 shared-refines l t c x r z = record {
-  sameName = unfold name in unfold seen in unfold rest in unfold inner in ap (inner l) (omega (arith, each-name t c x, name-le x));
-  sameList = λ v. unfold list in ap (limit v l) (shared-list v t c x r);
-  stillFits = λ v h. shared-fits v l t c x r h;
-  stillListed = λ h q. shared-listed l t c x q;
-  deep = unfold depth in omega (arith, each-depth t c x, deeper);
-  nested = shared-loops l t c x;
-  stillNamed = shared-named l t c x;
-  weighed = shared-weight l t c x;
+  keeps = record {
+    sameName = unfold name in unfold seen in unfold rest in unfold inner in ap (inner l) (omega (arith, each-name t c x, name-le x));
+    sameList = λ v. unfold list in ap (limit v l) (shared-list v t c x r);
+    stillFits = λ v h. shared-fits v l t c x r h;
+    stillListed = λ h q. shared-listed l t c x q;
+    deep = unfold depth in omega (arith, each-depth t c x, deeper);
+    nested = shared-loops l t c x;
+    stillNamed = shared-named l t c x;
+    weighed = shared-weight l t c x;
+    limits = λ p. shared-limits p l t c x;
+  };
   fewer = λ q. shared-records l t c x z;
 }
   where

@@ -8,6 +8,7 @@ use borrow.Author.Tests.{eqb-true}
 use Rattle.booleans.specs.Laws.{by-cond, both}
 use Rattle.table.specs.Numbers.{wholeRun}
 use Rattle.table.specs.Questions.{listed, depth, loops, named, weight, share}
+use Rattle.table.specs.Limits.{everyLimit}
 use Rattle.table.specs.Trees.{nil, _▸_, records, node, Tree, rest, around}
 use Rattle.lists.specs.Streams.{const, Stream, S, group, add}
 use Rattle.lists.specs.Laws.MergeLaws.{add-zero-r, add-zero-l}
@@ -31,15 +32,18 @@ names-run k h = go (eqb k 1) refl h
     go false e h = ap outward (eqb→eq k wholeRun h) ∙ unfold outward in refl
 
 pub rule9-refines : (b e : Tree) → outward (name b) ≡ wholeRun → Refines e (node (at (Loop (Plain 0)) Unlimited) (b ▸ e ▸ nil))
-unfolding name seen rest inner list limit turns start amount join fits listed depth loops around named weight share records
+unfolding name seen rest inner list limit turns start amount join fits listed depth loops around named weight share everyLimit records
 rule9-refines b e h = record {
-  sameName = omega (arith, name-le e);
-  sameList = λ v. sym (ap₂ add (rounds-zero (name b) (list v b)) (add-zero-r (list v e)) ∙ add-zero-l _);
-  stillFits = λ v q. both _ _ (both _ _ (both _ _ q .1) .1) .0;
-  stillListed = λ q l. both _ _ (both _ _ (both _ _ l .1) .1) .0;
-  deep = omega arith;
-  nested = λ d. omega arith;
-  stillNamed = λ d q. both _ _ (both _ _ (both _ _ q .1) .1) .0;
-  weighed = λ d. omega arith;
+  keeps = record {
+    sameName = omega (arith, name-le e);
+    sameList = λ v. sym (ap₂ add (rounds-zero (name b) (list v b)) (add-zero-r (list v e)) ∙ add-zero-l _);
+    stillFits = λ v q. both _ _ (both _ _ (both _ _ q .1) .1) .0;
+    stillListed = λ q l. both _ _ (both _ _ (both _ _ l .1) .1) .0;
+    deep = omega arith;
+    nested = λ d. omega arith;
+    stillNamed = λ d q. both _ _ (both _ _ (both _ _ q .1) .1) .0;
+    weighed = λ d. omega arith;
+    limits = λ p q. both _ _ (both _ _ (both _ _ q .1) .1) .0;
+  };
   fewer = λ l. omega arith;
 }

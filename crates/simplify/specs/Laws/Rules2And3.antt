@@ -5,7 +5,8 @@ use native.Mathlib.Omega.{arith}
 use lib.Dec.{T, leb→le}
 use Rattle.booleans.specs.Laws.{both, join-and, by-cond, or-else}
 use Rattle.table.specs.Numbers.{mostChildren}
-use Rattle.table.specs.Questions.{depth, listed, listedIn, loops, loopsIn, nameOk, named, namedIn, share, weight, weightIn}
+use Rattle.table.specs.Questions.{depth, listed, listedIn, loops, loopsIn, nameOk, named, share, weight, weightIn}
+use Rattle.table.specs.Limits.{everyLimit}
 use Rattle.table.specs.Trees.{Forest, nil, _▸_, _⧺_, size, records, Tree, node}
 use Rattle.evaluate.specs.Closed.{isUnlimited}
 use Rattle.evaluate.specs.Evaluate.{limit, join, Values, fits, inner, name, nameIn, list, before}
@@ -16,7 +17,7 @@ use Rattle.simplify.specs.Nodes.{Unlimited, Kind, Node, Limit}
 use Rattle.simplify.specs.Rules.{isSum, children, gives, anyGives, giveWay, limitOf, relimit}
 use Rattle.simplify.specs.Laws.Refines.{SumKind, RefinesIn, tail-sum, of-arity, Refines, node-refines, sum-is, arity-of}
 use Rattle.simplify.specs.Laws.Same.{kind-is, at, node-is}
-use Rattle.simplify.specs.Laws.Forests.{size-⧺, records-⧺, depth-⧺, fits-⧺, listed-⧺}
+use Rattle.simplify.specs.Laws.Forests.{size-⧺, records-⧺, depth-⧺, fits-each, listed-each, limits-each, named-each, each-⧺}
 
 module _ (k : Kind) (s : SumKind k) where
   name-⧺ : (g f : Forest) → nameIn k (g ⧺ f) ≡ min (nameIn k g) (nameIn k f)
@@ -42,31 +43,22 @@ module _ (k : Kind) (s : SumKind k) where
   weight-⧺ nil f d = omega arith
   weight-⧺ (t ▸ g) f d = omega (arith, s .weights t (g ⧺ f) d, s .weights t g d, weight-⧺ g f d)
 
-  -- question 6 of children, apart and together
-  pub named-apart : (t : Tree) (f : Forest) (d : ℕ) → T (namedIn k (t ▸ f) d) → T (named t d) × T (namedIn k f d)
-  named-apart t f d h = both _ _ (subst T (s .nameds t f d) h)
-
-  pub named-join : (t : Tree) (f : Forest) (d : ℕ) → T (named t d) → T (namedIn k f d) → T (namedIn k (t ▸ f) d)
-  named-join t f d h i = subst T (sym (s .nameds t f d)) (join-and _ _ h i)
-
-  named-⧺ : (g f : Forest) (d : ℕ) → T (namedIn k g d) → T (namedIn k f d) → T (namedIn k (g ⧺ f) d)
-  unfolding _⧺_ named
-  named-⧺ nil f d h i = i
-  named-⧺ (t ▸ g) f d h i = let (a, b) = named-apart t g d h in named-join t (g ⧺ f) d a (named-⧺ g f d b i)
-
   -- ---- rule 2
 
   pub splice : (g f : Forest) → RefinesIn k (g ⧺ f) (node (at k Unlimited) g ▸ f)
-  unfolding name list inner limit fits listed depth loops nameOk named share weight records
+  unfolding name list inner limit fits listed depth loops nameOk named share weight everyLimit records
   splice g f = record {
-    sameName = name-⧺ g f ∙ sym (s .names (node (at k Unlimited) g) f);
-    sameList = λ v. list-⧺ v g f ∙ sym (s .lists v (node (at k Unlimited) g) f);
-    stillFits = λ v b h. let (x, y) = both _ _ h in fits-⧺ v g f (both _ _ x .1) y;
-    stillListed = λ b h l. let (x, y) = both _ _ l in listed-⧺ g f (both _ _ x .1) y;
-    deep = omega (arith, depth-⧺ g f);
-    nested = λ d. omega (arith, loops-⧺ g f d, s .loopses (node (at k Unlimited) g) f d);
-    stillNamed = λ d h. let (x, y) = named-apart (node (at k Unlimited) g) f d h in named-⧺ g f d (both _ _ x .1) y;
-    weighed = λ d. omega (arith, weight-⧺ g f d, s .weights (node (at k Unlimited) g) f d);
+    keeps = record {
+      sameName = name-⧺ g f ∙ sym (s .names (node (at k Unlimited) g) f);
+      sameList = λ v. list-⧺ v g f ∙ sym (s .lists v (node (at k Unlimited) g) f);
+      stillFits = λ v b h. let (x, y) = both _ _ h in each-⧺ (fits-each v) g f (both _ _ x .1) y;
+      stillListed = λ b h l. let (x, y) = both _ _ l in each-⧺ listed-each g f (both _ _ x .1) y;
+      deep = omega (arith, depth-⧺ g f);
+      nested = λ d. omega (arith, loops-⧺ g f d, s .loopses (node (at k Unlimited) g) f d);
+      stillNamed = λ d h. let (x, y) = named-each k s d .apart (node (at k Unlimited) g) f h in each-⧺ (named-each k s d) g f (both _ _ x .1) y;
+      weighed = λ d. omega (arith, weight-⧺ g f d, s .weights (node (at k Unlimited) g) f d);
+      limits = λ p h. let (x, y) = both _ _ h in each-⧺ (limits-each p) g f (both _ _ x .1) y;
+    };
     fewer = λ l. omega (arith, records-⧺ g f);
   }
 
@@ -121,36 +113,42 @@ rule2-refines n f i h =
 -- ---- rule 3
 
 pub alone-free : (k : Kind) → SumKind k → (t : Tree) → Refines t (node (at k Unlimited) (t ▸ nil))
-unfolding name list inner limit fits listed depth loops nameOk named share weight records
+unfolding name list inner limit fits listed depth loops nameOk named share weight everyLimit records
 alone-free k s t = record {
-  sameName = omega (arith, s .names t nil, name-le t);
-  sameList = λ v. sym (s .lists v t nil ∙ ap (join k (list v t)) (s .empty v) ∙ join-zero k _ (list-falls v t));
-  stillFits = λ v h. let (a, b) = both _ _ h in both _ _ b .0;
-  stillListed = λ h l. let (a, b) = both _ _ l in both _ _ b .0;
-  deep = omega arith;
-  nested = λ d. omega (arith, s .loopses t nil d);
-  stillNamed = λ d h. named-apart k s t nil d (both _ _ h .1) .0;
-  weighed = λ d. omega (arith, s .weights t nil d);
+  keeps = record {
+    sameName = omega (arith, s .names t nil, name-le t);
+    sameList = λ v. sym (s .lists v t nil ∙ ap (join k (list v t)) (s .empty v) ∙ join-zero k _ (list-falls v t));
+    stillFits = λ v h. let (a, b) = both _ _ h in both _ _ b .0;
+    stillListed = λ h l. let (a, b) = both _ _ l in both _ _ b .0;
+    deep = omega arith;
+    nested = λ d. omega (arith, s .loopses t nil d);
+    stillNamed = λ d h. named-each k s d .apart t nil (both _ _ h .1) .0;
+    weighed = λ d. omega (arith, s .weights t nil d);
+    limits = λ p h. let (a, b) = both _ _ h in both _ _ b .0;
+  };
   fewer = λ l. omega arith;
 }
 
 pub alone-limited : (k : Kind) → SumKind k → (l : Limit) (j : Kind) (g : Forest) → Refines (node (at j l) g) (node (at k l) (node (at j Unlimited) g ▸ nil))
-unfolding name list fits listed depth loops named weight records
+unfolding name list fits listed depth loops named weight everyLimit records
 alone-limited k s l j g =
     let t = node (at j Unlimited) g in record {
-      sameName = unfold inner in ap (inner l) (omega (arith, s .names t nil, nameIn-le j g));
-      sameList = λ v. unfold limit in ap (limit v l) (sym (s .lists v t nil ∙ ap (join k (list v t)) (s .empty v) ∙ join-zero k _ (list-falls v t)));
-      stillFits = λ v h. let (a, b) = both _ _ h in both _ _ b .0;
-      stillListed = λ h q.
-          let (a, b) = both _ _ q in
-          let (c, e) = both _ _ (both _ _ b .0) in
-          let (x, y) = both _ _ (both _ _ a .0) in
-          let (z, w) = both _ _ c in
-          join-and _ _ (join-and _ _ (join-and _ _ (both _ _ z .0) y) w) e;
-      deep = omega arith;
-      nested = λ d. omega (arith, s .loopses t nil d);
-      stillNamed = λ d h. let (a, b) = both _ _ h in join-and _ _ a (both _ _ (named-apart k s t nil d b .0) .1);
-      weighed = λ d. omega (arith, s .weights t nil d);
+      keeps = record {
+        sameName = unfold inner in ap (inner l) (omega (arith, s .names t nil, nameIn-le j g));
+        sameList = λ v. unfold limit in ap (limit v l) (sym (s .lists v t nil ∙ ap (join k (list v t)) (s .empty v) ∙ join-zero k _ (list-falls v t)));
+        stillFits = λ v h. let (a, b) = both _ _ h in both _ _ b .0;
+        stillListed = λ h q.
+            let (a, b) = both _ _ q in
+            let (c, e) = both _ _ (both _ _ b .0) in
+            let (x, y) = both _ _ (both _ _ a .0) in
+            let (z, w) = both _ _ c in
+            join-and _ _ (join-and _ _ (join-and _ _ (both _ _ z .0) y) w) e;
+        deep = omega arith;
+        nested = λ d. omega (arith, s .loopses t nil d);
+        stillNamed = λ d h. let (a, b) = both _ _ h in join-and _ _ a (both _ _ (named-each k s d .apart t nil b .0) .1);
+        weighed = λ d. omega (arith, s .weights t nil d);
+        limits = λ p h. let (a, b) = both _ _ h in join-and _ _ a (both _ _ (both _ _ b .0) .1);
+      };
       fewer = λ q. omega arith;
     }
 

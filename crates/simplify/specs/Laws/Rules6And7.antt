@@ -4,39 +4,33 @@ use mathlib.Core.Bool.{cond, Bool, true, false}
 use Prim.Native.Nat.{_≤_, max, _+_, suc, ℕ}
 use native.Mathlib.Omega.{arith}
 use lib.Dec.{T}
-use Rattle.booleans.specs.Laws.{both, join-and, by-cond, by-conds}
+use Rattle.booleans.specs.Laws.{join-and, by-cond, by-conds}
 use Rattle.table.specs.Numbers.{mostTime}
-use Rattle.table.specs.Questions.{listed, listedIn, depth, depthIn, limitInRange, loopsIn, namedIn, weightIn}
+use Rattle.table.specs.Questions.{listed, depth, depthIn, limitInRange, loopsIn, weightIn}
+use Rattle.table.specs.Limits.{everyLimit}
 use Rattle.table.specs.Trees.{nil, _▸_, Forest, records, recordsIn, size, Tree, node}
 use Rattle.table.specs.Laws.Trees.{some-records, some-depth, some-loops}
 use Rattle.lists.specs.Streams.{const, Stream}
 use Rattle.lists.specs.Laws.MergeLaws.{add-consts, merge-consts}
 use Rattle.lists.specs.Laws.Sums.{const-falls}
-use Rattle.evaluate.specs.Evaluate.{Values, fits, fitsIn, list, name, join, before, nameIn, zeros}
+use Rattle.evaluate.specs.Evaluate.{Values, fits, list, name, join, before, nameIn, zeros}
 use Rattle.evaluate.specs.Laws.Monotone.{before-falls, nameIn-le, list-falls}
 use Rattle.evaluate.specs.Laws.Joins.{join-left, zero-join, join-assoc, join-swap}
 use Rattle.simplify.specs.Nodes.{Unlimited, Kind, Sequence, Choice, Limit}
 use Rattle.simplify.specs.Rules.{bare, others, bares, atFirst, leaf, timeOf, total, largest, isSum}
 use Rattle.simplify.specs.Laws.Refines.{RefinesIn, SumKind, sequence-sum, choice-sum, Refines, node-refines, arity-of, of-arity}
 use Rattle.simplify.specs.Laws.Same.{at}
-use Rattle.simplify.specs.Laws.Rules2And3.{named-apart, named-join}
-use Rattle.simplify.specs.Laws.Blocks.{leaf-fits, leaf-listed, leaf-depth, leaf-records, bare-is, leaf-list, leaf-name, leaf-named, leaf-weight, leaf-loops}
+use Rattle.simplify.specs.Laws.Forests.{Each, fits-each, listed-each, limits-each, named-each}
+use Rattle.simplify.specs.Laws.Blocks.{leaf-fits, leaf-listed, leaf-depth, leaf-records, bare-is, leaf-list, leaf-name, leaf-named, leaf-limits, leaf-weight, leaf-loops}
 
 -- ---- rules 6 and 7: the other children
 
-others-fits : (v : Values) (f : Forest) → T (fitsIn v f) → T (fitsIn v (others f))
-unfolding others fits
-others-fits v nil h = tt
-others-fits v (t ▸ f) h =
-    let (a, b) = both _ _ h in
-    by-cond (λ g. T (fitsIn v g)) (bare t) _ _ (λ e. others-fits v f b) (λ e. join-and _ _ a (others-fits v f b))
-
-others-listed : (f : Forest) → T (listedIn f) → T (listedIn (others f))
-unfolding others listed
-others-listed nil h = tt
-others-listed (t ▸ f) h =
-    let (a, b) = both _ _ h in
-    by-cond (λ g. T (listedIn g)) (bare t) _ _ (λ e. others-listed f b) (λ e. join-and _ _ a (others-listed f b))
+others-each : {q : Tree → Bool} {qs : Forest → Bool} → Each q qs → (f : Forest) → T (qs f) → T (qs (others f))
+unfolding others
+others-each e nil h = h
+others-each {q} {qs} e (t ▸ f) h =
+    let (a, b) = e .apart t f h in
+    by-cond (λ g. T (qs g)) (bare t) _ _ (λ i. others-each e f b) (λ i. e .more t (others f) a (others-each e f b))
 
 others-depth : (f : Forest) → depthIn (others f) ≤ depthIn f
 unfolding others depth
@@ -62,19 +56,12 @@ others-size (t ▸ f) =
     (λ e. omega (arith, others-size f))
 
 -- x at the first block's place
-first-fits : (v : Values) (x : ℕ) (f : Forest) → x ≤ mostTime → T (fitsIn v f) → T (fitsIn v (atFirst x f))
-unfolding atFirst fits
-first-fits v x nil l h = tt
-first-fits v x (t ▸ f) l h =
-    let (a, b) = both _ _ h in
-    by-cond (λ g. T (fitsIn v g)) (bare t) _ _ (λ e. join-and _ _ (leaf-fits v x Unlimited l) (others-fits v f b)) (λ e. join-and _ _ a (first-fits v x f l b))
-
-first-listed : (x : ℕ) (f : Forest) → x ≤ mostTime → T (listedIn f) → T (listedIn (atFirst x f))
-unfolding atFirst listed limitInRange
-first-listed x nil l h = tt
-first-listed x (t ▸ f) l h =
-    let (a, b) = both _ _ h in
-    by-cond (λ g. T (listedIn g)) (bare t) _ _ (λ e. join-and _ _ (leaf-listed x Unlimited l tt) (others-listed f b)) (λ e. join-and _ _ a (first-listed x f l b))
+first-each : {q : Tree → Bool} {qs : Forest → Bool} → Each q qs → (x : ℕ) → T (q (leaf x Unlimited)) → (f : Forest) → T (qs f) → T (qs (atFirst x f))
+unfolding atFirst
+first-each e x l nil h = h
+first-each {q} {qs} e x l (t ▸ f) h =
+    let (a, b) = e .apart t f h in
+    by-cond (λ g. T (qs g)) (bare t) _ _ (λ i. e .more (leaf x Unlimited) (others f) l (others-each e f b)) (λ i. e .more t (atFirst x f) a (first-each e x l f b))
 
 first-depth : (x : ℕ) (f : Forest) → depthIn (atFirst x f) ≤ depthIn f
 unfolding atFirst depth
@@ -140,13 +127,6 @@ module _ (k : Kind) (s : SumKind k) where
       (λ e. omega (arith, others-weight f d, s .weights t f d))
       (λ e. omega (arith, others-weight f d, s .weights t f d, s .weights t (others f) d))
 
-  others-named : (f : Forest) (d : ℕ) → T (namedIn k f d) → T (namedIn k (others f) d)
-  unfolding others
-  others-named nil d h = h
-  others-named (t ▸ f) d h =
-      let (a, b) = named-apart k s t f d h in
-      by-cond (λ g. T (namedIn k g d)) (bare t) _ _ (λ e. others-named f d b) (λ e. named-join k s t (others f) d a (others-named f d b))
-
   first-name : (x : ℕ) (f : Forest) → nameIn k (atFirst x f) ≡ nameIn k f
   unfolding atFirst
   first-name x nil = refl
@@ -170,15 +150,6 @@ module _ (k : Kind) (s : SumKind k) where
       by-cond (λ g. weightIn k g d ≤ weightIn k (t ▸ f) d) (bare t) _ _
       (λ e. omega (arith, others-weight f d, s .weights t f d, s .weights (leaf x Unlimited) (others f) d, leaf-weight x d))
       (λ e. omega (arith, first-weight x f d, s .weights t f d, s .weights t (atFirst x f) d))
-
-  first-named : (x : ℕ) (f : Forest) (d : ℕ) → T (namedIn k f d) → T (namedIn k (atFirst x f) d)
-  unfolding atFirst
-  first-named x nil d h = h
-  first-named x (t ▸ f) d h =
-      let (a, b) = named-apart k s t f d h in
-      by-cond (λ g. T (namedIn k g d)) (bare t) _ _
-      (λ e. named-join k s (leaf x Unlimited) (others f) d (leaf-named x d) (others-named f d b))
-      (λ e. named-join k s t (atFirst x f) d a (first-named x f d b))
 
   -- the list of the others with a block of x
   first-list : (v : Values) (x : ℕ) (f : Forest) → 1 ≤ bares f → before v k (atFirst x f) ≡ join k (const x) (before v k (others f))
@@ -227,30 +198,37 @@ module _ (k : Kind) (s : SumKind k) where
     bares-size f = omega (arith, others-size f)
 
     pub one-for-all : (f : Forest) → 2 ≤ bares f → RefinesIn k (leaf (acc f) Unlimited ▸ others f) f
-    unfolding fits listed depth records limitInRange
+    unfolding fits listed depth everyLimit records limitInRange
     one-for-all f p =
         let n : 1 ≤ size f = omega (arith, bares-size f) in record {
-          sameName = omega (arith, s .names (leaf (acc f) Unlimited) (others f), leaf-name (acc f), others-name f, nameIn-le k f);
-          sameList = λ v. s .lists v (leaf (acc f) Unlimited) (others f) ∙ ap (λ y. join k y (before v k (others f))) (leaf-list v (acc f)) ∙ sym (gathered v f);
-          stillFits = λ v b h. join-and _ _ (leaf-fits v (acc f) Unlimited (acc-most v f b)) (others-fits v f h);
-          stillListed = λ b h l. join-and _ _ (leaf-listed (acc f) Unlimited (acc-most zeros f b) tt) (others-listed f l);
-          deep = omega (arith, leaf-depth (acc f) Unlimited, others-depth f, depth-some f n);
-          nested = λ d. omega (arith, s .loopses (leaf (acc f) Unlimited) (others f) d, leaf-loops (acc f) Unlimited d, others-loops f d, loops-some f d n);
-          stillNamed = λ d h. named-join k s (leaf (acc f) Unlimited) (others f) d (leaf-named (acc f) d) (others-named f d h);
-          weighed = λ d. omega (arith, s .weights (leaf (acc f) Unlimited) (others f) d, leaf-weight (acc f) d, others-weight f d);
+          keeps = record {
+            sameName = omega (arith, s .names (leaf (acc f) Unlimited) (others f), leaf-name (acc f), others-name f, nameIn-le k f);
+            sameList = λ v. s .lists v (leaf (acc f) Unlimited) (others f) ∙ ap (λ y. join k y (before v k (others f))) (leaf-list v (acc f)) ∙ sym (gathered v f);
+            stillFits = λ v b h. join-and _ _ (leaf-fits v (acc f) Unlimited (acc-most v f b)) (others-each (fits-each v) f h);
+            stillListed = λ b h l. join-and _ _ (leaf-listed (acc f) Unlimited (acc-most zeros f b) tt) (others-each listed-each f l);
+            deep = omega (arith, leaf-depth (acc f) Unlimited, others-depth f, depth-some f n);
+            nested = λ d. omega (arith, s .loopses (leaf (acc f) Unlimited) (others f) d, leaf-loops (acc f) Unlimited d, others-loops f d, loops-some f d n);
+            stillNamed = λ d h. named-each k s d .more (leaf (acc f) Unlimited) (others f) (leaf-named (acc f) d) (others-each (named-each k s d) f h);
+            weighed = λ d. omega (arith, s .weights (leaf (acc f) Unlimited) (others f) d, leaf-weight (acc f) d, others-weight f d);
+            limits = λ q h. join-and _ _ (leaf-limits q (acc f)) (others-each (limits-each q) f h);
+          };
           fewer = λ l. omega (arith, leaf-records (acc f) Unlimited, others-records f);
         }
 
     pub one-at-first : (f : Forest) → 2 ≤ bares f → RefinesIn k (atFirst (acc f) f) f
+    unfolding limitInRange
     one-at-first f p = record {
-      sameName = first-name (acc f) f;
-      sameList = λ v. first-list v (acc f) f (omega arith) ∙ sym (gathered v f);
-      stillFits = λ v b h. first-fits v (acc f) f (acc-most v f b) h;
-      stillListed = λ b h l. first-listed (acc f) f (acc-most zeros f b) l;
-      deep = first-depth (acc f) f;
-      nested = λ d. first-loops (acc f) f d;
-      stillNamed = λ d h. first-named (acc f) f d h;
-      weighed = λ d. first-weight (acc f) f d;
+      keeps = record {
+        sameName = first-name (acc f) f;
+        sameList = λ v. first-list v (acc f) f (omega arith) ∙ sym (gathered v f);
+        stillFits = λ v b h. first-each (fits-each v) (acc f) (leaf-fits v (acc f) Unlimited (acc-most v f b)) f h;
+        stillListed = λ b h l. first-each listed-each (acc f) (leaf-listed (acc f) Unlimited (acc-most zeros f b) tt) f l;
+        deep = first-depth (acc f) f;
+        nested = λ d. first-loops (acc f) f d;
+        stillNamed = λ d h. first-each (named-each k s d) (acc f) (leaf-named (acc f) d) f h;
+        weighed = λ d. first-weight (acc f) f d;
+        limits = λ q h. first-each (limits-each q) (acc f) (leaf-limits q (acc f)) f h;
+      };
       fewer = λ l. omega (arith, first-records (acc f) f);
     }
 

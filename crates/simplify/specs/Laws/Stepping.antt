@@ -2,25 +2,25 @@
 use mathlib.Core.Path.{refl, sym, subst, _≡_, ap, _∙_}
 use mathlib.Core.Bool.{Bool, true, false, not}
 use mathlib.Core.Option.{Option, some, none}
-use Prim.Native.Nat.{suc, _≤_, _<_, ℕ}
-use native.Mathlib.Nat.{le-trans}
+use Prim.Native.Nat.{suc, _<_, ℕ}
 use native.Mathlib.Omega.{arith}
 use lib.Dec.{T, leb→le}
 use Rattle.booleans.specs.Laws.{both, by-cond}
 use Rattle.booleans.specs.Tests.{_and_}
-use Rattle.table.specs.Questions.{arity, Accepted, listed, limitInRange}
+use Rattle.table.specs.Questions.{arity, listed, limitInRange}
 use Rattle.table.specs.Trees.{Tree, node, Forest, nil, _▸_, size, rest, records}
 use Rattle.table.specs.Laws.Trees.{some-records}
 use Rattle.lists.specs.Streams.{const}
 use Rattle.evaluate.specs.Closed.{isUnlimited, symbolFree, isPlain, plainKind, plainLimit}
-use Rattle.evaluate.specs.Evaluate.{name, Values, figure, fits, zeros, list}
+use Rattle.evaluate.specs.Evaluate.{name, Values, figure, zeros, list}
 use Rattle.evaluate.specs.Laws.Constant.{unlimited-is, list-free}
 use Rattle.evaluate.specs.Laws.Ranges.{figure-most}
 use Rattle.simplify.specs.Nodes.{Kind, Node, Unlimited, Sequence, Choice, Plain, Loop}
 use Rattle.simplify.specs.Rules.{when, rule2, alone, isSum, rule3, rule4, rule5, rule6, rule7, rule8, exit, rule9, leaf, isBlock, bare, rule1}
 use Rattle.simplify.specs.Same.{sameKind}
 use Rattle.simplify.specs.Steps.{orElse, rule, also, inside, insideIn, step}
-use Rattle.simplify.specs.Laws.Blocks.{leaf-fits, leaf-listed, leaf-depth, leaf-loops, leaf-records, leaf-named, leaf-weight, leaf-list}
+use Rattle.simplify.specs.Laws.Blocks.{leaf-fits, leaf-listed, leaf-depth, leaf-loops, leaf-records, leaf-named, leaf-weight, leaf-limits, leaf-list}
+use Rattle.simplify.specs.Laws.Keeps.{Kept, keeps-kept}
 use Rattle.simplify.specs.Laws.Refines.{Refines, SumKind, sum-is, RefinesIn, node-refines, head-refines, tail-refines}
 use Rattle.simplify.specs.Laws.Rule4.{rule4-refines}
 use Rattle.simplify.specs.Laws.Rule5.{rule5-refines}
@@ -153,40 +153,6 @@ mutual
 
 -- ---- the whole table
 
--- what a step keeps of a table: the same figure at all values, and what the questions ask
-pub record Kept (u t : Tree) : Type 0 where
-  pub sameFigure : (v : Values) → figure v u ≡ figure v t
-  pub stillFits : (v : Values) → T (fits v t) → T (fits v u)
-  pub stillAccepted : T (fits zeros t) → Accepted t → Accepted u
-  pub noMore : T (fits zeros t) → Accepted t → records u ≤ records t
-
-pub kept-refl : (t : Tree) → Kept t t
-kept-refl t = record { sameFigure = λ v. refl; stillFits = λ v h. h; stillAccepted = λ h a. a; noMore = λ h a. omega arith }
-
-pub kept-trans : (t u w : Tree) → Kept w u → Kept u t → Kept w t
-kept-trans t u w p q = record {
-  sameFigure = λ v. p .sameFigure v ∙ q .sameFigure v;
-  stillFits = λ v h. p .stillFits v (q .stillFits v h);
-  stillAccepted = λ h a. p .stillAccepted (q .stillFits zeros h) (q .stillAccepted h a);
-  noMore = λ h a. le-trans (p .noMore (q .stillFits zeros h) (q .stillAccepted h a)) (q .noMore h a);
-}
-
-refines-kept : (u t : Tree) → Refines u t → Kept u t
-unfolding figure
-refines-kept u t r = record {
-  sameFigure = λ v. ap (λ s. s 0) (r .sameList v);
-  stillFits = r .stillFits;
-  stillAccepted = λ h a. record {
-    short = omega (arith, r .fewer (a .listed), a .short);
-    listed = r .stillListed h (a .listed);
-    deep = le-trans (r .deep) (a .deep);
-    nested = le-trans (r .nested 0) (a .nested);
-    named = r .stillNamed 0 (a .named);
-    weighed = le-trans (r .weighed 0) (a .weighed);
-  };
-  noMore = λ h a. omega (arith, r .fewer (a .listed));
-}
-
 rule1-kept : (t : Tree) → T (symbolFree t) → Kept (leaf (figure zeros t) Unlimited) t
 rule1-kept t h = record {
   sameFigure = λ v. same-figure v;
@@ -200,6 +166,7 @@ rule1-kept t h = record {
     weighed = omega (arith, leaf-weight (figure zeros t) 0);
   };
   noMore = λ h a. omega (arith, leaf-records (figure zeros t) Unlimited, some-records t);
+  limits = λ p q. leaf-limits p (figure zeros t);
 }
   where
     same-first : (v : Values) → figure v t ≡ figure zeros t
@@ -227,4 +194,4 @@ step-steps t = go (symbolFree t and not (bare t)) (λ h. both _ _ h .0) (inside 
     go : (b : Bool) → (T b → T (symbolFree t)) → (x : Option Tree) → Moves t x → Steps t (orElse (when b (leaf (figure zeros t) Unlimited)) x)
     go true h x m = unfold when in unfold orElse in last (rule1-kept t (h tt)) (leaf-records _ Unlimited) (leaf-done _)
     go false h none stays-so = unfold when in unfold orElse in ends
-    go false h (some u) (moves r) = unfold when in unfold orElse in goes (refines-kept u t r) (r .fewer)
+    go false h (some u) (moves r) = unfold when in unfold orElse in goes (keeps-kept u t (r .keeps) (λ l. omega (arith, r .fewer l))) (r .fewer)

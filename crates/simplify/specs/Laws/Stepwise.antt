@@ -11,7 +11,8 @@ use Rattle.table.specs.Questions.{Accepted}
 use Rattle.table.specs.Laws.Trees.{some-records}
 use Rattle.evaluate.specs.Evaluate.{fits, zeros}
 use Rattle.simplify.specs.Steps.{Made, onward, steps, andThen, after, step, isNone}
-use Rattle.simplify.specs.Laws.Stepping.{Kept, kept-refl, kept-trans, Steps, ends, goes, last, step-steps}
+use Rattle.simplify.specs.Laws.Keeps.{Kept, kept-refl, kept-trans}
+use Rattle.simplify.specs.Laws.Stepping.{Steps, ends, goes, last, step-steps}
 
 -- ---- steps up to an allowance
 

@@ -19,7 +19,8 @@ use Rattle.table.specs.Laws.Reading.{part-to}
 use Rattle.table.specs.Laws.RoundTrip.{length-encode}
 use Rattle.evaluate.specs.Evaluate.{fits, zeros}
 use Rattle.simplify.specs.Steps.{Made, also, isNone, onward, step, steps}
-use Rattle.simplify.specs.Laws.Stepping.{Kept, Steps, ends, goes, last, step-steps}
+use Rattle.simplify.specs.Laws.Keeps.{Kept}
+use Rattle.simplify.specs.Laws.Stepping.{Steps, ends, goes, last, step-steps}
 use Rattle.subtrees.specs.Facts.{marksEach}
 use Rattle.subtrees.specs.Parts.{Simplifiable}
 use Rattle.rewrite.specs.Writing.{front, slice}

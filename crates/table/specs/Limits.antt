@@ -1,0 +1,18 @@
+-- A test of every limit of a tree, by the loop that a limit names and its number.
+use mathlib.Core.Bool.{Bool, true}
+use Prim.Native.Nat.{ℕ}
+use Rattle.table.specs.Nodes.{Number, Limit, Unlimited, AtMost}
+use Rattle.booleans.specs.Tests.{_and_}
+use Rattle.table.specs.Trees.{Tree, node, Forest, nil, _▸_}
+
+unfoldable pub passes : (ℕ → Number → Bool) → Limit → Bool
+passes p Unlimited = true
+passes p (AtMost k m) = p k m
+
+unfoldable mutual
+  pub everyLimit : (ℕ → Number → Bool) → Tree → Bool
+  everyLimit p (node n f) = passes p (n .limit) and everyLimitIn p f
+
+  pub everyLimitIn : (ℕ → Number → Bool) → Forest → Bool
+  everyLimitIn p nil = true
+  everyLimitIn p (t ▸ f) = everyLimit p t and everyLimitIn p f
