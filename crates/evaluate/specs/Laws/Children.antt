@@ -21,16 +21,14 @@ use Rattle.evaluate.specs.Evaluator.{Found, found, evaluateMore, evaluat
 use Rattle.evaluate.specs.Laws.Found.{Finds, Holds, known-finds, same-finds, found-holds, checked-finds, then-finds, joined-finds, round-finds}
 use Rattle.evaluate.specs.Laws.Joins.{join-zero, zero-join, join-assoc, join-left, join-right, rest-join}
 use Rattle.evaluate.specs.Laws.Monotone.{before-falls, nameIn-le, list-falls, turns-falls, join-falls}
-use Rattle.evaluate.specs.Laws.PairCount.{boundIn, grouped, bound}
+use Rattle.evaluate.specs.Laws.PairCount.{boundIn, bound}
 use Rattle.evaluate.specs.Laws.Ranges.{figure-most}
+use Rattle.evaluate.specs.Laws.Kinds.{grouped, by-rest}
 
 -- what the children after the first are joined to, and how
 pub rest-start : (v : Values) (k : Kind) → start v (rest k) ≡ const 0
-unfolding start rest
-rest-start v (Block t) = refl
-rest-start v Sequence = refl
-rest-start v Choice = refl
-rest-start v (Loop n) = refl
+unfolding start
+rest-start v k = by-rest (λ j. start v j ≡ const 0) k refl refl
 
 -- ---- children so far
 

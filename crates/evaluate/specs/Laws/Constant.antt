@@ -1,5 +1,5 @@
 -- A closed tree's list is constant and names the whole run; a symbol-free tree's list is the same at all values.
-use mathlib.Core.Path.{_≡_, refl, ap, _∙_, ap₂, sym}
+use mathlib.Core.Path.{_≡_, refl, ap, _∙_, ap₂, sym, subst}
 use mathlib.Core.Bool.{false, cond, Bool, true}
 use Prim.Native.Nat.{ℕ, _≤_, _-_, _<_, suc}
 use native.Mathlib.Omega.{arith}
@@ -14,6 +14,7 @@ use Rattle.lists.specs.Laws.MergeLaws.{Const, group-const, add-consts, merge-co
 use Rattle.evaluate.specs.Evaluate.{rounds, outward, Values, amount, seen, turns, join, start, inner, limit, name, nameIn, list, before}
 use Rattle.evaluate.specs.Closed.{isUnlimited, stays, closed, closedIn, isPlain, plainKind, plainLimit, symbolFree, symbolFreeIn}
 use Rattle.evaluate.specs.Laws.Monotone.{name-le, nameIn-le}
+use Rattle.evaluate.specs.Laws.Kinds.{by-join, by-start, by-rest, by-first}
 
 rounds-const : (k n : ℕ) (f : Stream) → (leb k 1 ≡ false → Const f) → Const (rounds k n f)
 unfolding rounds
@@ -31,24 +32,11 @@ outward-run k h e = go (leb wholeRun k) refl (rw e at h)
 
 turns-const : (v : Values) (k : Kind) (n : ℕ) (f : Stream) → wholeRun ≤ seen k n → (wholeRun ≤ n → Const f) → Const (turns v k n f)
 unfolding turns seen
-turns-const v (Block t) n f h g = g h
-turns-const v Sequence n f h g = g h
-turns-const v Choice n f h g = g h
-turns-const v (Loop m) n f h g = rounds-const n (amount v m) f (λ e. g (outward-run n h e))
+turns-const v k n f h g =
+    by-first (λ q. wholeRun ≤ q .seen n → Const (q .turns v n f)) k g (λ m e i. rounds-const n (amount v m) f (λ o. g (outward-run n i o))) h
 
 join-const : (k : Kind) (f g : Stream) → Const f → Const g → Const (join k f g)
-unfolding join
-join-const (Block t) f g (a, p) (b, q) = (_, ap₂ add p q ∙ add-consts a b)
-join-const Sequence f g (a, p) (b, q) = (_, ap₂ add p q ∙ add-consts a b)
-join-const Choice f g (a, p) (b, q) = (_, ap₂ merge p q ∙ merge-consts a b)
-join-const (Loop n) f g (a, p) (b, q) = (_, ap₂ add p q ∙ add-consts a b)
-
-start-const : (v : Values) (k : Kind) → Const (start v k)
-unfolding start
-start-const v (Block t) = (_, refl)
-start-const v Sequence = (_, refl)
-start-const v Choice = (_, refl)
-start-const v (Loop n) = (_, refl)
+join-const k f g (a, p) (b, q) = by-join (λ j. Const (j f g)) k (_, ap₂ add p q ∙ add-consts a b) (_, ap₂ merge p q ∙ merge-consts a b)
 
 limit-const : (v : Values) (l : Limit) (d : ℕ) (f : Stream) (k : ℕ) → T (stays l d) → wholeRun ≤ inner l k → (wholeRun ≤ k → Const f) → Const (limit v l f)
 unfolding limit inner stays
@@ -64,7 +52,7 @@ mutual
       limit-const v (n .limit) d _ _ a h (λ m. before-const v (n .kind) f d b m)
 
   pub before-const : (v : Values) (k : Kind) (f : Forest) (d : ℕ) → T (closedIn k f d) → wholeRun ≤ nameIn k f → Const (before v k f)
-  before-const v k nil d r h = start-const v k
+  before-const v k nil d r h = by-start Const v k (λ x. (x, refl))
   before-const v k (t ▸ f) d r h =
       let (a, b) = both _ _ r in
       join-const k _ _
@@ -91,10 +79,7 @@ outward-named d k h = go (leb k 1) refl (leb wholeRun k) refl
 
 seen-named : (k : Kind) (d n : ℕ) → Named (around k d) n → Named d (seen k n)
 unfolding seen around
-seen-named (Block t) d n h = h
-seen-named Sequence d n h = h
-seen-named Choice d n h = h
-seen-named (Loop m) d n h = outward-named d n h
+seen-named k d n h = by-first (λ q. Named (q .around d) n → Named d (q .seen n)) k (λ i. i) (λ m e. outward-named d n) h
 
 inner-named : (d : ℕ) (l : Limit) (k : ℕ) → T (stays l d) → Named d k → Named d (inner l k)
 unfolding stays inner
@@ -154,18 +139,12 @@ module _ (v w : Values) where
   start-free (Loop n) h = refl
 
   turns-free : (k : Kind) (n : ℕ) (f : Stream) → T (plainKind k) → turns v k n f ≡ turns w k n f
-  unfolding plainKind turns
-  turns-free (Block t) n f h = refl
-  turns-free Sequence n f h = refl
-  turns-free Choice n f h = refl
-  turns-free (Loop m) n f h = ap (λ x. rounds n x f) (amount-free m h)
+  unfolding turns plainKind
+  turns-free k n f h = by-first (λ q. q .turns v n f ≡ q .turns w n f) k refl (λ m e. ap (λ x. rounds n x f) (amount-free m (subst (λ j. T (plainKind j)) e h)))
 
   rest-plain : (k : Kind) → T (plainKind (rest k))
-  unfolding plainKind rest
-  rest-plain (Block t) = tt
-  rest-plain Sequence = tt
-  rest-plain Choice = tt
-  rest-plain (Loop n) = tt
+  unfolding plainKind
+  rest-plain k = by-rest (λ j. T (plainKind j)) k tt tt
 
   mutual
     unfolding symbolFree list

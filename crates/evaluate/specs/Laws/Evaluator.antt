@@ -1,6 +1,6 @@
 -- The evaluator's walk of a table finds the list of its tree where question 10 says yes, and elsewhere that it says no.
 use mathlib.Core.Path.{_≡_, refl, sym, ap, _∙_}
-use mathlib.Core.Bool.{true, Bool, false}
+use mathlib.Core.Bool.{true}
 use mathlib.Core.List.{List, _++_, [], append-assoc, append-nil}
 use Prim.Native.Nat.{ℕ, _≤_, _+_, _*_, suc, zero, _<_}
 use native.Mathlib.Nat.{le-trans}
@@ -21,7 +21,7 @@ use Rattle.table.specs.Laws.RoundTrip.{WritesNode, head-bytes, children-bytes, 
 use Rattle.lists.specs.Pairs.{top, ever}
 use Rattle.lists.specs.Streams.{Stream, const}
 use Rattle.lists.specs.Laws.Pairs.{top-is}
-use Rattle.evaluate.specs.Nodes.{Kind, Node, Block, Sequence, Choice, Loop}
+use Rattle.evaluate.specs.Nodes.{Kind, Node}
 use Rattle.evaluate.specs.Evaluate.{Values, before, name, list, figure, fits, start}
 use Rattle.evaluate.specs.Evaluator.{andThen, limited, evaluateBelow, evaluateNode, Found, found, evaluateMore}
 use Rattle.evaluate.specs.ListPairs.{listPairs}
@@ -30,6 +30,7 @@ use Rattle.evaluate.specs.Laws.Found.{Holds, Finds, known-finds, same-fi
 use Rattle.evaluate.specs.Laws.ListPairs.{pairs-are}
 use Rattle.evaluate.specs.Laws.PairCount.{bound, boundIn}
 use Rattle.evaluate.specs.Laws.Weight.{bound-weight, boundIn-weight}
+use Rattle.evaluate.specs.Laws.Kinds.{by-rest}
 
 -- ---- with d loops around, what checking lets pass: a tree, and children of a node of kind k
 
@@ -57,11 +58,8 @@ unfolding listed loops named weight
 fair-first k t f d a = record { listed = both _ _ (a .listed) .0; nested = omega (arith, a .nested); named = both _ _ (a .named) .0; weighed = omega (arith, a .weighed) }
 
 pub rest-ranged : (k : Kind) → T (kindInRange (rest k))
-unfolding kindInRange rest
-rest-ranged (Block t) = tt
-rest-ranged Sequence = tt
-rest-ranged Choice = tt
-rest-ranged (Loop n) = tt
+unfolding kindInRange
+rest-ranged k = by-rest (λ j. T (kindInRange j)) k tt tt
 
 pub fair-rest : (k : Kind) (t : Tree) (f : Forest) (d : ℕ) → FairIn k (t ▸ f) d → FairIn (rest k) f d
 unfolding listed loops named weight

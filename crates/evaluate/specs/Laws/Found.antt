@@ -19,8 +19,9 @@ use Rattle.lists.specs.Laws.Union.{merge-facts, expand-ever}
 use Rattle.evaluate.specs.Nodes.{Kind, Block, Sequence, Choice, Loop, Limit, Unlimited, AtMost}
 use Rattle.evaluate.specs.Evaluate.{join, outward, rounds, Values, amount, inner, seen, limit, turns}
 use Rattle.evaluate.specs.Evaluator.{Found, joinPairs, unfit, found, checked, joined, looped, goneRound, limited}
-use Rattle.evaluate.specs.Laws.PairCount.{own, grouped}
+use Rattle.evaluate.specs.Laws.PairCount.{own}
 use Rattle.evaluate.specs.Laws.Settled.{amount-most}
+use Rattle.evaluate.specs.Laws.Kinds.{grouped}
 
 -- what a walk found is the stream f, with at most w falls, naming loop k, of n records
 pub record Holds (e : Found) (f : Stream) (w k n : ℕ) : Type 0 where

@@ -15,6 +15,7 @@ use Rattle.lists.specs.Laws.Sums.{Falls, cap-falls, const-falls, group-falls, a
 use Rattle.lists.specs.Laws.Merge.{merge-falls}
 use Rattle.lists.specs.Laws.MergeLaws.{Under, under-refl, merge-mono}
 use Rattle.evaluate.specs.Evaluate.{Values, amount, limit, rounds, turns, join, start, name, list, before, figure, fits, fitsIn, outward, inner, nameIn, zeros}
+use Rattle.evaluate.specs.Laws.Kinds.{by-join, by-start, by-first}
 
 -- ---- lists never rise
 
@@ -29,24 +30,10 @@ rounds-falls k n f h = by-cond Falls (leb k 1) _ _ (λ e. const-falls _) (λ e. 
 
 pub turns-falls : (v : Values) (k : Kind) (n : ℕ) (f : Stream) → Falls f → Falls (turns v k n f)
 unfolding turns
-turns-falls v (Block t) n f h = h
-turns-falls v Sequence n f h = h
-turns-falls v Choice n f h = h
-turns-falls v (Loop m) n f h = rounds-falls n (amount v m) f h
+turns-falls v k n f h = by-first (λ q. Falls (q .turns v n f)) k h (λ m e. rounds-falls n (amount v m) f h)
 
 pub join-falls : (k : Kind) (f g : Stream) → Falls f → Falls g → Falls (join k f g)
-unfolding join
-join-falls (Block t) f g h i = add-falls f g h i
-join-falls Sequence f g h i = add-falls f g h i
-join-falls Choice f g h i = merge-falls f g h i
-join-falls (Loop n) f g h i = add-falls f g h i
-
-pub start-falls : (v : Values) (k : Kind) → Falls (start v k)
-unfolding start
-start-falls v (Block t) = const-falls _
-start-falls v Sequence = const-falls _
-start-falls v Choice = const-falls _
-start-falls v (Loop n) = const-falls _
+join-falls k f g h i = by-join (λ j. Falls (j f g)) k (add-falls f g h i) (merge-falls f g h i)
 
 mutual
   unfolding list
@@ -55,7 +42,7 @@ mutual
   list-falls v (node n f) = limit-falls v (n .limit) _ (before-falls v (n .kind) f)
 
   pub before-falls : (v : Values) (k : Kind) (f : Forest) → Falls (before v k f)
-  before-falls v k nil = start-falls v k
+  before-falls v k nil = by-start Falls v k const-falls
   before-falls v k (t ▸ f) = join-falls k _ _ (turns-falls v k (name t) _ (list-falls v t)) (before-falls v (rest k) f)
 
 -- ---- larger values
@@ -93,20 +80,13 @@ module _ (v w : Values) (le : (k : ℕ) → v k ≤ w k) where
 
   turns-mono : (k : Kind) (n : ℕ) (f g : Stream) → Under f g → Under (turns v k n f) (turns w k n g)
   unfolding turns
-  turns-mono (Block t) n f g u = u
-  turns-mono Sequence n f g u = u
-  turns-mono Choice n f g u = u
-  turns-mono (Loop m) n f g u = rounds-mono n _ _ f g (amount-mono m) u
+  turns-mono k n f g u = by-first (λ q. Under (q .turns v n f) (q .turns w n g)) k u (λ m e. rounds-mono n _ _ f g (amount-mono m) u)
 
   add-mono : (f g f′ g′ : Stream) → Under f f′ → Under g g′ → Under (add f g) (add f′ g′)
   add-mono f g f′ g′ a b P = omega (arith, S-add f g P, S-add f′ g′ P, a P, b P)
 
   join-mono : (k : Kind) (f g f′ g′ : Stream) → Falls f → Falls g → Falls f′ → Falls g′ → Under f f′ → Under g g′ → Under (join k f g) (join k f′ g′)
-  unfolding join
-  join-mono (Block t) f g f′ g′ a b c d h i = add-mono f g f′ g′ h i
-  join-mono Sequence f g f′ g′ a b c d h i = add-mono f g f′ g′ h i
-  join-mono Choice f g f′ g′ a b c d h i = merge-mono f g f′ g′ a b c d h i
-  join-mono (Loop n) f g f′ g′ a b c d h i = add-mono f g f′ g′ h i
+  join-mono k f g f′ g′ a b c d h i = by-join (λ j. Under (j f g) (j f′ g′)) k (add-mono f g f′ g′ h i) (merge-mono f g f′ g′ a b c d h i)
 
   start-mono : (k : Kind) → Under (start v k) (start w k)
   unfolding start

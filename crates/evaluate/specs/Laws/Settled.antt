@@ -3,7 +3,7 @@ use mathlib.Core.Bool.{cond}
 use Prim.Native.Nat.{ℕ, _+_, _*_, _≤_, _<_}
 use native.Mathlib.Omega.{arith}
 use lib.Dec.{leb, T, ltb→lt, leb→le}
-use Rattle.evaluate.specs.Nodes.{Kind, Block, Sequence, Choice, Loop, Limit, Unlimited, AtMost, Number, Plain, Symbol}
+use Rattle.evaluate.specs.Nodes.{Kind, Limit, Unlimited, AtMost, Number, Plain, Symbol}
 use Rattle.booleans.specs.Laws.{by-conds, both}
 use Rattle.table.specs.Numbers.{mostCount, firstTimeSymbol}
 use Rattle.table.specs.Trees.{Tree, node, Forest, nil, _▸_, rest}
@@ -11,17 +11,14 @@ use Rattle.table.specs.Questions.{countInRange, limitInRange, listed, listedIn}
 use Rattle.lists.specs.Streams.{Stream}
 use Rattle.lists.specs.Laws.Sums.{Falls}
 use Rattle.lists.specs.Laws.Settled.{Settled, add-settled, merge-settled, const-settled, group-settled, cap-settled}
-use Rattle.evaluate.specs.Evaluate.{join, rounds, Values, amount, limit, turns, start, name, list, before}
+use Rattle.evaluate.specs.Evaluate.{join, rounds, Values, amount, limit, turns, name, list, before}
 use Rattle.evaluate.specs.ListPairs.{placeOf, turned, place, placeIn}
 use Rattle.evaluate.specs.Laws.Monotone.{list-falls, before-falls, turns-falls}
-use Rattle.evaluate.specs.Laws.PairCount.{own, grouped, bound, boundIn}
+use Rattle.evaluate.specs.Laws.PairCount.{own, bound, boundIn}
+use Rattle.evaluate.specs.Laws.Kinds.{grouped, by-join, by-start, by-first}
 
 join-settled : (k : Kind) (p q : ℕ) (f g : Stream) → Falls f → Falls g → Settled p f → Settled q g → Settled (p + q) (join k f g)
-unfolding join
-join-settled (Block t) p q f g hf hg a b i l = add-settled p q f g a b i l
-join-settled Sequence p q f g hf hg a b i l = add-settled p q f g a b i l
-join-settled Choice p q f g hf hg a b i l = merge-settled p q f g hf hg a b i l
-join-settled (Loop n) p q f g hf hg a b i l = add-settled p q f g a b i l
+join-settled k p q f g hf hg a b = by-join (λ j. Settled (p + q) (j f g)) k (add-settled p q f g a b) (merge-settled p q f g hf hg a b)
 
 rounds-settled : (k n p : ℕ) (f : Stream) → Settled p f → Settled (cond (leb k 1) 0 p) (rounds k n f)
 unfolding rounds
@@ -37,17 +34,7 @@ limit-settled v (AtMost k m) p f a i q = cap-settled (amount v m) (amount v m) f
 
 turns-settled : (v : Values) (k : Kind) (n p : ℕ) (f : Stream) → Settled p f → Settled (turned k n p) (turns v k n f)
 unfolding turns turned
-turns-settled v (Block t) n p f a i q = a i q
-turns-settled v Sequence n p f a i q = a i q
-turns-settled v Choice n p f a i q = a i q
-turns-settled v (Loop m) n p f a i q = rounds-settled n (amount v m) p f a i q
-
-start-settled : (v : Values) (k : Kind) (p : ℕ) → Settled p (start v k)
-unfolding start
-start-settled v (Block t) p i q = const-settled _ p i q
-start-settled v Sequence p i q = const-settled _ p i q
-start-settled v Choice p i q = const-settled _ p i q
-start-settled v (Loop n) p i q = const-settled _ p i q
+turns-settled v k n p f a = by-first (λ q. Settled (q .turned n p) (q .turns v n f)) k a (λ m e. rounds-settled n (amount v m) p f a)
 
 mutual
   unfolding place list
@@ -56,7 +43,7 @@ mutual
   list-settled v (node n f) = limit-settled v (n .limit) _ _ (before-settled v (n .kind) f)
 
   pub before-settled : (v : Values) (k : Kind) (f : Forest) → Settled (placeIn v k f) (before v k f)
-  before-settled v k nil = start-settled v k _
+  before-settled v k nil = by-start (Settled 0) v k (λ x. const-settled x 0)
   before-settled v k (t ▸ f) =
       join-settled k _ _ _ _ (turns-falls v k (name t) _ (list-falls v t)) (before-falls v (rest k) f)
       (turns-settled v k (name t) _ _ (list-settled v t)) (before-settled v (rest k) f)
@@ -76,10 +63,8 @@ module _ (v : Values) (ranged : (k : ℕ) → k < firstTimeSymbol → v k ≤ mo
 
   turned-most : (k : Kind) (n w p : ℕ) → p ≤ w * mostCount → turned k n p ≤ grouped k n w * mostCount
   unfolding turned grouped
-  turned-most (Block t) n w p l = l
-  turned-most Sequence n w p l = l
-  turned-most Choice n w p l = l
-  turned-most (Loop m) n w p l = by-conds (λ x y. x ≤ y * mostCount) (leb n 1) _ _ _ _ (λ e. omega arith) (λ e. omega arith)
+  turned-most k n w p l =
+      by-first (λ q. q .turned n p ≤ q .grouped n w * mostCount) k l (λ m e. by-conds (λ x y. x ≤ y * mostCount) (leb n 1) _ _ _ _ (λ o. omega arith) (λ o. omega arith))
 
   mutual
     unfolding place bound listed

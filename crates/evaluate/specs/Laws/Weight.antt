@@ -7,13 +7,14 @@ use native.Mathlib.Omega.{arith}
 use lib.Dec.{leb, T, eqb, eqb→eq, leb→le}
 use lib.Pow.{pow-mono}
 use borrow.Author.Tests.{leb-true, leb-false, le-leb, lt-leb, eqb-true}
-use Rattle.booleans.specs.Laws.{both, by-cond, or-false}
+use Rattle.booleans.specs.Laws.{both, by-cond}
 use Rattle.table.specs.Numbers.{wholeRun, mostLoops}
 use Rattle.table.specs.Questions.{nameOk, named, namedIn, share, loops, loopsIn, weight, weightIn}
 use Rattle.table.specs.Trees.{around, Tree, node, Forest, nil, _▸_, rest}
-use Rattle.evaluate.specs.Nodes.{Limit, Unlimited, AtMost, Kind, Block, Sequence, Choice, Loop, Number}
+use Rattle.evaluate.specs.Nodes.{Limit, Unlimited, AtMost, Kind, Number}
 use Rattle.evaluate.specs.Evaluate.{inner, outward, seen, name, nameIn}
-use Rattle.evaluate.specs.Laws.PairCount.{own, grouped, bound, boundIn}
+use Rattle.evaluate.specs.Laws.PairCount.{own, bound, boundIn}
+use Rattle.evaluate.specs.Laws.Kinds.{grouped, by-first}
 
 -- ---- question 7
 
@@ -55,10 +56,7 @@ outward-near d k h = go (leb k 1) (leb wholeRun k) refl
 
 seen-near : (k : Kind) (d n : ℕ) → Near (around k d) n → Near d (seen k n)
 unfolding seen around
-seen-near (Block t) d n h = h
-seen-near Sequence d n h = h
-seen-near Choice d n h = h
-seen-near (Loop m) d n h = outward-near d n h
+seen-near k d n h = by-first (λ q. Near (q .around d) n → Near d (q .seen n)) k (λ i. i) (λ m e. outward-near d n) h
 
 least : (a b d : ℕ) → Near d a → Near d b → Near d (min a b)
 least a b d h i = go (leb a b) refl
@@ -127,13 +125,12 @@ deeper d n l = go (leb wholeRun n) refl
 
 grouped-bound : (k : Kind) (d n w : ℕ) → grouped k n w * 2 ^ within d (seen k n) ≤ w * 2 ^ within (around k d) n
 unfolding grouped seen around
-grouped-bound (Block t) d n w = omega arith
-grouped-bound Sequence d n w = omega arith
-grouped-bound Choice d n w = omega arith
-grouped-bound (Loop m) d n w =
+grouped-bound k d n w =
+    by-first (λ q. q .grouped n w * 2 ^ within d (q .seen n) ≤ w * 2 ^ within (q .around d) n) k (omega arith)
+    (λ m o.
     by-cond (λ u. u * 2 ^ within d (outward n) ≤ w * 2 ^ within (suc d) n) (leb n 1) _ _
     (λ e. omega arith)
-    (λ e. rw (deeper d n (leb-false n 1 e), pow-suc 2 (within d (outward n))) (double w (2 ^ within d (outward n))))
+    (λ e. rw (deeper d n (leb-false n 1 e), pow-suc 2 (within d (outward n))) (double w (2 ^ within d (outward n)))))
   where
     double : (w x : ℕ) → 2 * w * x ≤ w * (x * 2)
     double w x = omega (arith, mul-assoc 2 w x, mul-assoc w x 2)

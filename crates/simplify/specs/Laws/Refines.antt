@@ -2,7 +2,7 @@
 use mathlib.Core.Path.{_≡_, sym, subst, refl}
 use Prim.Native.Nat.{ℕ, _≤_, _<_, min, _+_, max}
 use native.Mathlib.Omega.{arith}
-use lib.Dec.{T, leb→le, le→leb}
+use lib.Dec.{T, leb, leb→le, le→leb}
 use Rattle.booleans.specs.Laws.{both, join-and}
 use Rattle.booleans.specs.Tests.{_and_}
 use Rattle.table.specs.Numbers.{mostChildren}
@@ -47,14 +47,15 @@ pub record SumKind (k : Kind) : Type 0 where
   pub loopses : (t : Tree) (f : Forest) (d : ℕ) → loopsIn k (t ▸ f) d ≡ max (loops t d) (loopsIn k f d)
   pub nameds : (t : Tree) (f : Forest) (d : ℕ) → namedIn k (t ▸ f) d ≡ (named t d and namedIn k f d)
   pub weights : (t : Tree) (f : Forest) (d : ℕ) → weightIn k (t ▸ f) d ≡ weight t d + weightIn k f d
+  pub arities : (c : ℕ) → arity k c ≡ (leb 1 c and leb c mostChildren)
 
 pub sequence-sum : SumKind Sequence
-unfolding rest name seen list start turns loops around named weight
-sequence-sum = record { rests = refl; names = λ t f. refl; lists = λ v t f. refl; empty = λ v. refl; loopses = λ t f d. refl; nameds = λ t f d. refl; weights = λ t f d. refl }
+unfolding rest name seen list start turns loops around named weight arity
+sequence-sum = record { rests = refl; names = λ t f. refl; lists = λ v t f. refl; empty = λ v. refl; loopses = λ t f d. refl; nameds = λ t f d. refl; weights = λ t f d. refl; arities = λ c. refl }
 
 pub choice-sum : SumKind Choice
-unfolding rest name seen list start turns loops around named weight
-choice-sum = record { rests = refl; names = λ t f. refl; lists = λ v t f. refl; empty = λ v. refl; loopses = λ t f d. refl; nameds = λ t f d. refl; weights = λ t f d. refl }
+unfolding rest name seen list start turns loops around named weight arity
+choice-sum = record { rests = refl; names = λ t f. refl; lists = λ v t f. refl; empty = λ v. refl; loopses = λ t f d. refl; nameds = λ t f d. refl; weights = λ t f d. refl; arities = λ c. refl }
 
 pub tail-sum : (k : Kind) → SumKind k → (t : Tree) (g f : Forest) → RefinesIn k g f → RefinesIn k (t ▸ g) (t ▸ f)
 tail-sum k s t g f r = tail-refines k t g f (subst (λ j. RefinesIn j g f) (sym (s .rests)) r)
@@ -66,16 +67,8 @@ sum-is Sequence h = sequence-sum
 sum-is Choice h = choice-sum
 sum-is (Loop n) h = absurd h
 
-pub arity-of : (k : Kind) (c : ℕ) → T (isSum k) → 1 ≤ c → c ≤ mostChildren → T (arity k c)
-unfolding isSum arity
-arity-of (Block t) c h a b = absurd h
-arity-of Sequence c h a b = join-and _ _ (le→leb 1 c a) (le→leb c mostChildren b)
-arity-of Choice c h a b = join-and _ _ (le→leb 1 c a) (le→leb c mostChildren b)
-arity-of (Loop n) c h a b = absurd h
+pub arity-of : (k : Kind) → SumKind k → (c : ℕ) → 1 ≤ c → c ≤ mostChildren → T (arity k c)
+arity-of k s c a b = subst T (sym (s .arities c)) (join-and _ _ (le→leb 1 c a) (le→leb c mostChildren b))
 
-pub of-arity : (k : Kind) (c : ℕ) → T (isSum k) → T (arity k c) → (1 ≤ c) × (c ≤ mostChildren)
-unfolding isSum arity
-of-arity (Block t) c h a = absurd h
-of-arity Sequence c h a = let (x, y) = both _ _ a in (leb→le 1 c x, leb→le c mostChildren y)
-of-arity Choice c h a = let (x, y) = both _ _ a in (leb→le 1 c x, leb→le c mostChildren y)
-of-arity (Loop n) c h a = absurd h
+pub of-arity : (k : Kind) → SumKind k → (c : ℕ) → T (arity k c) → (1 ≤ c) × (c ≤ mostChildren)
+of-arity k s c a = let (x, y) = both _ _ (subst T (s .arities c) a) in (leb→le 1 c x, leb→le c mostChildren y)

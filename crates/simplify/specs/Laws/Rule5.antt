@@ -56,5 +56,6 @@ without-size (t ▸ f) h =
 
 pub rule5-refines : (n : Node) (f : Forest) → T (isSum (n .kind)) → 2 ≤ size f → T (anyZero f) → Refines (node n (without f)) (node n f)
 rule5-refines n f i z h =
-    node-refines n _ f (without-refines _ (sum-is _ i) f h)
-    (λ l a. arity-of _ _ i (omega (arith, without-size f h)) (omega (arith, without-size f h, of-arity _ _ i a .1)))
+    let s = sum-is (n .kind) i in
+    node-refines n _ f (without-refines _ s f h)
+    (λ l a. arity-of _ s _ (omega (arith, without-size f h)) (omega (arith, without-size f h, of-arity _ s _ a .1)))

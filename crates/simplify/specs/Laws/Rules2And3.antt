@@ -89,26 +89,26 @@ module _ (k : Kind) (s : SumKind k) where
       (λ e. omega (arith, size-⧺ (children t) f, gives-few c t e))
       (λ e. omega (arith, giveWay-most c f (or-else _ _ h e)))
 
-  some-children : T (isSum k) → (t : Tree) → t ≡ node (at k Unlimited) (children t) → T (listed t) → 1 ≤ size (children t)
+  some-children : (t : Tree) → t ≡ node (at k Unlimited) (children t) → T (listed t) → 1 ≤ size (children t)
   unfolding listed
-  some-children i t e l =
+  some-children t e l =
       let q : T (listed (node (at k Unlimited) (children t))) = subst (λ u. T (listed u)) e l in
       let (x, y) = both _ _ q in
-      of-arity k _ i (both _ _ x .1) .0
+      of-arity k s _ (both _ _ x .1) .0
 
-  pub giveWay-least : T (isSum k) → (c : ℕ) (f : Forest) → T (anyGives k c f) → T (listedIn f) → 1 ≤ size (giveWay k c f)
+  pub giveWay-least : (c : ℕ) (f : Forest) → T (anyGives k c f) → T (listedIn f) → 1 ≤ size (giveWay k c f)
   unfolding anyGives giveWay size listed
-  giveWay-least i c nil h l = absurd h
-  giveWay-least i c (t ▸ f) h l =
+  giveWay-least c nil h l = absurd h
+  giveWay-least c (t ▸ f) h l =
       by-cond (λ g. 1 ≤ size g) (gives k c t) _ _
-      (λ e. omega (arith, size-⧺ (children t) f, some-children i t (gives-is c t e) (both _ _ l .0)))
+      (λ e. omega (arith, size-⧺ (children t) f, some-children t (gives-is c t e) (both _ _ l .0)))
       (λ e. omega arith)
 
 pub rule2-refines : (n : Node) (f : Forest) → T (isSum (n .kind)) → T (anyGives (n .kind) (size f) f) → Refines (node n (giveWay (n .kind) (size f) f)) (node n f)
 rule2-refines n f i h =
     let s = sum-is (n .kind) i in
     node-refines n _ f (giveWay-refines _ s (size f) f h)
-    (λ l a. arity-of _ _ i (giveWay-least _ s i (size f) f h l) (omega (arith, giveWay-most _ s (size f) f h)))
+    (λ l a. arity-of _ s _ (giveWay-least _ s (size f) f h l) (omega (arith, giveWay-most _ s (size f) f h)))
 
 -- ---- rule 3
 

@@ -17,7 +17,7 @@ use Rattle.evaluate.specs.Evaluate.{Values, fits, list, name, join, before, nam
 use Rattle.evaluate.specs.Laws.Monotone.{before-falls, nameIn-le, list-falls}
 use Rattle.evaluate.specs.Laws.Joins.{join-left, zero-join, join-assoc, join-swap}
 use Rattle.simplify.specs.Nodes.{Unlimited, Kind, Sequence, Choice, Limit}
-use Rattle.simplify.specs.Rules.{bare, others, bares, atFirst, leaf, timeOf, total, largest, isSum}
+use Rattle.simplify.specs.Rules.{bare, others, bares, atFirst, leaf, timeOf, total, largest}
 use Rattle.simplify.specs.Laws.Refines.{RefinesIn, SumKind, sequence-sum, choice-sum, Refines, node-refines, arity-of, of-arity}
 use Rattle.simplify.specs.Laws.Same.{at}
 use Rattle.simplify.specs.Laws.Forests.{Each, fits-each, listed-each, limits-each, named-each}
@@ -241,13 +241,12 @@ unfolding join largest
 largest-refines f p = one-at-first Choice choice-sum max merge-consts largest refl (λ t g. refl) f p
 
 pub rule6-refines : (l : Limit) (f : Forest) → 2 ≤ bares f → Refines (node (at Sequence l) (leaf (total f) Unlimited ▸ others f)) (node (at Sequence l) f)
-unfolding size isSum
+unfolding size
 rule6-refines l f p =
     node-refines (at Sequence l) _ f (total-refines f p)
-    (λ q a. arity-of Sequence _ tt (omega arith) (omega (arith, others-size f, of-arity Sequence _ tt a .1)))
+    (λ q a. arity-of Sequence sequence-sum _ (omega arith) (omega (arith, others-size f, of-arity Sequence sequence-sum _ a .1)))
 
 pub rule7-refines : (l : Limit) (f : Forest) → 2 ≤ bares f → Refines (node (at Choice l) (atFirst (largest f) f)) (node (at Choice l) f)
-unfolding isSum
 rule7-refines l f p =
     node-refines (at Choice l) _ f (largest-refines f p)
-    (λ q a. arity-of Choice _ tt (first-some (largest f) f (of-arity Choice _ tt a .0)) (omega (arith, first-size (largest f) f, of-arity Choice _ tt a .1)))
+    (λ q a. arity-of Choice choice-sum _ (first-some (largest f) f (of-arity Choice choice-sum _ a .0)) (omega (arith, first-size (largest f) f, of-arity Choice choice-sum _ a .1)))
