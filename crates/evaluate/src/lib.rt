@@ -136,7 +136,7 @@ fn loop_in(bound: u64, body: Valued, list: &mut Pairs, spare: &mut Pairs) -> Val
     if MOST_PAIRS < 2 * len - 1 {
         return Valued::UNFIT;
     }
-    let n = lists::group_onto(list, len, bound, spare);
+    let n = grouping::group_onto(list, len, bound, spare);
     lists::copy_onto(spare, n, list);
     check_top(list, n, named, body.records)
 }
@@ -171,8 +171,8 @@ fn join_lists(
     ensures { λ r. ⌜ Is (listIn (now (a .exit)) r) (joinPairs kind (pairsOf (listIn (now (a .entry)) al)) (pairsOf (listIn (now (b .entry)) bl))) ⌝ ∗ ⌜ Roomy (now (spare .exit)) ⌝ }
 {
     match kind {
-        Kind::Choice => lists::merge_in(a, al, b, bl, spare),
-        _ => lists::add_in(a, al, b, bl, spare),
+        Kind::Choice => inplace::merge_in(a, al, b, bl, spare),
+        _ => inplace::add_in(a, al, b, bl, spare),
     }
 }
 

@@ -4,7 +4,5 @@ pub mod Suffix
 pub mod Copies
 pub mod Adds
 pub mod Merges
-pub mod Groups
 pub mod Caps
 pub mod Totals
-pub mod InPlace

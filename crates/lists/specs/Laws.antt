@@ -10,5 +10,4 @@ pub mod Expand
 pub mod Cap
 pub mod Add
 pub mod Union
-pub mod Short
 pub mod Group

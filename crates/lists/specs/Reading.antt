@@ -95,12 +95,6 @@ headOf v c w d =
     (cond (ltb v w) (record { value = w; count = d; left = 0; right = 1 })
     (record { value = v; count = joined c d; left = 1; right = 1 }))
 
--- loop: a group of n is begun with m members of the sum a, and v comes next; all sums fit
-pub record Turns (n m a v : ℕ) : Type 0 where
-  pub begun : m < n
-  pub fits : a + (n - m) * v < 2 ^ 64
-  pub whole : n * v < 2 ^ 64
-
 -- limit: a pair of count c ends before it
 abbrev pub passesOf : ℕ → ℕ → Bool
 passesOf c left = not (eqb c 0) && ltb c left
@@ -109,29 +103,3 @@ passesOf c left = not (eqb c 0) && ltb c left
 unfoldable pub lastsOf : ℕ → ℕ → ℕ
 lastsOf zero left = 0
 lastsOf (suc v) left = some left
-
--- ---- sequence and choice in place
-
--- k is the first pair whose value is at most v
-pub record Under (ps : List ℕ) (len v k : ℕ) : Type 0 where
-  pub inside : k < len
-  pub above : (j : ℕ) → j < k → v < valueAt ps j
-  pub under : valueAt ps k ≤ v
-
--- one more pair in front of pair k, and the len pairs of old otherwise
-pub record Inserted (old new : List ℕ) (len k v c : ℕ) : Type 0 where
-  pub long : length new ≡ 2 * mostPairs
-  pub value : valueAt new k ≡ v
-  pub count : countAt new k ≡ c
-  pub values-below : (j : ℕ) → j < k → valueAt new j ≡ valueAt old j
-  pub counts-below : (j : ℕ) → j < k → countAt new j ≡ countAt old j
-  pub values-above : (j : ℕ) → k ≤ j → j < len → valueAt new (suc j) ≡ valueAt old j
-  pub counts-above : (j : ℕ) → k ≤ j → j < len → countAt new (suc j) ≡ countAt old j
-
--- a pair of count c ends within the next ones
-abbrev pub reachesOf : ℕ → ℕ → Bool
-reachesOf c left = not (eqb c 0) && leb c left
-
--- a list of so many pairs is one run, and 0 after
-abbrev pub isRun : List ℕ → ℕ → Bool
-isRun ps len = eqb len 2 && eqb (valueAt ps 1) 0

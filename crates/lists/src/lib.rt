@@ -1,31 +1,24 @@
-// The endless list that never rises (document 01, "Evaluation"), as pairs of value and count: by value, and in lent arrays, which is faster.
+// The endless list that never rises (document 01, "Evaluation"), as pairs of value and count, and its operations in lent arrays.
 ghost use mathlib.Core.Path.{_≡_};
-ghost use Prim.Native.Nat.{_*_, _+_, _-_, _<_, _^_, _≤_, suc};
+ghost use Prim.Native.Nat.{_*_, _+_, _<_, _^_, _≤_, suc};
 ghost use lib.ListN.{length};
-ghost use Rattle.lists.specs.Pairs.{ever, places, run, top};
-ghost use Rattle.lists.specs.Operations.{addPairs, capPairs, groupFrom, groupPairs, joined, mergePairs, shorter, some, turnOf};
-ghost use Rattle.lists.specs.Operations.{first};
+ghost use Rattle.lists.specs.Pairs.{ever};
+ghost use Rattle.lists.specs.Operations.{addPairs, capPairs, first, joined, mergePairs, shorter, some};
 ghost use Rattle.lists.specs.Reading.{
   Addable,
   Cappable,
-  Groupable,
-  Inserted,
   Is,
   Mergeable,
   Proper,
   Summable,
-  Turns,
-  Under,
   countAt,
   headOf,
-  isRun,
   lastsOf,
   listIn,
   mostPairs,
   pairsOf,
   passed,
   passesOf,
-  reachesOf,
   stored,
   valueAt,
 };
@@ -55,7 +48,7 @@ pub struct Head {
     pub right: usize,
 }
 
-// What a run comes to in groups: the sum of the group that was begun, whether that ends, how many whole groups, and the group begun then.
+// What a run comes to in groups, of which `turnOf` speaks: the sum of the group that was begun, whether that ends, how many whole groups, and the group begun then.
 pub struct Turn {
     pub mixed: u64,
     pub ends: usize,
@@ -87,62 +80,6 @@ impl List {
         r.len = 1;
         r
     }
-
-    // Sequence.
-    pub fn add(self, other: List) -> List
-        requires { ⌜ Addable self other ⌝ }
-        ensures { λ r. ⌜ Is r (addPairs (pairsOf self) (pairsOf other)) ⌝ }
-    {
-        let mut r = List::zero();
-        let al = self.len;
-        let bl = other.len;
-        let n = add_onto(&self.pairs, al, &other.pairs, bl, &mut r.pairs);
-        r.len = n;
-        r
-    }
-
-    // Choice.
-    pub fn merge(self, other: List) -> List
-        requires { ⌜ Mergeable self other ⌝ }
-        ensures { λ r. ⌜ Is r (mergePairs (pairsOf self) (pairsOf other)) ⌝ }
-    {
-        let mut r = List::zero();
-        let al = self.len;
-        let bl = other.len;
-        let n = merge_onto(&self.pairs, al, &other.pairs, bl, &mut r.pairs);
-        r.len = n;
-        r
-    }
-
-    // Loop: an empty group sums to 0.
-    pub fn group(self, n: u64) -> List
-        requires { ⌜ Groupable self n ⌝ }
-        ensures { λ r. ⌜ Is r (groupPairs n (pairsOf self)) ⌝ }
-    {
-        if n == 0 {
-            return List::zero();
-        }
-        let mut r = List::zero();
-        let al = self.len;
-        let k = group_from(&self.pairs, al, n, &mut r.pairs);
-        r.len = k;
-        r
-    }
-
-    // Limit: nothing remains of a limit of 0.
-    pub fn cap(self, m: u64) -> List
-        requires { ⌜ Cappable self ⌝ }
-        ensures { λ r. ⌜ Is r (capPairs m (pairsOf self)) ⌝ }
-    {
-        if m == 0 {
-            return List::zero();
-        }
-        let mut r = self;
-        let len = self.len;
-        let n = cap_in(&mut r.pairs, len, m);
-        r.len = n;
-        r
-    }
 }
 
 // The value of pair k.
@@ -162,7 +99,7 @@ pub fn count_at(ps: &Numbers, k: usize) -> u64
 }
 
 // Stores pair k.
-fn put_pair(out: &mut Numbers, k: usize, v: u64, c: u64)
+pub fn put_pair(out: &mut Numbers, k: usize, v: u64, c: u64)
     requires { ⌜ k < mostPairs ⌝ ∗ ⌜ length (now out) ≡ 2 * mostPairs ⌝ }
     ensures { λ _. ⌜ now (out .exit) ≡ stored (now (out .entry)) k v c ⌝ }
 {
@@ -317,87 +254,10 @@ pub fn merge_onto(a: &Numbers, al: usize, b: &Numbers, bl: usize, out: &mut Numb
 }
 
 // One, or none of none.
-fn some_of(x: u64) -> usize
+pub fn some_of(x: u64) -> usize
     ensures { λ r. ⌜ r ≡ some x ⌝ }
 {
     if x == 0 { 0 } else { 1 }
-}
-
-// A run of c times v comes to a group of n that is begun with m members of the sum a.
-fn group_turn(n: u64, m: u64, a: u64, v: u64, c: u64) -> Turn
-    requires { ⌜ Turns n m a v ⌝ }
-    ensures { λ r. ⌜ r ≡ turnOf n m a v c ⌝ }
-{
-    if m == 0 {
-        let held = c % n;
-        return Turn {
-            mixed: 0,
-            ends: 0,
-            times: c / n,
-            held: held,
-            sum: held * v,
-        };
-    }
-    let need = n - m;
-    if c < need {
-        return Turn {
-            mixed: 0,
-            ends: 0,
-            times: 0,
-            held: m + c,
-            sum: a + c * v,
-        };
-    }
-    let over = c - need;
-    let held = over % n;
-    Turn {
-        mixed: a + need * v,
-        ends: 1,
-        times: over / n,
-        held: held,
-        sum: held * v,
-    }
-}
-
-// Loop: groups of n, each summed; n is not 0. Both pairs of a turn are stored always: one that does not count is written over by the next.
-fn group_from(a: &Numbers, al: usize, n: u64, out: &mut Numbers) -> usize
-    requires { ⌜ Groupable (listIn (now a) al) n ⌝ ∗ ⌜ 0 < n ⌝ ∗ ⌜ length (now out) ≡ 2 * mostPairs ⌝ }
-    ensures { λ r. ⌜ Is (listIn (now (out .exit)) r) (groupFrom n 0 0 (pairsOf (listIn (now (a .entry)) al))) ⌝ }
-{
-    let mut o = 0;
-    let mut k = 0;
-    let mut held = 0;
-    let mut sum = 0;
-    let mut c = count_at(a, 0);
-    while c != 0 {
-        let v = value_at(a, k);
-        let t = group_turn(n, held, sum, v, c);
-        put_pair(out, o, t.mixed, 1);
-        o += t.ends;
-        put_pair(out, o, n * v, t.times);
-        o += some_of(t.times);
-        held = t.held;
-        sum = t.sum;
-        k += 1;
-        c = count_at(a, k);
-    }
-    let v = value_at(a, k);
-    put_pair(out, o, sum + (n - held) * v, 1);
-    o += some_of(held);
-    put_pair(out, o, n * v, 0);
-    o + 1
-}
-
-// Loop: groups of n, each summed; an empty group sums to 0.
-pub fn group_onto(a: &Numbers, al: usize, n: u64, out: &mut Numbers) -> usize
-    requires { ⌜ Groupable (listIn (now a) al) n ⌝ ∗ ⌜ length (now out) ≡ 2 * mostPairs ⌝ }
-    ensures { λ r. ⌜ Is (listIn (now (out .exit)) r) (groupPairs n (pairsOf (listIn (now (a .entry)) al))) ⌝ }
-{
-    if n == 0 {
-        constant_in(out, 0);
-        return 1;
-    }
-    group_from(a, al, n, out)
 }
 
 // Does a pair of count c end before the limit?
@@ -417,8 +277,30 @@ fn lasts(v: u64, left: u64) -> usize
     some_of(left)
 }
 
-// Limit, in place: the first m members, and 0 after.
+// The zero list, from the list type's constant: as much is copied as it has pairs.
+pub fn zero_in(out: &mut Numbers) -> usize
+    requires { ⌜ length (now out) ≡ 2 * mostPairs ⌝ }
+    ensures { λ r. ⌜ Is (listIn (now (out .exit)) r) (ever 0) ⌝ }
+{
+    let zero = List::zero();
+    let n = zero.len;
+    copy_onto(&zero.pairs, n, out);
+    n
+}
+
+// Limit, in place: the first m members, and 0 after. Nothing remains of a limit of 0.
 pub fn cap_in(ps: &mut Numbers, len: usize, m: u64) -> usize
+    requires { ⌜ Cappable (listIn (now ps) len) ⌝ }
+    ensures { λ r. ⌜ Is (listIn (now (ps .exit)) r) (capPairs m (pairsOf (listIn (now (ps .entry)) len))) ⌝ }
+{
+    if m == 0 {
+        return zero_in(ps);
+    }
+    cap_from(ps, len, m)
+}
+
+// The same for any m, pair by pair.
+fn cap_from(ps: &mut Numbers, len: usize, m: u64) -> usize
     requires { ⌜ Cappable (listIn (now ps) len) ⌝ }
     ensures { λ r. ⌜ Is (listIn (now (ps .exit)) r) (capPairs m (pairsOf (listIn (now (ps .entry)) len))) ⌝ }
 {
@@ -453,160 +335,4 @@ pub fn total_of(a: &Numbers, al: usize, n: u64) -> u64
         c = count_at(a, k);
     }
     sum + left * value_at(a, k)
-}
-
-// ---- Sequence and choice in place
-
-// Sequence with one value for ever.
-fn raise_in(ps: &mut Numbers, len: usize, v: u64) -> usize
-    requires { ⌜ Proper (listIn (now ps) len) ⌝ ∗ ⌜ top (pairsOf (listIn (now ps) len)) + v < 2 ^ 64 ⌝ }
-    ensures { λ r. ⌜ Is (listIn (now (ps .exit)) r) (addPairs (pairsOf (listIn (now (ps .entry)) len)) (ever v)) ⌝ }
-{
-    let mut k = 0;
-    while k + 1 < len {
-        let x = value_at(ps, k);
-        let c = count_at(ps, k);
-        put_pair(ps, k, x + v, c);
-        k += 1;
-    }
-    let x = value_at(ps, k);
-    put_pair(ps, k, x + v, 0);
-    k + 1
-}
-
-// The first pair whose value is at most v, as the last one's is.
-fn find_in(ps: &Numbers, len: usize, v: u64) -> usize
-    requires { ⌜ Proper (listIn (now ps) len) ⌝ ∗ ⌜ valueAt (now ps) (len - 1) ≤ v ⌝ }
-    ensures { λ r. ⌜ Under (now (ps .entry)) len v r ⌝ }
-{
-    let mut k = 0;
-    while v < value_at(ps, k) {
-        k += 1;
-    }
-    k
-}
-
-// Choice with one value for ever.
-fn floor_in(ps: &mut Numbers, len: usize, v: u64) -> usize
-    requires { ⌜ Proper (listIn (now ps) len) ⌝ }
-    ensures { λ r. ⌜ Is (listIn (now (ps .exit)) r) (mergePairs (pairsOf (listIn (now (ps .entry)) len)) (ever v)) ⌝ }
-{
-    if v <= value_at(ps, len - 1) {
-        return len;
-    }
-    let k = find_in(ps, len, v);
-    put_pair(ps, k, v, 0);
-    k + 1
-}
-
-// One more pair in front of pair k.
-fn insert_in(ps: &mut Numbers, len: usize, k: usize, v: u64, c: u64) -> usize
-    requires { ⌜ length (now ps) ≡ 2 * mostPairs ⌝ ∗ ⌜ k < len ⌝ ∗ ⌜ len < mostPairs ⌝ }
-    ensures { λ r. ⌜ Inserted (now (ps .entry)) (now (ps .exit)) len k v c ⌝ ∗ ⌜ r ≡ len + 1 ⌝ }
-{
-    let mut j = len;
-    while k < j {
-        let x = value_at(ps, j - 1);
-        let y = count_at(ps, j - 1);
-        put_pair(ps, j, x, y);
-        j -= 1;
-    }
-    put_pair(ps, k, v, c);
-    len + 1
-}
-
-// Does a pair of count c end within the next ones?
-fn reaches(c: u64, left: u64) -> bool
-    ensures { λ r. ⌜ r ≡ reachesOf c left ⌝ }
-{
-    (c != 0) & (c <= left)
-}
-
-// What is left of a count after so many, 0 meaning for ever.
-fn after_of(c: u64, left: u64) -> u64
-    requires { ⌜ (0 < c → left ≤ c) ⌝ }
-    ensures { λ r. ⌜ r ≡ c - left ⌝ }
-{
-    if c == 0 { 0 } else { c - left }
-}
-
-// Is a list one run, and 0 after?
-fn is_run(ps: &Numbers, len: usize) -> bool
-    ensures { λ r. ⌜ r ≡ isRun (now (ps .entry)) len ⌝ }
-{
-    (len == 2) & (value_at(ps, 1) == 0)
-}
-
-// Sequence with m times v, and 0 after.
-fn raise_front(ps: &mut Numbers, len: usize, v: u64, m: u64) -> usize
-    requires { ⌜ Proper (listIn (now ps) len) ⌝ ∗ ⌜ len < mostPairs ⌝ ∗ ⌜ top (pairsOf (listIn (now ps) len)) + v < 2 ^ 64 ⌝ ∗ ⌜ 0 < m ⌝ ∗ ⌜ 0 < v ⌝ }
-    ensures { λ r. ⌜ Is (listIn (now (ps .exit)) r) (addPairs (pairsOf (listIn (now (ps .entry)) len)) (run v m (ever 0))) ⌝ }
-{
-    let mut k = 0;
-    let mut left = m;
-    let mut c = count_at(ps, 0);
-    while reaches(c, left) {
-        let x = value_at(ps, k);
-        put_pair(ps, k, x + v, c);
-        left -= c;
-        k += 1;
-        c = count_at(ps, k);
-    }
-    if left == 0 {
-        return len;
-    }
-    let x = value_at(ps, k);
-    put_pair(ps, k, x, after_of(c, left));
-    insert_in(ps, len, k, x + v, left)
-}
-
-// Choice with m times v, and 0 after.
-fn insert_run(ps: &mut Numbers, len: usize, v: u64, m: u64) -> usize
-    requires { ⌜ Proper (listIn (now ps) len) ⌝ ∗ ⌜ len < mostPairs ⌝ ∗ ⌜ places (pairsOf (listIn (now ps) len)) + m < 2 ^ 64 ⌝ ∗ ⌜ 0 < m ⌝ ∗ ⌜ 0 < v ⌝ }
-    ensures { λ r. ⌜ Is (listIn (now (ps .exit)) r) (mergePairs (pairsOf (listIn (now (ps .entry)) len)) (run v m (ever 0))) ⌝ }
-{
-    if v <= value_at(ps, len - 1) {
-        return len;
-    }
-    let k = find_in(ps, len, v);
-    if value_at(ps, k) == v {
-        let c = count_at(ps, k);
-        put_pair(ps, k, v, c + m);
-        return len;
-    }
-    insert_in(ps, len, k, v, m)
-}
-
-// Sequence, in place; the spare array is for a list that is not short.
-pub fn add_in(a: &mut Numbers, al: usize, b: &Numbers, bl: usize, spare: &mut Numbers) -> usize
-    requires { ⌜ Addable (listIn (now a) al) (listIn (now b) bl) ⌝ ∗ ⌜ length (now spare) ≡ 2 * mostPairs ⌝ }
-    ensures { λ r. ⌜ Is (listIn (now (a .exit)) r) (addPairs (pairsOf (listIn (now (a .entry)) al)) (pairsOf (listIn (now (b .entry)) bl))) ⌝ ∗ ⌜ length (now (spare .exit)) ≡ 2 * mostPairs ⌝ }
-{
-    let v = value_at(b, 0);
-    if bl == 1 {
-        return raise_in(a, al, v);
-    }
-    if is_run(b, bl) {
-        return raise_front(a, al, v, count_at(b, 0));
-    }
-    let n = add_onto(a, al, b, bl, spare);
-    copy_onto(spare, n, a);
-    n
-}
-
-// Choice, in place; the spare array is for a list that is not short.
-pub fn merge_in(a: &mut Numbers, al: usize, b: &Numbers, bl: usize, spare: &mut Numbers) -> usize
-    requires { ⌜ Mergeable (listIn (now a) al) (listIn (now b) bl) ⌝ ∗ ⌜ length (now spare) ≡ 2 * mostPairs ⌝ }
-    ensures { λ r. ⌜ Is (listIn (now (a .exit)) r) (mergePairs (pairsOf (listIn (now (a .entry)) al)) (pairsOf (listIn (now (b .entry)) bl))) ⌝ ∗ ⌜ length (now (spare .exit)) ≡ 2 * mostPairs ⌝ }
-{
-    let v = value_at(b, 0);
-    if bl == 1 {
-        return floor_in(a, al, v);
-    }
-    if is_run(b, bl) {
-        return insert_run(a, al, v, count_at(b, 0));
-    }
-    let n = merge_onto(a, al, b, bl, spare);
-    copy_onto(spare, n, a);
-    n
 }
