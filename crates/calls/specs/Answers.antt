@@ -1,14 +1,13 @@
 -- What each outside call answers for any input, and the bytes that it writes. Document 01, "Questions put to a call".
-use mathlib.Core.Bool.{Bool, true, false, cond}
+use mathlib.Core.Bool.{Bool, true, false}
 use mathlib.Core.List.{List, [], _∷_, _++_}
 use Prim.Native.Nat.{ℕ, suc}
-use lib.Dec.{eqb, leb, ltb}
+use lib.Dec.{leb}
 use lib.ListN.{length, drop}
-use Rattle.booleans.specs.Tests.{_and_}
-use Rattle.table.specs.Numbers.{howManyValues, firstTimeSymbol, mostCount, mostTime, listRoom}
-use Rattle.table.specs.Trees.{Tree}
+use Rattle.table.specs.Numbers.{listRoom}
 use Rattle.table.specs.Table.{encode, decode, recordCount}
-use Rattle.table.specs.Checking.{refusal}
+use Rattle.table.specs.Asking.{Question, _asks_, byRefusal, firstNo}
+use Rattle.table.specs.Checking.{questions, refusal}
 use Rattle.lists.specs.Pairs.{width, numbers}
 use Rattle.evaluate.specs.Evaluate.{valuesOf, figure, fits, zeros}
 use Rattle.evaluate.specs.ListPairs.{listPairs}
@@ -18,6 +17,7 @@ use Rattle.calls.specs.declared.Quote.{Quote}
 use Rattle.calls.specs.declared.Listed.{Listed}
 use Rattle.calls.specs.declared.Ending.{Ending}
 use Rattle.calls.specs.declared.Simplified.{Simplified}
+use Rattle.calls.specs.Values.{valueQuestions}
 
 -- a buffer with numbers written over its front, and the rest of it as it was
 unfoldable pub over : (front buffer : List ℕ) → List ℕ
@@ -26,7 +26,7 @@ over front buffer = front ++ drop (length front) buffer
 -- ---- checking: questions 1 to 7
 
 unfoldable pub checkAnswer : List ℕ → Checked
-checkAnswer b = cond (eqb (refusal b) 0) (Checked.Accepted (recordCount b)) (Checked.Refused (refusal b))
+checkAnswer b = byRefusal (refusal b) (Checked.Accepted (recordCount b)) Checked.Refused
 
 -- document 01's number for each case, 0 for none, and the number of records, 0 where the table is refused
 unfoldable pub checkedRefusal : Checked → ℕ
@@ -39,25 +39,19 @@ checkedRecords (Checked.Refused q) = 0
 
 -- ---- the figure call: questions 1 to 7, 9 and 10
 
--- the ceiling of value i
-unfoldable pub ceiling : ℕ → ℕ
-ceiling i = cond (ltb i firstTimeSymbol) mostCount mostTime
+-- what is asked of an accepted table with a desk's values: 10 is `fits`
+unfoldable pub quoteQuestions : (table values : List ℕ) → List Question
+quoteQuestions b vs = valueQuestions b vs ++ 10 asks fits (valuesOf vs) (decode b) ∷ []
 
--- each is at most its ceiling, the first being number i
-unfoldable pub ranged : ℕ → List ℕ → Bool
-ranged i [] = true
-ranged i (x ∷ xs) = leb x (ceiling i) and ranged (suc i) xs
+unfoldable pub figureRefusal : (table values : List ℕ) → ℕ
+figureRefusal b vs = firstNo (questions b ++ quoteQuestions b vs)
 
--- 9. exactly 32 values, each in its range, used or not
-unfoldable pub question9 : List ℕ → Bool
-question9 vs = eqb (length vs) howManyValues and ranged 0 vs
+-- what was asked for
+abbrev pub quoteOf : (table values : List ℕ) → Quote
+quoteOf b vs = Quote.Figure (figure (valuesOf vs) (decode b))
 
--- the tree of an accepted table: question 10 is `fits`
-unfoldable pub quoteOf : List ℕ → Tree → Quote
-quoteOf vs t = cond (question9 vs) (cond (fits (valuesOf vs) t) (Quote.Figure (figure (valuesOf vs) t)) (Quote.Refused 10)) (Quote.Refused 9)
-
-unfoldable pub figureAnswer : List ℕ → List ℕ → Quote
-figureAnswer b vs = cond (eqb (refusal b) 0) (quoteOf vs (decode b)) (Quote.Refused (refusal b))
+unfoldable pub figureAnswer : (table values : List ℕ) → Quote
+figureAnswer b vs = byRefusal (figureRefusal b vs) (quoteOf b vs) Quote.Refused
 
 -- document 01's number for each case, 0 for none, and the figure, 0 where there is none
 unfoldable pub quotedRefusal : Quote → ℕ
@@ -71,18 +65,14 @@ quotedFigure (Quote.Refused q) = 0
 -- ---- the list call: questions 1 to 10, of which 8 asks the output buffer for 512 numbers
 
 unfoldable pub listRefusal : (table values out : List ℕ) → ℕ
-listRefusal b vs out =
-    cond (eqb (refusal b) 0)
-    (cond (leb listRoom (length out)) (cond (question9 vs) (cond (fits (valuesOf vs) (decode b)) 0 10) 9) 8)
-    (refusal b)
+listRefusal b vs out = firstNo (questions b ++ 8 asks leb listRoom (length out) ∷ quoteQuestions b vs)
 
 unfoldable pub listAnswer : (table values out : List ℕ) → Listed
-listAnswer b vs out =
-    cond (eqb (listRefusal b vs out) 0) (Listed.Pairs (suc (width (listPairs (valuesOf vs) (decode b))))) (Listed.Refused (listRefusal b vs out))
+listAnswer b vs out = byRefusal (listRefusal b vs out) (Listed.Pairs (suc (width (listPairs (valuesOf vs) (decode b))))) Listed.Refused
 
 -- the numbers it writes: none where it is refused
 unfoldable pub listWrites : (table values out : List ℕ) → List ℕ
-listWrites b vs out = cond (eqb (listRefusal b vs out) 0) (numbers (listPairs (valuesOf vs) (decode b))) []
+listWrites b vs out = byRefusal (listRefusal b vs out) (numbers (listPairs (valuesOf vs) (decode b))) (λ q. [])
 
 -- document 01's number for each case, 0 for none, and how many pairs, 0 where it is refused
 unfoldable pub listedRefusal : Listed → ℕ
@@ -97,8 +87,7 @@ listedPairs (Listed.Refused q) = 0
 
 -- 8. the output buffer is at least as long as the table
 unfoldable pub simplifyRefusal : (table out : List ℕ) → ℕ
-simplifyRefusal b out =
-    cond (eqb (refusal b) 0) (cond (leb (length b) (length out)) (cond (fits zeros (decode b)) 0 10) 8) (refusal b)
+simplifyRefusal b out = firstNo (questions b ++ 8 asks leb (length b) (length out) ∷ 10 asks fits zeros (decode b) ∷ [])
 
 unfoldable pub endingOf : (finished : Bool) → Ending
 endingOf true = Ending.Finished
@@ -112,14 +101,11 @@ unfoldable pub madeAnswer : (table : List ℕ) (allowance : ℕ) → Simplified
 madeAnswer b n = Simplified.Written (length (encode (made b n .tree))) (made b n .taken) (endingOf (made b n .finished))
 
 unfoldable pub simplifyAnswer : (table : List ℕ) (allowance : ℕ) (out : List ℕ) → Simplified
-simplifyAnswer b n out =
-    cond (eqb (simplifyRefusal b out) 0)
-    (madeAnswer b n)
-    (Simplified.Refused (simplifyRefusal b out))
+simplifyAnswer b n out = byRefusal (simplifyRefusal b out) (madeAnswer b n) Simplified.Refused
 
 -- the bytes it writes: none where it is refused
 unfoldable pub simplifyWrites : (table : List ℕ) (allowance : ℕ) (out : List ℕ) → List ℕ
-simplifyWrites b n out = cond (eqb (simplifyRefusal b out) 0) (encode (made b n .tree)) []
+simplifyWrites b n out = byRefusal (simplifyRefusal b out) (encode (made b n .tree)) (λ q. [])
 
 -- document 01's number for each case, 0 for none, and the values, 0 where it is refused: the length, the steps, and 1 for finished
 unfoldable pub simplifiedRefusal : Simplified → ℕ

@@ -2,16 +2,18 @@
 use mathlib.Core.Path.{_≡_, refl}
 use mathlib.Core.Bool.{Bool, true, false}
 use mathlib.Core.List.{List, [], _∷_, _++_}
-use Prim.Native.Nat.{ℕ, zero, suc, _*_}
+use Prim.Native.Nat.{ℕ, _*_}
 use lib.Dec.{eqb}
 use lib.ListN.{length, replicate}
 use Rattle.booleans.specs.Tests.{_and_}
 use Rattle.table.specs.Numbers.{howManyValues, mostRecords}
-use Rattle.table.specs.Trees.{Tree, node, Forest, nil, _▸_, _⧺_, size, rest, around, records}
+use Rattle.table.specs.Trees.{Tree, nil, _▸_, _⧺_, size, rest, around, records}
 use Rattle.table.specs.Questions.{arity, timeInRange, countInRange, kindInRange, limitInRange, listed, depth, loops, nameOk, named, share, weight}
 use Rattle.table.specs.Bytes.{toBytes, fromBytes}
 use Rattle.table.specs.Table.{flag, numFrom, kindByte, valueNum, kindFrom, loopByte, limitNum, limitFrom, recordBytes, encode, firstNode, childByte, firstOnes, afterOnes, forest, top, decode, formTrees, each}
-use Rattle.table.specs.Checking.{question1, question2, limitCount, recordInRange, question3, question4, question5, question6, question7, firstNo, refusal}
+use Rattle.table.specs.Checking.{question1, question2, limitCount, recordInRange, question3, question4, question5, question6, question7, questions}
+use Rattle.table.specs.Asking.{byRefusal, firstNo}
+use Rattle.table.specs.Notation.{_/_at_, allHold, block, both, either, loop, sequence, symbol}
 use Rattle.lists.specs.Streams.{S, const, add, cap, group, shift, merge, next, taken}
 use Rattle.lists.specs.Pairs.{Pairs, ever, run, inFront, tail, pairs}
 use Rattle.evaluate.specs.Evaluate.{amount, inner, outward, seen, name, limit, rounds, turns, join, start, list, figure, fits, zeros}
@@ -20,68 +22,32 @@ use Rattle.evaluate.specs.ListPairs.{placeOf, turned, place, listPairs}
 use Rattle.simplify.specs.Same.{sameNumber, sameLimit, sameKind, same}
 use Rattle.simplify.specs.Rules.{isBlock, isSum, limitOf, children, relimit, leaf, bare, timeOfKind, timeOf, when, rule1, gives, anyGives, giveWay, rule2, alone, rule3, rule4, isZero, anyZero, without, rule5, bares, others, total, largest, rule6, atFirst, rule7, isPair, headOf, tailOf, firstOf, secondOf, allPairs, firsts, shares, sharedOut, rule8, exit, rule9}
 use Rattle.simplify.specs.Steps.{orElse, also, rule, inside, step, isNone, onward, steps}
-use Rattle.calls.specs.Nodes.{Plain, Symbol, Unlimited, AtMost, Block, Sequence, Choice, Loop}
 use Rattle.calls.specs.declared.Quote.{Quote}
 use Rattle.calls.specs.declared.Ending.{Ending}
 use Rattle.calls.specs.declared.Simplified.{Simplified}
-use Rattle.calls.specs.Answers.{ceiling, ranged, question9, quoteOf, figureAnswer, simplifyRefusal, endingOf, made, madeAnswer, simplifyAnswer, simplifyWrites}
-use Rattle.calls.specs.Files.{valueLength, valueIn, valuesFrom, valuesWhole, filesAnswer}
-
--- ---- trees, as the document writes them
-
-unfoldable pub block : ℕ → Tree
-block n = node (record { kind = Block (Plain n); limit = Unlimited }) nil
-
--- a block whose time is a symbol
-unfoldable pub symbol : ℕ → Tree
-symbol s = node (record { kind = Block (Symbol s); limit = Unlimited }) nil
-
-infixl 60 _/_at_
--- a/m@k
-unfoldable pub _/_at_ : Tree → ℕ → ℕ → Tree
-(node n f) / m at k = node (record { kind = n .kind; limit = AtMost k (Plain m) }) f
-
--- (a, b, ..)
-unfoldable pub sequence : Forest → Tree
-sequence f = node (record { kind = Sequence; limit = Unlimited }) f
-
--- (a, b)
-unfoldable pub both : Tree → Tree → Tree
-both a b = sequence (a ▸ b ▸ nil)
-
--- C(a|b)
-unfoldable pub either : Tree → Tree → Tree
-either a b = node (record { kind = Choice; limit = Unlimited }) (a ▸ b ▸ nil)
-
--- a loop of this bound, its body and its exit
-unfoldable pub loop : ℕ → Tree → Tree → Tree
-loop n b e = node (record { kind = Loop (Plain n); limit = Unlimited }) (b ▸ e ▸ nil)
+use Rattle.calls.specs.Values.{ceiling, question9, ranged, valueQuestions}
+use Rattle.calls.specs.Answers.{figureAnswer, figureRefusal, quoteQuestions, simplifyRefusal, endingOf, made, madeAnswer, simplifyAnswer, simplifyWrites}
+use Rattle.calls.specs.Files.{valueLength, valueIn, valuesFrom, valuesWhole, filesAnswer, filesRefusal}
 
 -- ---- what a case says
-
-pub data Case : Type 0 where
-  -- the figure call answers this figure on the tree's table, with 32 zeros
-  quotes : Tree → ℕ → Case
-  -- the tree's list has these pairs
-  lists : Tree → Pairs → Case
-  -- the desk answers this figure on the tree's table and a values.tab of these bytes
-  files : Tree → (values : List ℕ) → ℕ → Case
-  -- simplifying the tree's table, into a buffer of its length, writes this tree's and finishes after so many steps
-  becomes : (original result : Tree) → (count : ℕ) → Case
-
-pub noughts : ℕ → List ℕ
-noughts zero = []
-noughts (suc n) = 0 ∷ noughts n
 
 pub isFigure : ℕ → Quote → Bool
 isFigure x (Quote.Figure y) = eqb x y
 isFigure x (Quote.Refused q) = false
+
+-- the figure call answers this figure on the tree's table, with 32 zeros
+pub quotes : Tree → ℕ → Bool
+quotes t x = isFigure x (figureAnswer (encode t) (replicate howManyValues 0))
 
 pub samePairs : Pairs → Pairs → Bool
 samePairs (ever v) (ever w) = eqb v w
 samePairs (ever v) (run w d s) = false
 samePairs (run v c r) (ever w) = false
 samePairs (run v c r) (run w d s) = eqb v w and eqb c d and samePairs r s
+
+-- the tree's list has these pairs
+pub lists : Tree → Pairs → Bool
+lists t ps = samePairs ps (listPairs zeros t)
 
 pub sameNumbers : List ℕ → List ℕ → Bool
 sameNumbers [] [] = true
@@ -97,17 +63,15 @@ pub hasWritten : (long count : ℕ) → Simplified → Bool
 hasWritten long count (Simplified.Written l n e) = eqb long l and eqb count n and isFinished e
 hasWritten long count (Simplified.Refused q) = false
 
-pub holds : Case → Bool
-holds (quotes t x) = isFigure x (figureAnswer (encode t) (noughts howManyValues))
-holds (lists t ps) = samePairs ps (listPairs zeros t)
-holds (files t v x) = isFigure x (filesAnswer (encode t) v)
-holds (becomes t u n) =
-    let out = noughts (length (encode t)) in
+-- simplifying the tree's table, into a buffer of its length, writes this tree's and finishes after so many steps
+pub becomes : (original result : Tree) → (count : ℕ) → Bool
+becomes t u n =
+    let out : List ℕ = replicate (length (encode t)) 0 in
     hasWritten (length (encode u)) n (simplifyAnswer (encode t) mostRecords out) and sameNumbers (simplifyWrites (encode t) mostRecords out) (encode u)
 
-pub allHold : List Case → Bool
-allHold [] = true
-allHold (c ∷ cs) = holds c and allHold cs
+-- the desk answers this figure on the tree's table and a values.tab of these bytes
+pub files : Tree → (values : List ℕ) → ℕ → Bool
+files t v x = isFigure x (filesAnswer (encode t) v)
 
 -- ---- the cases
 
@@ -124,7 +88,7 @@ term = either (block 10 / 1 at 1) (block 0)
 caseI : Tree → Tree
 caseI a = loop 3 (loop 3 (both a (either (block 10 / 1 at 2) (block 0))) (block 0)) (block 0)
 
-pub starred : List Case
+pub starred : List Bool
 starred =
     -- A
     quotes (block 7) 7
@@ -155,9 +119,9 @@ starred =
 
 -- a file of n zeros
 pub zeroValues : ℕ → List ℕ
-zeroValues n = noughts (valueLength * n)
+zeroValues n = replicate (valueLength * n) 0
 
-pub absent : List Case
+pub absent : List Bool
 absent =
     -- all 32 values written: case A, and one block of symbol 16
     files (block 7) (zeroValues 32) 7
@@ -170,7 +134,7 @@ absent =
 
 -- to unfold this is to unfold all that the cases compute with
 unfoldable pub computed : ℕ
-unfolding block symbol _/_at_ sequence both either loop noughts isFigure samePairs sameNumbers isFinished hasWritten holds allHold _and_ _⧺_ size rest around records S const add cap group shift merge next taken amount inner outward seen name limit rounds turns join start list figure fits arity timeInRange countInRange kindInRange limitInRange listed depth loops nameOk named share weight stays closed isPlain plainKind plainLimit symbolFree sameNumber sameLimit sameKind same isUnlimited isBlock isSum limitOf children relimit leaf bare timeOfKind timeOf when rule1 gives anyGives giveWay rule2 alone rule3 rule4 isZero anyZero without rule5 bares others total largest rule6 atFirst rule7 isPair headOf tailOf firstOf secondOf allPairs firsts shares sharedOut rule8 exit rule9 orElse also rule inside step isNone onward steps toBytes fromBytes flag numFrom kindByte valueNum kindFrom loopByte limitNum limitFrom recordBytes encode firstNode childByte firstOnes afterOnes forest top decode formTrees each limitCount recordInRange firstNo question1 question2 question3 question4 question5 question6 question7 refusal placeOf turned place inFront tail pairs listPairs ceiling ranged question9 quoteOf figureAnswer simplifyRefusal endingOf made madeAnswer simplifyAnswer simplifyWrites valueIn valuesFrom valuesWhole filesAnswer
+unfolding block symbol _/_at_ sequence both either loop allHold isFigure quotes samePairs lists sameNumbers isFinished hasWritten becomes files _and_ _⧺_ size rest around records S const add cap group shift merge next taken amount inner outward seen name limit rounds turns join start list figure fits arity timeInRange countInRange kindInRange limitInRange listed depth loops nameOk named share weight stays closed isPlain plainKind plainLimit symbolFree sameNumber sameLimit sameKind same isUnlimited isBlock isSum limitOf children relimit leaf bare timeOfKind timeOf when rule1 gives anyGives giveWay rule2 alone rule3 rule4 isZero anyZero without rule5 bares others total largest rule6 atFirst rule7 isPair headOf tailOf firstOf secondOf allPairs firsts shares sharedOut rule8 exit rule9 orElse also rule inside step isNone onward steps toBytes fromBytes flag numFrom kindByte valueNum kindFrom loopByte limitNum limitFrom recordBytes encode firstNode childByte firstOnes afterOnes forest top decode formTrees each limitCount recordInRange question1 question2 question3 question4 question5 question6 question7 questions firstNo byRefusal placeOf turned place inFront tail pairs listPairs ceiling ranged question9 valueQuestions quoteQuestions figureRefusal figureAnswer simplifyRefusal endingOf made madeAnswer simplifyAnswer simplifyWrites valueIn valuesFrom valuesWhole filesRefusal filesAnswer
 computed = 0
 
 pub starred-hold : allHold starred ≡ true

@@ -3,7 +3,7 @@ use mathlib.Core.Path.{_≡_}
 use mathlib.Core.List.{List}
 use mathlib.Core.Option.{some}
 use Prim.Native.Nat.{ℕ, _≤_}
-use lib.ListN.{length, getD, take}
+use lib.ListN.{length, take}
 use Rattle.table.specs.Trees.{Tree}
 use Rattle.table.specs.Table.{encode, decode}
 use Rattle.table.specs.Checking.{refusal}
@@ -11,12 +11,9 @@ use Rattle.simplify.specs.Steps.{step, isNone, after}
 use Rattle.calls.specs.declared.Checked.{Checked}
 use Rattle.calls.specs.declared.Quote.{Quote}
 use Rattle.calls.specs.declared.Simplified.{Simplified}
+use Rattle.calls.specs.Values.{NoneLower}
 use Rattle.calls.specs.Promises.{Promises}
 use Rattle.calls.specs.Answers.{checkAnswer, checkedRefusal, endingOf, figureAnswer, finishedNumber, over, quotedFigure, quotedRefusal, simplifiedFinished, simplifiedLength, simplifiedRefusal, simplifiedSteps, simplifyAnswer, simplifyWrites}
-
--- w is none lower than v: each number is at least v's at the same place
-abbrev pub NoneLower : (v w : List ℕ) → Type 0
-NoneLower v w = (i : ℕ) → getD v i 0 ≤ getD w i 0
 
 -- Simplifying the accepted table b under an allowance wrote the bytes `written`, with this count of steps, finished (1) or spent (0).
 -- Reception, with values v, was lent b; sales, with values w, were lent `written` alone; each got this quote.

@@ -1,5 +1,6 @@
 -- Definitions, in the order of reading.
 mod Nodes
+pub mod Values
 pub mod Answers
 pub mod Promises
 pub mod Files

@@ -13,8 +13,9 @@ ghost use Rattle.subtrees.specs.Parts.{Simplifiable};
 ghost use Rattle.table.specs.Numbers.{howManyValues, listRoom};
 ghost use Rattle.calls.specs.Demand.{Asked, Demand3};
 ghost use Rattle.calls.specs.Promises.{ListPromises, Promises};
-ghost use Rattle.calls.specs.Answers.{checkAnswer, ceiling, endingOf, figureAnswer, listAnswer, listWrites, made, madeAnswer, over, question9, simplifiedLength, simplifyAnswer, simplifyWrites};
-ghost use Rattle.calls.specs.Files.{FilesPromise, filesAnswer, valueIn, valueLength, valuesFrom, valuesWhole};
+ghost use Rattle.calls.specs.Values.{ceiling, question9, valuesRefusal};
+ghost use Rattle.calls.specs.Answers.{checkAnswer, endingOf, figureAnswer, listAnswer, listWrites, made, madeAnswer, over, simplifiedLength, simplifyAnswer, simplifyWrites};
+ghost use Rattle.calls.specs.Files.{FilesPromise, fileValues, filesAnswer, valueIn, valueLength, valuesWhole};
 
 // How many values a desk holds.
 pub const HOW_MANY_VALUES: usize = 32;
@@ -95,6 +96,13 @@ fn values_allowed(values: &[u64]) -> bool
     true
 }
 
+// The first question about a desk's values that says no, or 0: each call that is lent values with a table asks here.
+fn values_refusal(table: &[u8], values: &[u64]) -> u64
+    ensures { λ r. ⌜ r ≡ valuesRefusal (now (table .entry)) (now (values .entry)) ⌝ }
+{
+    if values_allowed(values) { 0 } else { 9 }
+}
+
 // Writes the first n numbers of a list over the front of a buffer.
 fn write_front(list: &[u64; LIST_ROOM], n: usize, out: &mut [u64])
     requires { ⌜ (length (now list) ≡ listRoom) × (n ≤ listRoom) × (listRoom ≤ length (now out)) ⌝ }
@@ -116,8 +124,9 @@ pub fn figure(table: &[u8], values: &[u64]) -> Quote
     if number != 0 {
         return Quote::Refused(number);
     }
-    if !values_allowed(values) {
-        return Quote::Refused(9);
+    let question = values_refusal(table, values);
+    if question != 0 {
+        return Quote::Refused(question);
     }
     let mut list = [0; LIST_ROOM];
     let found = evaluate::evaluate(table, values, &mut list);
@@ -141,8 +150,9 @@ pub fn list(table: &[u8], values: &[u64], out: &mut [u64]) -> Listed
     if out.len() < LIST_ROOM {
         return Listed::Refused(8);
     }
-    if !values_allowed(values) {
-        return Listed::Refused(9);
+    let question = values_refusal(table, values);
+    if question != 0 {
+        return Listed::Refused(question);
     }
     let mut list = [0; LIST_ROOM];
     let found = evaluate::evaluate(table, values, &mut list);
@@ -289,7 +299,7 @@ fn value_of(bytes: &[u8], i: usize) -> u64
 // All the values: those of a file of whole values, then the ceilings of the absent ones.
 fn values_of(bytes: &[u8]) -> [u64; HOW_MANY_VALUES]
     requires { ⌜ length (now bytes) % valueLength ≡ 0 ⌝ }
-    ensures { λ r. ⌜ r ≡ valuesFrom howManyValues 0 (now (bytes .entry)) ⌝ }
+    ensures { λ r. ⌜ r ≡ fileValues (now (bytes .entry)) ⌝ }
 {
     let mut values = [0; HOW_MANY_VALUES];
     let mut i = 0;

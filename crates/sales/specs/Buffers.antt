@@ -1,16 +1,15 @@
 -- What simplifying answers, beside the buffer that it wrote to.
 use mathlib.Core.Path.{_≡_, subst}
-use mathlib.Core.Bool.{Bool, true, false, cond}
-use mathlib.Core.List.{List, [], _++_}
+use mathlib.Core.List.{List, _++_}
 use Prim.Native.Nat.{ℕ}
 use native.Mathlib.Omega.{arith}
-use lib.Dec.{eqb}
 use lib.ListN.{length, drop, length-append, length-take}
 use Rattle.io.specs.Counts.{Counts}
 use Rattle.table.specs.Table.{encode}
+use Rattle.table.specs.Laws.Asking.{by-refusals}
 use Rattle.calls.specs.declared.Ending.{Ending}
 use Rattle.calls.specs.declared.Simplified.{Simplified}
-use Rattle.calls.specs.Answers.{endingOf, made, madeAnswer, over, simplifyAnswer, simplifyRefusal, simplifyWrites}
+use Rattle.calls.specs.Answers.{made, madeAnswer, over, simplifyAnswer, simplifyRefusal, simplifyWrites}
 
 -- a written table stands at the buffer's front
 unfoldable pub Within : Simplified → (buffer : List ℕ) → Type 0
@@ -24,14 +23,7 @@ within-counts x e h = subst (λ (r : Simplified). Within r x) e h
 -- what the call promises of its answer and its buffer says so
 pub answer-within : (b : List ℕ) (n : ℕ) (out x : List ℕ) (r : Simplified) → r ≡ simplifyAnswer b n out → x ≡ over (simplifyWrites b n out) out → Within r x
 unfolding Within simplifyAnswer madeAnswer simplifyWrites over
-answer-within b n out x r e w = rw (e, w) (go (eqb (simplifyRefusal b out) 0))
+answer-within b n out x r e w = rw (e, w) (by-refusals (λ a y. Within a (y ++ drop (length y) out)) (simplifyRefusal b out) _ Simplified.Refused _ _ (λ z. front (encode (made b n .tree))) (λ z. tt))
   where
     front : (f : List ℕ) → Counts (length f) (f ++ drop (length f) out)
     front f = (simp length-append (omega arith), simp (length-take, length-append) (omega arith))
-
-    go : (t : Bool)
-        → Within
-        (cond t (Simplified.Written (length (encode (made b n .tree))) (made b n .taken) (endingOf (made b n .finished))) (Simplified.Refused (simplifyRefusal b out)))
-        (cond t (encode (made b n .tree)) [] ++ drop (length (cond t (encode (made b n .tree)) [])) out)
-    go true = front (encode (made b n .tree))
-    go false = tt

@@ -1,10 +1,11 @@
 -- Document 01, "Questions put to a call": questions 1 to 7, put to a table's bytes, and the number of the first that says no.
-use mathlib.Core.Bool.{Bool, _&&_, _||_, true, false}
+use mathlib.Core.Bool.{Bool, _&&_, _||_, true}
 use mathlib.Core.List.{List, [], _∷_}
-use Prim.Native.Nat.{ℕ, _/_, _%_, suc, _*_}
+use Prim.Native.Nat.{ℕ, _/_, _%_, _*_}
 use lib.Dec.{eqb, leb, ltb}
 use lib.ListN.{getD, length}
 use Rattle.booleans.specs.Tests.{_and_}
+use Rattle.table.specs.Asking.{Question, _asks_, firstNo}
 use Rattle.table.specs.Nodes.{Limit, Unlimited, AtMost}
 use Rattle.table.specs.Numbers.{wholeRun, mostLoops, recordLength, mostRecords, mostDepth, mostWeight}
 use Rattle.table.specs.Questions.{countInRange, kindInRange, depth, loops, named, weight}
@@ -59,15 +60,18 @@ question6 b = named (decode b) 0
 unfoldable pub question7 : List ℕ → Bool
 question7 b = leb (weight (decode b) 0) mostWeight
 
--- the place of the first no, counted on from i, or 0
-unfoldable pub firstNo : ℕ → List Bool → ℕ
-firstNo i [] = 0
-firstNo i (true ∷ qs) = firstNo (suc i) qs
-firstNo i (false ∷ qs) = i
+-- questions 1 to 7, each put to the whole table before the next
+unfoldable pub questions : List ℕ → List Question
+questions b =
+    1 asks question1 b
+    ∷ 2 asks question2 b
+    ∷ 3 asks question3 b
+    ∷ 4 asks question4 b
+    ∷ 5 asks question5 b
+    ∷ 6 asks question6 b
+    ∷ 7 asks question7 b
+    ∷ []
 
-abbrev pub questions : List ℕ → List Bool
-questions b = question1 b ∷ question2 b ∷ question3 b ∷ question4 b ∷ question5 b ∷ question6 b ∷ question7 b ∷ []
-
--- the refusal's number, 0 for none: each question is put to the whole table before the next
+-- the refusal's number, 0 for none
 unfoldable pub refusal : List ℕ → ℕ
-refusal b = firstNo 1 (questions b)
+refusal b = firstNo (questions b)

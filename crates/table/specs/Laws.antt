@@ -3,6 +3,7 @@ pub mod Trees
 pub mod Bytes
 pub mod RoundTrip
 pub mod Canonical
+pub mod Asking
 pub mod Accepted
 pub mod NotRefused
 pub mod Written

@@ -6,7 +6,10 @@ pub mod Questions
 pub mod Limits
 pub mod Bytes
 pub mod Table
+pub mod Asking
 pub mod Checking
 pub mod Survey
+-- Trees as examples write them.
+pub mod Notation
 -- What is proved of them.
 pub mod Laws

@@ -1,11 +1,12 @@
 -- Questions 5 to 7 of document 01 as the program answers them: one walk of the table's tree, on bytes.
 -- It is total, and meant where questions 1 to 4 say yes: Laws/Survey says what it then answers.
 use mathlib.Core.Bool.{true, false, cond, _&&_}
-use mathlib.Core.List.{List}
+use mathlib.Core.List.{List, [], _∷_}
 use Prim.Native.Nat.{ℕ, zero, suc, _+_, _-_, _*_, _^_, _≤_}
 use lib.Dec.{leb, eqb}
 use lib.ListN.{drop, length}
 use Rattle.table.specs.declared.Survey.{Survey}
+use Rattle.table.specs.Asking.{_asks_, firstNo}
 use Rattle.table.specs.Nodes.{Limit, Unlimited, AtMost}
 use Rattle.table.specs.Numbers.{recordLength, wholeRun, mostLoops, mostWeight}
 use Rattle.table.specs.Trees.{around}
@@ -67,4 +68,4 @@ pub record Small (b : List ℕ) (s : Survey) : Type 0 where
 
 -- the first of questions 5 to 7 that says no, or 0
 abbrev pub surveyRefusal : Survey → ℕ
-surveyRefusal s = cond (s .fits) (cond (s .named) (cond (leb (s .weight) mostWeight) 0 7) 6) 5
+surveyRefusal s = firstNo (5 asks s .fits ∷ 6 asks s .named ∷ 7 asks leb (s .weight) mostWeight ∷ [])

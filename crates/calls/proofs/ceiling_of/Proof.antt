@@ -1,6 +1,6 @@
 use mathlib.Core.Path.{refl}
 use borrow.Author.Tests.{lt-ltb, le-ltb}
-use Rattle.calls.specs.Answers.{ceiling}
+use Rattle.calls.specs.Values.{ceiling}
 use Rattle.calls.proofs.ceiling_of.Statement.{statement}
 use Rattle.calls.proofs.ceiling_of.Tie as tie
 

@@ -1,15 +1,13 @@
 -- Each return has the answers to the questions before it; the last two have what the walk found.
-use mathlib.Core.Path.{_≡_, sym, ap, _∙_}
+use mathlib.Core.Path.{sym, _∙_}
 use native.Mathlib.Omega.{arith}
 use borrow.Author.Needs.{needs}
-use borrow.Author.Tests.{not-true, not-false}
 use Rattle.table.specs.Bytes.{AreBytes}
 use Rattle.table.specs.Laws.Refusal.{accepted-short}
 use Rattle.lists.specs.Laws.Numbers.{list-width, list-numbers}
-use Rattle.calls.specs.declared.Listed.{Listed}
-use Rattle.calls.specs.Answers.{over}
+use Rattle.calls.specs.Laws.Evaluated.{list-found, list-no, list-refused, list-short, quote-large}
+use Rattle.calls.specs.Laws.Figures.{quote-values}
 use Rattle.calls.specs.Laws.Promises.{list-kept}
-use Rattle.calls.specs.Laws.Evaluated.{untouched, written, list-refused, list-short, list-values, list-large, list-found}
 use Rattle.calls.proofs.list.Statement.{statement}
 use Rattle.calls.proofs.list.Tie as tie
 
@@ -17,25 +15,22 @@ refusal-of-requires : tie.Need-refusal-of-requires
 refusal-of-requires c κs = search needs
 
 returns : tie.Need-returns
-returns c =
-    let r = c .before in
-    let (a, w) = untouched _ _ _ _ (list-refused _ _ _ (λ z. c .if1 .taken (r .refusal-of .ensures ∙ z))) in
-    list-kept _ _ _ (ap Listed.Refused (r .refusal-of .ensures) ∙ a, w)
+returns c = list-kept _ _ _ (list-refused _ _ _ (c .before .refusal-of .ensures) (c .if1 .taken))
 
 returns-2 : tie.Need-returns-2
 returns-2 c =
     let e₁ = c .before in
-    list-kept _ _ _ (untouched _ _ _ _ (list-short _ _ _ (sym (e₁ .before .refusal-of .ensures) ∙ e₁ .if1 .left) (c .if2 .taken)))
+    list-kept _ _ _ (list-short _ _ _ (sym (e₁ .before .refusal-of .ensures) ∙ e₁ .if1 .left) (c .if2 .taken))
 
-values-allowed-requires : tie.Need-values-allowed-requires
-values-allowed-requires c κs = search needs
+values-refusal-requires : tie.Need-values-refusal-requires
+values-refusal-requires c κs = search needs
 
 returns-3 : tie.Need-returns-3
 returns-3 c =
     let e₂ = c .before .before in
     let e₁ = e₂ .before in
-    list-kept _ _ _ (untouched _ _ _ _
-    (list-values _ _ _ (sym (e₁ .before .refusal-of .ensures) ∙ e₁ .if1 .left) (e₂ .if2 .left) (sym (c .before .values-allowed .ensures) ∙ not-true _ (c .if3 .taken))))
+    list-kept _ _ _
+    (list-no _ _ _ (sym (e₁ .before .refusal-of .ensures) ∙ e₁ .if1 .left) (e₂ .if2 .left) (quote-values _ _ (c .before .values-refusal .ensures) (c .if3 .taken)) (c .if3 .taken))
 
 evaluate-requires : tie.Need-evaluate-requires
 evaluate-requires c κs =
@@ -69,10 +64,9 @@ returns-4 c =
     let e₁ = e₂ .before in
     let known = e₁ .before .before .before .before in
     let bytes : AreBytes (known .before .args .table .now) = λ i. omega (arith, known .shared-slice-known .given i) in
-    let found = list-found _ _ _ (sym (e₁ .before .refusal-of .ensures) ∙ e₁ .if1 .left) (e₂ .if2 .left) bytes
-    (sym (e₃ .before .values-allowed .ensures) ∙ not-false _ (e₃ .if3 .left)) (sym (walk .fits) ∙ t .if4 .taken) in
-    let (a, o) = written _ _ _ _ _ _ found (w .write-front .ensures ∙ ap (λ ns. over ns (known .before .args .out .now)) (list-numbers _ _ (walk .room) is)) in
-    list-kept _ _ _ (ap Listed.Pairs (list-width _ _ is) ∙ a, o)
+    list-kept _ _ _
+    (list-found _ _ _ (sym (e₁ .before .refusal-of .ensures) ∙ e₁ .if1 .left) (e₂ .if2 .left) bytes (sym (e₃ .before .values-refusal .ensures) ∙ e₃ .if3 .left) (sym (walk .fits) ∙ t .if4 .taken)
+    (list-width _ _ is) (list-numbers _ _ (walk .room) is) (w .write-front .ensures))
 
 returns-5 : tie.Need-returns-5
 returns-5 c =
@@ -82,8 +76,9 @@ returns-5 c =
     let e₁ = e₂ .before in
     let known = e₁ .before .before .before .before in
     let bytes : AreBytes (known .before .args .table .now) = λ i. omega (arith, known .shared-slice-known .given i) in
-    list-kept _ _ _ (untouched _ _ _ _
-    (list-large _ _ _ (sym (e₁ .before .refusal-of .ensures) ∙ e₁ .if1 .left) (e₂ .if2 .left) bytes (sym (e₃ .before .values-allowed .ensures) ∙ not-false _ (e₃ .if3 .left)) (sym (walk .fits) ∙ c .if4 .left)))
+    let no = sym (e₁ .before .refusal-of .ensures) ∙ e₁ .if1 .left in
+    let large = quote-large _ _ no bytes (sym (e₃ .before .values-refusal .ensures) ∙ e₃ .if3 .left) (sym (walk .fits) ∙ c .if4 .left) in
+    list-kept _ _ _ (list-no _ _ _ no (e₂ .if2 .left) large (λ z. omega (arith, z)))
 
 pub list-spec : {M : Type 1} → statement M
 list-spec =
@@ -92,7 +87,7 @@ list-spec =
     refusal-of-requires
     returns
     returns-2
-    values-allowed-requires
+    values-refusal-requires
     returns-3
     evaluate-requires
     mul-write-front

@@ -1,6 +1,5 @@
 use mathlib.Core.Path.{sym, ap, _∙_}
 use borrow.Author.Needs.{needs}
-use Rattle.calls.specs.declared.Quote.{Quote}
 use Rattle.calls.specs.Answers.{figureAnswer}
 use Rattle.calls.specs.Laws.Files.{whole-length, files-kept, files-whole, files-refused, files-other}
 use Rattle.calls.proofs.quote_files.Statement.{statement}
@@ -35,10 +34,7 @@ returns-2 c =
     files-kept _ _ _ (files-other _ _ (sym (e .before .values-whole .ensures) ∙ e .if1 .left) (sym (c .before .refusal-of .ensures) ∙ c .if2 .taken))
 
 returns-3 : tie.Need-returns-3
-returns-3 c =
-    let e = c .before .before in
-    let r = c .before .refusal-of .ensures in
-    files-kept _ _ _ (ap Quote.Refused r ∙ files-refused _ _ (sym (e .before .values-whole .ensures) ∙ e .if1 .left) (λ z. c .if2 .left (r ∙ z)))
+returns-3 c = files-kept _ _ _ (files-refused _ _ (c .before .refusal-of .ensures) (c .if2 .left))
 
 pub quote-files-spec : {M : Type 1} → statement M
 quote-files-spec =

@@ -1,12 +1,11 @@
 -- Each question put in its order; what is left is the steps.
-use mathlib.Core.Path.{_≡_, ap, sym, _∙_}
+use mathlib.Core.Path.{_≡_, sym, _∙_}
 use native.Mathlib.Omega.{arith}
 use borrow.Author.Needs.{needs}
 use Rattle.table.specs.Bytes.{AreBytes}
 use Rattle.table.specs.Checking.{refusal}
 use Rattle.table.specs.Laws.Refusal.{accepted-short}
-use Rattle.calls.specs.declared.Simplified.{Simplified}
-use Rattle.calls.specs.Laws.Simplifying.{refused, simplify-able, simplify-large, simplify-made, simplify-refused, simplify-short}
+use Rattle.calls.specs.Laws.Simplifying.{simplify-able, simplify-large, simplify-made, simplify-refused, simplify-short}
 use borrow.Author.Needs.{needs}
 use Rattle.calls.proofs.simplify.Statement.{statement}
 use Rattle.calls.proofs.simplify.Tie as tie
@@ -15,15 +14,12 @@ refusal-of-requires : tie.Need-refusal-of-requires
 refusal-of-requires c κs = search needs
 
 returns : tie.Need-returns
-returns c =
-    let r = c .before in
-    let (a, w) = refused _ _ _ _ (simplify-refused _ _ _ (λ z. c .if1 .taken (r .refusal-of .ensures ∙ z))) in
-    (ap Simplified.Refused (r .refusal-of .ensures) ∙ a, w)
+returns c = simplify-refused _ _ _ (c .before .refusal-of .ensures) (c .if1 .taken)
 
 returns-2 : tie.Need-returns-2
 returns-2 c =
     let e₁ = c .before in
-    refused _ _ _ _ (simplify-short _ _ _ (sym (e₁ .before .refusal-of .ensures) ∙ e₁ .if1 .left) (c .if2 .taken))
+    simplify-short _ _ _ (sym (e₁ .before .refusal-of .ensures) ∙ e₁ .if1 .left) (c .if2 .taken)
 
 slice-aggregate-evaluate : tie.Need-slice-aggregate-evaluate
 slice-aggregate-evaluate c = search needs
@@ -68,7 +64,7 @@ returns-4 c =
     let known = e₁ .before .before .before in
     let bytes : AreBytes (known .before .args .table .now) = λ i. omega (arith, known .shared-slice-known .given i) in
     let no : refusal (known .before .args .table .now) ≡ 0 = sym (e₁ .before .refusal-of .ensures) ∙ e₁ .if1 .left in
-    refused _ _ _ _ (simplify-large _ _ _ no (e₂ .if2 .left) bytes (sym (c .before .evaluate .ensures .fits) ∙ c .if3 .left))
+    simplify-large _ _ _ no (e₂ .if2 .left) bytes (sym (c .before .evaluate .ensures .fits) ∙ c .if3 .left)
 
 pub simplify-spec : {M : Type 1} → statement M
 simplify-spec =

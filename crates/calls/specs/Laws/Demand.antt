@@ -1,18 +1,19 @@
 -- Demand 3 holds of the calls together.
 use mathlib.Core.Path.{_≡_, refl, sym, ap, _∙_, subst}
-use mathlib.Core.Bool.{Bool, true, false, cond}
-use mathlib.Core.List.{List, []}
-use Prim.Native.Nat.{ℕ, _-_, _≤_}
+use mathlib.Core.Bool.{Bool, true, false}
+use mathlib.Core.List.{List, [], _∷_}
+use Prim.Native.Nat.{ℕ, zero, suc, _-_, _≤_}
 use native.Mathlib.Omega.{arith}
-use lib.Dec.{T, leb, eqb}
-use lib.ListN.{length, take, drop, length-append}
-use lib.Seq.{take-at}
-use borrow.Author.Tests.{eqb-false, eqb-true}
+use lib.Dec.{T, leb}
+use lib.ListN.{length, take, drop}
+use Rattle.table.specs.Asking.{_asks_, byRefusal, firstNo}
 use Rattle.table.specs.Bytes.{AreBytes}
 use Rattle.table.specs.Table.{encode, decode, recordCount}
 use Rattle.table.specs.Questions.{Accepted}
 use Rattle.table.specs.Checking.{refusal}
+use Rattle.table.specs.Laws.Asking.{Yes, all-yes, by-refusals, numbered}
 use Rattle.table.specs.Laws.Reading.{part-to}
+use Rattle.table.specs.Laws.Refusal.{check-passes}
 use Rattle.table.specs.Laws.RoundTrip.{length-encode}
 use Rattle.table.specs.Laws.Accepted.{IsTable, is-table}
 use Rattle.table.specs.Laws.NotRefused.{reads-back, not-refused}
@@ -24,18 +25,13 @@ use Rattle.simplify.specs.Laws.Stepwise.{steps-kept, steps-made, steps-within, 
 use Rattle.calls.specs.declared.Checked.{Checked}
 use Rattle.calls.specs.declared.Quote.{Quote}
 use Rattle.calls.specs.declared.Simplified.{Simplified}
-use Rattle.calls.specs.Answers.{checkAnswer, checkedRefusal, endingOf, figureAnswer, finishedNumber, made, madeAnswer, over, quoteOf, quotedFigure, quotedRefusal, simplifiedFinished, simplifiedLength, simplifiedRefusal, simplifiedSteps, simplifyAnswer, simplifyRefusal, simplifyWrites}
+use Rattle.calls.specs.Values.{valuesRefusal}
+use Rattle.calls.specs.Answers.{checkAnswer, checkedRefusal, endingOf, figureAnswer, finishedNumber, made, madeAnswer, over, quotedFigure, quotedRefusal, simplifiedFinished, simplifiedLength, simplifiedRefusal, simplifiedSteps, simplifyAnswer, simplifyRefusal, simplifyWrites}
 use Rattle.calls.specs.Promises.{Promises}
 use Rattle.calls.specs.Demand.{Asked, Demand3, Sold, soldBytes}
-use Rattle.calls.specs.Laws.Figures.{figure-is, figure-of, figured}
-
-take-over : (front buffer : List ℕ) → take (length front) (over front buffer) ≡ front
-unfolding over
-take-over front buffer = take-at front (drop (length front) buffer) (length front) refl
-
-long-over : (front buffer : List ℕ) → length front ≤ length (over front buffer)
-unfolding over
-long-over front buffer = rw length-append (omega arith)
+use Rattle.calls.specs.Laws.Copies.{long-over, take-over}
+use Rattle.calls.specs.Laws.Figures.{figure-is, figured}
+use Rattle.calls.specs.Laws.Values.{nine-values, values-nine}
 
 spent-not : (finished : Bool) → finishedNumber (endingOf finished) ≡ 0 → finished ≡ false
 unfolding endingOf finishedNumber
@@ -53,7 +49,6 @@ module _ (b : List ℕ) (n : ℕ) (v w : List ℕ) (h : AreBytes b) (e : refusal
       let a : Accepted (m .tree) = k .stillAccepted f (i .accepted) in
       let back : decode (encode (m .tree)) ≡ m .tree = reads-back (m .tree) (a .listed) in
       let ok : refusal (encode (m .tree)) ≡ 0 = not-refused (m .tree) a in
-      let fs : (vs : List ℕ) → figureAnswer (encode (m .tree)) vs ≡ quoteOf vs (m .tree) = λ vs. figure-of _ vs ok ∙ ap (quoteOf vs) back in
       let long : length (encode t) ≡ length b = ap length (i .back) in
       record {
         tree = m .tree;
@@ -65,46 +60,51 @@ module _ (b : List ℕ) (n : ℕ) (v w : List ℕ) (h : AreBytes b) (e : refusal
         spent = λ q. steps-spent n t (spent-not _ q);
         ends = ap (λ x. finishedNumber (endingOf x)) (steps-finished n t ∙ ap (λ u. isNone (step u)) (sym back));
         notBelow = λ q p z.
-            omega (arith, figured b v e p .2, figured _ w ok z .2, ap (figure (valuesOf w)) back, k .sameFigure (valuesOf w), figure-mono (valuesOf v) (valuesOf w) q t);
+            omega (arith, figured b v p .is, figured _ w z .is, ap (figure (valuesOf w)) back, k .sameFigure (valuesOf w), figure-mono (valuesOf v) (valuesOf w) q t);
         sameFigure = λ q p.
-            let (c, d, r) = figured b v e p in
+            let f = figured b v p in
+            let allowed : valuesRefusal (encode (m .tree)) v ≡ 0 = nine-values _ v (values-nine b v (f .allowed)) in
+            let small : T (fits (valuesOf v) (decode (encode (m .tree)))) = rw back (k .stillFits (valuesOf v) (f .small)) in
             let same : figureAnswer (encode (m .tree)) w ≡ Quote.Figure (figure (valuesOf v) t) =
-            subst (λ u. figureAnswer (encode (m .tree)) u ≡ Quote.Figure (figure (valuesOf v) t)) q
-            (fs v ∙ figure-is v (m .tree) c (k .stillFits (valuesOf v) d) ∙ ap Quote.Figure (k .sameFigure (valuesOf v))) in
-            (ap quotedRefusal same, ap quotedFigure same ∙ sym r);
+            ap (figureAnswer (encode (m .tree))) (sym q) ∙ figure-is _ v ok allowed small ∙ ap Quote.Figure (ap (figure (valuesOf v)) back ∙ k .sameFigure (valuesOf v)) in
+            (ap quotedRefusal same, ap quotedFigure same ∙ sym (f .is));
       }
 
   too-large : fits zeros (decode b) ≡ false → (u : List ℕ) → quotedRefusal (figureAnswer b u) ≡ 0 → ⊥
-  too-large z u p = subst T z (fits-zeros (valuesOf u) (decode b) (figured b u e p .1))
+  too-large z u p = subst T z (fits-zeros (valuesOf u) (decode b) (figured b u p .small))
 
-  refusal-is : (out : List ℕ) → simplifyRefusal b out ≡ cond (leb (length b) (length out)) (cond (fits zeros (decode b)) 0 10) 8
+  -- what is asked after questions 1 to 7
+  asked : (out : List ℕ) → simplifyRefusal b out ≡ firstNo (8 asks leb (length b) (length out) ∷ 10 asks fits zeros (decode b) ∷ [])
   unfolding simplifyRefusal
-  refusal-is out = rw e refl
+  asked out = check-passes b _ e
 
-  -- by the three answers left
-  by-answer : (out : List ℕ) (k : ℕ) (x y : Bool) → (T y → T (fits zeros (decode b))) → (y ≡ false → fits zeros (decode b) ≡ false)
-      → let q : ℕ = cond x (cond y 0 10) 8 in
-      let m = steps n (decode b) in
-      let a = cond (eqb q 0) (Simplified.Written (length (encode (m .tree))) (m .taken) (endingOf (m .finished))) (Simplified.Refused q) in
-      let buffer = over (cond (eqb q 0) (encode (m .tree)) []) out in
-      Demand3 b n v w buffer (Checked.Accepted k) a (figureAnswer b v) (figureAnswer (soldBytes a buffer) w)
-  unfolding simplifiedRefusal simplifiedLength simplifiedSteps simplifiedFinished
-  by-answer out k true true f g =
-      let m = steps n (decode b) in
-      record {
-        inside = λ c s. long-over (encode (m .tree)) out;
-        sold = λ c s.
-            subst (λ x. Sold b n v w x (m .taken) (finishedNumber (endingOf (m .finished))) (figureAnswer b v) (figureAnswer x w)) (sym (take-over (encode (m .tree)) out)) (sold (f tt));
-        tooLarge = λ c s. absurd (omega arith);
-      }
-  by-answer out k true false f g = record { inside = λ c s. absurd (omega arith); sold = λ c s. absurd (omega arith); tooLarge = λ c s. too-large (g refl) }
-  by-answer out k false y f g = record { inside = λ c s. absurd (omega arith); sold = λ c s. absurd (omega arith); tooLarge = λ c s. absurd (omega arith) }
+  -- where all say yes, or 10 is the first no
+  accepted-fits : (out : List ℕ) → simplifyRefusal b out ≡ 0 → T (fits zeros (decode b))
+  unfolding numbered Yes
+  accepted-fits out z = all-yes (8 asks leb (length b) (length out) ∷ 10 asks fits zeros (decode b) ∷ []) tt (sym (asked out) ∙ z) .1 .0
+
+  ten-large : (out : List ℕ) → simplifyRefusal b out ≡ 10 → fits zeros (decode b) ≡ false
+  ten-large out z = go (leb (length b) (length out)) (fits zeros (decode b)) (sym (asked out) ∙ z)
+    where
+      go : (x y : Bool) → firstNo (8 asks x ∷ 10 asks y ∷ []) ≡ 10 → y ≡ false
+      go true true q = absurd (unfold firstNo in omega (arith, q))
+      go true false q = refl
+      go false y q = absurd (unfold firstNo in omega (arith, q))
 
   accepted : (out : List ℕ) (k : ℕ)
       → Demand3 b n v w (over (simplifyWrites b n out) out) (Checked.Accepted k) (simplifyAnswer b n out)
       (figureAnswer b v) (figureAnswer (soldBytes (simplifyAnswer b n out) (over (simplifyWrites b n out) out)) w)
-  unfolding simplifyAnswer madeAnswer simplifyWrites made
-  accepted out k = rw (refusal-is out) (by-answer out k (leb (length b) (length out)) (fits zeros (decode b)) (λ f. f) (λ q. q))
+  unfolding simplifyAnswer madeAnswer simplifyWrites made simplifiedRefusal simplifiedLength simplifiedSteps simplifiedFinished
+  accepted out k =
+      let m = steps n (decode b) in
+      by-refusals (λ a y. Demand3 b n v w (over y out) (Checked.Accepted k) a (figureAnswer b v) (figureAnswer (soldBytes a (over y out)) w)) (simplifyRefusal b out) _ Simplified.Refused _ _
+      (λ z. record {
+        inside = λ c s. long-over (encode (m .tree)) out;
+        sold = λ c s.
+            subst (λ x. Sold b n v w x (m .taken) (finishedNumber (endingOf (m .finished))) (figureAnswer b v) (figureAnswer x w)) (sym (take-over (encode (m .tree)) out)) (sold (accepted-fits out z));
+        tooLarge = λ c s. absurd (omega (arith, s));
+      })
+      (λ z. record { inside = λ c s. absurd (z s); sold = λ c s. absurd (z s); tooLarge = λ c s. too-large (ten-large out s) })
 
 -- a table that is not accepted
 not-accepted : (b : List ℕ) (n : ℕ) (v w buffer : List ℕ) (q : ℕ) (answer : Simplified) (reception sales : Quote) → (q ≡ 0 → ⊥) → Demand3 b n v w buffer (Checked.Refused q) answer reception sales
@@ -116,8 +116,8 @@ pub demand3 : (b : List ℕ) → AreBytes b → (n : ℕ) (v w out : List ℕ)
     → let answer = simplifyAnswer b n out in
     let buffer = over (simplifyWrites b n out) out in
     Demand3 b n v w buffer (checkAnswer b) answer (figureAnswer b v) (figureAnswer (soldBytes answer buffer) w)
-unfolding checkAnswer
-demand3 b h n v w out = go (eqb (refusal b) 0) refl
+unfolding checkAnswer byRefusal
+demand3 b h n v w out = go (refusal b) refl
   where
     buffer : List ℕ
     buffer = over (simplifyWrites b n out) out
@@ -125,10 +125,9 @@ demand3 b h n v w out = go (eqb (refusal b) 0) refl
     sales : Quote
     sales = figureAnswer (soldBytes (simplifyAnswer b n out) buffer) w
 
-    go : (x : Bool) → eqb (refusal b) 0 ≡ x
-        → Demand3 b n v w buffer (cond x (Checked.Accepted (recordCount b)) (Checked.Refused (refusal b))) (simplifyAnswer b n out) (figureAnswer b v) sales
-    go true e = accepted b n v w h (eqb-true (refusal b) 0 e) out (recordCount b)
-    go false e = not-accepted b n v w buffer (refusal b) _ _ sales (eqb-false (refusal b) 0 e)
+    go : (q : ℕ) → refusal b ≡ q → Demand3 b n v w buffer (byRefusal q (Checked.Accepted (recordCount b)) Checked.Refused) (simplifyAnswer b n out) (figureAnswer b v) sales
+    go zero e = accepted b n v w h e out (recordCount b)
+    go (suc q) e = not-accepted b n v w buffer (suc q) _ _ sales (λ z. omega (arith, z))
 
 -- and so of the four calls, where sales are lent the first k bytes of the buffer
 pub both-asked : (b : List ℕ) (n : ℕ) (v w out buffer : List ℕ) (checked : Checked) (answer : Simplified) (reception sales : Quote) (k : ℕ) → AreBytes b
@@ -144,10 +143,7 @@ both-asked b n v w out buffer checked answer reception sales k h c a o r e s p q
 
 -- what simplifying wrote stands within the buffer
 pub written-within : (b : List ℕ) (n : ℕ) (out buffer : List ℕ) (answer : Simplified) → answer ≡ simplifyAnswer b n out → buffer ≡ over (simplifyWrites b n out) out → simplifiedLength answer ≤ length buffer
-unfolding simplifyAnswer simplifyWrites madeAnswer
-written-within b n out buffer answer e w = rw (e, w) (go (eqb (simplifyRefusal b out) 0))
-  where
-    go : (x : Bool) → simplifiedLength (cond x (Simplified.Written (length (encode (made b n .tree))) (made b n .taken) (endingOf (made b n .finished))) (Simplified.Refused (simplifyRefusal b out)))
-        ≤ length (over (cond x (encode (made b n .tree)) []) out)
-    go true = unfold simplifiedLength in long-over (encode (made b n .tree)) out
-    go false = unfold simplifiedLength in omega arith
+unfolding simplifyAnswer simplifyWrites madeAnswer simplifiedLength
+written-within b n out buffer answer e w =
+    rw (e, w)
+    (by-refusals (λ a y. simplifiedLength a ≤ length (over y out)) (simplifyRefusal b out) _ Simplified.Refused _ _ (λ z. long-over (encode (made b n .tree)) out) (λ z. omega arith))

@@ -1,16 +1,19 @@
 -- What the evaluator's walk finds of a table, as the figure call and the list call answer it.
 use mathlib.Core.Path.{_≡_, refl, sym, ap, _∙_}
-use mathlib.Core.Bool.{Bool, true, false, cond}
-use mathlib.Core.List.{List, []}
+use mathlib.Core.Bool.{Bool, true, false}
+use mathlib.Core.List.{List, [], _∷_}
 use Prim.Native.Nat.{ℕ, suc, _≤_, _<_}
-use lib.Dec.{eqb}
+use native.Mathlib.Omega.{arith}
 use lib.ListN.{length}
-use borrow.Author.Tests.{eq-eqb, ne-eqb, le-leb, lt-leb}
+use borrow.Author.Tests.{le-leb, lt-leb}
 use Rattle.booleans.specs.Laws.{is-T}
 use Rattle.table.specs.Numbers.{mostDepth, listRoom}
 use Rattle.table.specs.Bytes.{AreBytes}
 use Rattle.table.specs.Table.{decode}
+use Rattle.table.specs.Asking.{_asks_, firstNo}
 use Rattle.table.specs.Checking.{refusal}
+use Rattle.table.specs.Laws.Asking.{refused}
+use Rattle.table.specs.Laws.Refusal.{check-passes, check-stops}
 use Rattle.lists.specs.Pairs.{top, width, numbers}
 use Rattle.evaluate.specs.Evaluate.{valuesOf, fits}
 use Rattle.evaluate.specs.ListPairs.{listPairs}
@@ -18,77 +21,77 @@ use Rattle.evaluate.specs.Evaluator.{evaluateNode}
 use Rattle.evaluate.specs.Laws.Evaluator.{Evaluated, evaluated-table}
 use Rattle.calls.specs.declared.Quote.{Quote}
 use Rattle.calls.specs.declared.Listed.{Listed}
-use Rattle.calls.specs.Answers.{question9, quoteOf, figureAnswer, listRefusal, listAnswer, listWrites, over}
-use Rattle.calls.specs.Laws.Values.{counts-ranged}
+use Rattle.calls.specs.Values.{valuesRefusal}
+use Rattle.calls.specs.Answers.{figureAnswer, figureRefusal, listAnswer, listRefusal, listWrites, over, quoteQuestions}
+use Rattle.calls.specs.Laws.Answers.{refuses, writes}
+use Rattle.calls.specs.Laws.Figures.{figure-is, quote-fits}
+use Rattle.calls.specs.Laws.Values.{counts-ranged, values-nine}
+
+-- ---- the walk answers question 10
+
+module _ (b vs : List ℕ) (e : refusal b ≡ 0) (h : AreBytes b) (q : valuesRefusal b vs ≡ 0) where
+  walk : Evaluated (valuesOf vs) (decode b) (evaluateNode (valuesOf vs) mostDepth b)
+  walk = evaluated-table (valuesOf vs) (counts-ranged vs (values-nine b vs q)) b h e
+
+  quote-walked : {x : Bool} → evaluateNode (valuesOf vs) mostDepth b .fits ≡ x → firstNo (quoteQuestions b vs) ≡ firstNo (10 asks x ∷ [])
+  quote-walked n = quote-fits b vs q ∙ ap (λ x. firstNo (10 asks x ∷ [])) (sym (walk .fits) ∙ n)
+
+  pub quote-large : evaluateNode (valuesOf vs) mostDepth b .fits ≡ false → firstNo (quoteQuestions b vs) ≡ 10
+  unfolding firstNo
+  quote-large = quote-walked
+
+  pub quote-found : evaluateNode (valuesOf vs) mostDepth b .fits ≡ true → firstNo (quoteQuestions b vs) ≡ 0
+  unfolding firstNo
+  quote-found = quote-walked
+
+  pub figure-found : evaluateNode (valuesOf vs) mostDepth b .fits ≡ true → Quote.Figure (top (evaluateNode (valuesOf vs) mostDepth b .pairs)) ≡ figureAnswer b vs
+  figure-found n =
+      let f = is-T (fits (valuesOf vs) (decode b)) (sym (walk .fits) ∙ n) in
+      ap Quote.Figure (walk .figure f) ∙ sym (figure-is b vs e q f)
+
+-- ---- the figure call
 
 module _ (b vs : List ℕ) where
-  -- ---- the figure call
+  pub figure-refused : {n : ℕ} → n ≡ refusal b → (n ≡ 0 → ⊥) → Quote.Refused n ≡ figureAnswer b vs
+  unfolding figureAnswer figureRefusal
+  figure-refused e z = sym (refused _ _ Quote.Refused (check-stops b (quoteQuestions b vs) e z) z)
 
-  pub figure-refused : (refusal b ≡ 0 → ⊥) → Quote.Refused (refusal b) ≡ figureAnswer b vs
-  unfolding figureAnswer
-  figure-refused n = rw (ne-eqb (refusal b) 0 n) refl
-
-  module _ (e : refusal b ≡ 0) where
-    pub figure-values : question9 vs ≡ false → Quote.Refused 9 ≡ figureAnswer b vs
-    unfolding figureAnswer quoteOf
-    figure-values q = rw (eq-eqb (refusal b) 0 e, q) refl
-
-    module _ (h : AreBytes b) (q : question9 vs ≡ true) where
-      walk : Evaluated (valuesOf vs) (decode b) (evaluateNode (valuesOf vs) mostDepth b)
-      walk = evaluated-table (valuesOf vs) (counts-ranged vs (is-T _ q)) b h e
-
-      pub figure-large : evaluateNode (valuesOf vs) mostDepth b .fits ≡ false → Quote.Refused 10 ≡ figureAnswer b vs
-      unfolding figureAnswer quoteOf
-      figure-large n = rw (eq-eqb (refusal b) 0 e, q, sym (walk .fits) ∙ n) refl
-
-      pub figure-found : evaluateNode (valuesOf vs) mostDepth b .fits ≡ true → Quote.Figure (top (evaluateNode (valuesOf vs) mostDepth b .pairs)) ≡ figureAnswer b vs
-      unfolding figureAnswer quoteOf
-      figure-found n =
-          let f : fits (valuesOf vs) (decode b) ≡ true = sym (walk .fits) ∙ n in
-          rw (eq-eqb (refusal b) 0 e, q, f) (ap Quote.Figure (walk .figure (is-T _ f)))
+  pub figure-no : refusal b ≡ 0 → {n : ℕ} → firstNo (quoteQuestions b vs) ≡ n → (n ≡ 0 → ⊥) → Quote.Refused n ≡ figureAnswer b vs
+  unfolding figureAnswer figureRefusal
+  figure-no e f z = sym (refused _ _ Quote.Refused (check-passes b _ e ∙ f) z)
 
 -- ---- the list call
 
--- what it answers, and the numbers it writes
-pub record Lists (b vs out : List ℕ) (r : Listed) (written : List ℕ) : Type 0 where
-  pub answer : r ≡ listAnswer b vs out
-  pub writes : written ≡ listWrites b vs out
-
--- so a call's answer and its buffer, written over and not
-pub written : (b vs out : List ℕ) (r : Listed) (ns x : List ℕ) → Lists b vs out r ns → x ≡ over ns out → (r ≡ listAnswer b vs out) × (x ≡ over (listWrites b vs out) out)
-written b vs out r ns x h e = (h .answer, e ∙ ap (λ w. over w out) (h .writes))
-
-pub untouched : (b vs out : List ℕ) (r : Listed) → Lists b vs out r [] → (r ≡ listAnswer b vs out) × (out ≡ over (listWrites b vs out) out)
-untouched b vs out r h = written b vs out r [] out h (unfold over in refl)
-
-by-refusal : (b vs out : List ℕ) (n : ℕ) → listRefusal b vs out ≡ n → eqb n 0 ≡ false → Lists b vs out (Listed.Refused n) []
-unfolding listAnswer listWrites
-by-refusal b vs out n e z = record { answer = rw (e, z) refl; writes = rw (e, z) refl }
-
 module _ (b vs out : List ℕ) where
-  pub list-refused : (refusal b ≡ 0 → ⊥) → Lists b vs out (Listed.Refused (refusal b)) []
-  list-refused n = by-refusal b vs out _ (unfold listRefusal in rw (ne-eqb (refusal b) 0 n) refl) (ne-eqb (refusal b) 0 n)
+  -- what it answers, and what its buffer then holds
+  abbrev pub Lists : Listed → (new : List ℕ) → Type 0
+  Lists r new = (r ≡ listAnswer b vs out) × (new ≡ over (listWrites b vs out) out)
+
+  by-refusal : {n : ℕ} → listRefusal b vs out ≡ n → (n ≡ 0 → ⊥) → Lists (Listed.Refused n) out
+  unfolding listAnswer listWrites
+  by-refusal = refuses _ _ Listed.Refused _ out
+
+  pub list-refused : {n : ℕ} → n ≡ refusal b → (n ≡ 0 → ⊥) → Lists (Listed.Refused n) out
+  unfolding listRefusal
+  list-refused e z = by-refusal (check-stops b _ e z) z
 
   module _ (e : refusal b ≡ 0) where
-    pub list-short : length out < listRoom → Lists b vs out (Listed.Refused 8) []
-    list-short s = by-refusal b vs out 8 (unfold listRefusal in rw (eq-eqb (refusal b) 0 e, lt-leb listRoom (length out) s) refl) refl
+    pub list-short : length out < listRoom → Lists (Listed.Refused 8) out
+    unfolding listRefusal firstNo
+    list-short s = by-refusal (check-passes b _ e ∙ rw (lt-leb listRoom (length out) s) refl) (λ z. omega (arith, z))
 
     module _ (r : listRoom ≤ length out) where
-      pub list-values : question9 vs ≡ false → Lists b vs out (Listed.Refused 9) []
-      list-values q = by-refusal b vs out 9 (unfold listRefusal in rw (eq-eqb (refusal b) 0 e, le-leb listRoom (length out) r, q) refl) refl
+      asked : listRefusal b vs out ≡ firstNo (quoteQuestions b vs)
+      unfolding listRefusal firstNo
+      asked = check-passes b _ e ∙ rw (le-leb listRoom (length out) r) refl
 
-      module _ (h : AreBytes b) (q : question9 vs ≡ true) where
-        refusal-is : (x : Bool) → evaluateNode (valuesOf vs) mostDepth b .fits ≡ x → listRefusal b vs out ≡ cond x 0 10
-        unfolding listRefusal
-        refusal-is x n = rw (eq-eqb (refusal b) 0 e, le-leb listRoom (length out) r, q, sym (walk b vs e h q .fits) ∙ n) refl
+      pub list-no : {n : ℕ} → firstNo (quoteQuestions b vs) ≡ n → (n ≡ 0 → ⊥) → Lists (Listed.Refused n) out
+      list-no f z = by-refusal (asked ∙ f) z
 
-        pub list-large : evaluateNode (valuesOf vs) mostDepth b .fits ≡ false → Lists b vs out (Listed.Refused 10) []
-        list-large n = by-refusal b vs out 10 (refusal-is false n) refl
-
-        pub list-found : evaluateNode (valuesOf vs) mostDepth b .fits ≡ true
-            → let p = evaluateNode (valuesOf vs) mostDepth b .pairs in
-            Lists b vs out (Listed.Pairs (suc (width p))) (numbers p)
-        unfolding listAnswer listWrites
-        list-found n =
-            let p : evaluateNode (valuesOf vs) mostDepth b .pairs ≡ listPairs (valuesOf vs) (decode b) = walk b vs e h q .pairs (is-T _ (sym (walk b vs e h q .fits) ∙ n)) in
-            record { answer = rw (refusal-is true n, p) refl; writes = rw (refusal-is true n, p) refl }
+      pub list-found : (h : AreBytes b) (q : valuesRefusal b vs ≡ 0) → evaluateNode (valuesOf vs) mostDepth b .fits ≡ true
+          → {k : ℕ} {ns new : List ℕ} → let p = evaluateNode (valuesOf vs) mostDepth b .pairs in
+          k ≡ suc (width p) → ns ≡ numbers p → new ≡ over ns out → Lists (Listed.Pairs k) new
+      unfolding listAnswer listWrites
+      list-found h q n l w i =
+          let p : evaluateNode (valuesOf vs) mostDepth b .pairs ≡ listPairs (valuesOf vs) (decode b) = walk b vs e h q .pairs (is-T _ (sym (walk b vs e h q .fits) ∙ n)) in
+          writes _ _ Listed.Refused _ out (asked ∙ quote-found b vs e h q n) (ap Listed.Pairs (l ∙ ap (λ x. suc (width x)) p)) (i ∙ ap (λ x. over x out) (w ∙ ap numbers p))

@@ -1,22 +1,24 @@
 -- The values of a file, as a program reads them into an array; what is decided from both files, and that values left out never lower it.
 use mathlib.Core.Path.{_≡_, refl, sym, ap, ap₂, _∙_, subst}
-use mathlib.Core.Bool.{Bool, true, false, cond}
+use mathlib.Core.Bool.{true, false}
 use mathlib.Core.List.{List, [], _∷_, _++_}
 use Prim.Native.Nat.{ℕ, zero, suc, _+_, _*_, _%_, _<_}
 use native.Mathlib.Nat.{add-zero, zero-add}
 use native.Mathlib.Omega.{arith}
 use lib.ListN.{length, getD, take, drop, set, length-drop}
-use lib.Dec.{T, eqb, eqb→eq, leb→le}
+use lib.Dec.{T, eqb→eq, leb→le}
 use lib.Seq.{drop-drop, take-suc-set, take-suc, take-all, take-append-le, drop-append-le}
-use borrow.Author.Tests.{eq-eqb, ne-eqb, eqb-false}
-use Rattle.booleans.specs.Laws.{both, by-cond, is-T, T-is}
+use Rattle.booleans.specs.Laws.{both, is-T, T-is}
 use Rattle.table.specs.Numbers.{howManyValues}
 use Rattle.table.specs.Bytes.{fromBytes}
-use Rattle.table.specs.Checking.{refusal}
+use Rattle.table.specs.Asking.{_asks_, byRefusal, firstNo}
+use Rattle.table.specs.Checking.{questions, refusal}
+use Rattle.table.specs.Laws.Asking.{Yes, all-yes, left-out, number-is, numbered, refused}
+use Rattle.table.specs.Laws.Refusal.{check-passed, check-passes, check-stops}
 use Rattle.calls.specs.declared.Quote.{Quote}
-use Rattle.calls.specs.Answers.{ceiling, ranged, figureAnswer, quotedRefusal}
-use Rattle.calls.specs.Files.{FilesPromise, valueLength, valueIn, valuesFrom, valuesWhole, filesAnswer}
-use Rattle.calls.specs.Demand.{NoneLower}
+use Rattle.calls.specs.Values.{NoneLower, ceiling, ranged, valueQuestions}
+use Rattle.calls.specs.Answers.{figureAnswer, figureRefusal, quoteOf, quoteQuestions, quotedRefusal}
+use Rattle.calls.specs.Files.{FilesPromise, fileValues, filesAnswer, filesRefusal, valueIn, valueLength, valuesFrom, valuesWhole}
 use Rattle.calls.specs.Laws.Figures.{figure-monotone, figured-ranged}
 
 values-length : (n i : ℕ) (b : List ℕ) → length (valuesFrom n i b) ≡ n
@@ -61,21 +63,17 @@ value-absent i (x ∷ b) l = absurd (omega arith)
 -- ---- what is decided from both files
 
 module _ (t v : List ℕ) where
-  pub files-whole : valuesWhole v ≡ true → figureAnswer t (valuesFrom howManyValues 0 v) ≡ filesAnswer t v
-  unfolding filesAnswer
-  files-whole w = rw w (go (eqb (refusal t) 0) refl)
-    where
-      go : (x : Bool) → eqb (refusal t) 0 ≡ x → figureAnswer t (valuesFrom howManyValues 0 v) ≡ cond x (figureAnswer t (valuesFrom howManyValues 0 v)) (Quote.Refused (refusal t))
-      go true e = refl
-      go false e = unfold figureAnswer in rw e refl
+  pub files-whole : valuesWhole v ≡ true → figureAnswer t (fileValues v) ≡ filesAnswer t v
+  unfolding figureAnswer figureRefusal filesAnswer filesRefusal
+  files-whole w = ap (λ n. byRefusal n (quoteOf t (fileValues v)) Quote.Refused) (sym (left-out (questions t) (quoteQuestions t (fileValues v)) 9 w))
 
-  pub files-refused : valuesWhole v ≡ false → (refusal t ≡ 0 → ⊥) → Quote.Refused (refusal t) ≡ filesAnswer t v
-  unfolding filesAnswer
-  files-refused w n = rw (ne-eqb (refusal t) 0 n) refl
+  pub files-refused : {n : ℕ} → n ≡ refusal t → (n ≡ 0 → ⊥) → Quote.Refused n ≡ filesAnswer t v
+  unfolding filesAnswer filesRefusal
+  files-refused e z = sym (refused _ _ Quote.Refused (check-stops t _ e z) z)
 
   pub files-other : valuesWhole v ≡ false → refusal t ≡ 0 → Quote.Refused 9 ≡ filesAnswer t v
-  unfolding filesAnswer
-  files-other w e = rw (eq-eqb (refusal t) 0 e, w) refl
+  unfolding filesAnswer filesRefusal firstNo
+  files-other w e = sym (refused _ _ Quote.Refused (check-passes t _ e ∙ rw w refl) (λ z. omega (arith, z)))
 
 -- whole values make a length that is a multiple of a value's
 pub whole-length : (v : List ℕ) → valuesWhole v ≡ true → length v % valueLength ≡ 0
@@ -99,11 +97,11 @@ more-lower (suc n) i (x ∷ v) more w r (suc k) =
 module _ (t : List ℕ) where
   -- a file that gets a figure holds whole values
   files-quoted : (v : List ℕ) → quotedRefusal (filesAnswer t v) ≡ 0 → valuesWhole v ≡ true
-  unfolding filesAnswer quotedRefusal
-  files-quoted v =
-      by-cond (λ r. quotedRefusal r ≡ 0 → valuesWhole v ≡ true) (eqb (refusal t) 0) _ _
-      (λ h. by-cond (λ r. quotedRefusal r ≡ 0 → valuesWhole v ≡ true) (valuesWhole v) _ _ (λ w p. T-is _ w) (λ w p. absurd (omega arith)))
-      (λ e p. absurd (eqb-false (refusal t) 0 e p))
+  unfolding filesAnswer filesRefusal quoteQuestions valueQuestions quotedRefusal numbered Yes
+  files-quoted v p =
+      let n = number-is quotedRefusal (filesRefusal t v) _ Quote.Refused refl (λ q. refl) in
+      let (e, m) = check-passed t (9 asks valuesWhole v ∷ quoteQuestions t (fileValues v)) (sym n ∙ p) in
+      T-is _ (all-yes (9 asks valuesWhole v ∷ quoteQuestions t (fileValues v)) tt m .0)
 
   pub files-promise : (v : List ℕ) → FilesPromise t v (filesAnswer t v)
   unfolding FilesPromise

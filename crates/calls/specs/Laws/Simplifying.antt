@@ -1,20 +1,21 @@
 -- Steps on a copy of a table, as the simplifying call answers them.
 use mathlib.Core.Path.{_≡_, refl, ap, sym, _∙_}
 use mathlib.Core.Bool.{Bool, false, true}
-use mathlib.Core.List.{List, []}
+use mathlib.Core.List.{List, [], _∷_}
 use Prim.Native.Nat.{ℕ, _*_, _<_, _≤_}
 use native.Mathlib.Omega.{arith}
-use lib.Dec.{T, eqb}
 use lib.ListN.{length, take}
-use lib.Seq.{length-take-le, take-at, take-length}
-use borrow.Author.Tests.{eq-eqb, le-leb, lt-leb, ne-eqb}
+use lib.Seq.{length-take-le, take-length}
+use borrow.Author.Tests.{le-leb, lt-leb}
 use Rattle.booleans.specs.Laws.{is-T}
+use Rattle.table.specs.Asking.{_asks_, firstNo}
 use Rattle.table.specs.Bytes.{AreBytes}
 use Rattle.table.specs.Checking.{refusal}
 use Rattle.table.specs.Numbers.{mostDepth, mostRecords, recordLength}
-use Rattle.table.specs.Table.{decode, encode, recordCount}
+use Rattle.table.specs.Table.{decode, encode}
 use Rattle.table.specs.Laws.Accepted.{is-table}
-use Rattle.evaluate.specs.Evaluate.{fits, zeros}
+use Rattle.table.specs.Laws.Refusal.{check-passes, check-stops}
+use Rattle.evaluate.specs.Evaluate.{zeros}
 use Rattle.evaluate.specs.Evaluator.{evaluateNode}
 use Rattle.evaluate.specs.Laws.Evaluator.{Evaluated, evaluated-table}
 use Rattle.simplify.specs.Steps.{steps}
@@ -22,6 +23,8 @@ use Rattle.subtrees.specs.Parts.{Simplifiable}
 use Rattle.subtrees.specs.Laws.Parts.{few-records, length-is}
 use Rattle.stepping.specs.Spots.{Ends}
 use Rattle.calls.specs.Answers.{endingOf, made, madeAnswer, over, simplifyAnswer, simplifyRefusal, simplifyWrites}
+use Rattle.calls.specs.Laws.Copies.{take-over}
+use Rattle.calls.specs.Laws.Answers.{refuses, writes}
 use Rattle.calls.specs.declared.Ending.{Ending}
 use Rattle.calls.specs.declared.Simplified.{Simplified}
 
@@ -29,8 +32,7 @@ use Rattle.calls.specs.declared.Simplified.{Simplified}
 
 -- the table stands at the copy's front
 pub copy-is : (b work copy : List ℕ) → copy ≡ over (take (length b) b) work → take (length b) copy ≡ b
-unfolding over
-copy-is b work copy e = rw (e, take-length b) (take-at b _ (length b) refl)
+copy-is b work copy e = ap (take (length b)) (e ∙ ap (λ x. over x work) (take-length b)) ∙ take-over b work
 
 pub not-long : (b : List ℕ) → Simplifiable b → length b ≤ recordLength * mostRecords
 not-long b s = omega (arith, length-is b s, few-records b s)
@@ -46,44 +48,39 @@ made-is b copy work out new n long count finished end c e l f w =
 
 -- ---- the questions
 
--- what the call answers, and the bytes it writes
-pub record Simplifies (b : List ℕ) (n : ℕ) (out : List ℕ) (r : Simplified) (written : List ℕ) : Type 0 where
-  pub answer : r ≡ simplifyAnswer b n out
-  pub writes : written ≡ simplifyWrites b n out
-
-pub refused : (b : List ℕ) (n : ℕ) (out : List ℕ) (q : ℕ) → Simplifies b n out (Simplified.Refused q) [] → (Simplified.Refused q ≡ simplifyAnswer b n out) × (out ≡ over (simplifyWrites b n out) out)
-refused b n out q h = (h .answer, nothing ∙ ap (λ w. over w out) (h .writes))
-  where
-    nothing : out ≡ over [] out
-    nothing = unfold over in refl
-
 module _ (b : List ℕ) (n : ℕ) (out : List ℕ) where
-  by-refusal : (q : ℕ) → simplifyRefusal b out ≡ q → eqb q 0 ≡ false → Simplifies b n out (Simplified.Refused q) []
-  unfolding simplifyAnswer simplifyWrites
-  by-refusal q e z = record { answer = rw (e, z) refl; writes = rw (e, z) refl }
+  -- what the call answers, and what its buffer then holds
+  abbrev pub Simplifies : Simplified → (new : List ℕ) → Type 0
+  Simplifies r new = (r ≡ simplifyAnswer b n out) × (new ≡ over (simplifyWrites b n out) out)
 
-  pub simplify-refused : (refusal b ≡ 0 → ⊥) → Simplifies b n out (Simplified.Refused (refusal b)) []
-  simplify-refused z = by-refusal _ (unfold simplifyRefusal in rw (ne-eqb (refusal b) 0 z) refl) (ne-eqb (refusal b) 0 z)
+  by-refusal : {q : ℕ} → simplifyRefusal b out ≡ q → (q ≡ 0 → ⊥) → Simplifies (Simplified.Refused q) out
+  unfolding simplifyAnswer simplifyWrites
+  by-refusal = refuses _ _ Simplified.Refused _ out
+
+  pub simplify-refused : {q : ℕ} → q ≡ refusal b → (q ≡ 0 → ⊥) → Simplifies (Simplified.Refused q) out
+  unfolding simplifyRefusal
+  simplify-refused e z = by-refusal (check-stops b _ e z) z
 
   module _ (e : refusal b ≡ 0) where
-    pub simplify-short : length out < length b → Simplifies b n out (Simplified.Refused 8) []
-    simplify-short s = by-refusal 8 (unfold simplifyRefusal in rw (eq-eqb (refusal b) 0 e, lt-leb (length b) (length out) s) refl) refl
+    pub simplify-short : length out < length b → Simplifies (Simplified.Refused 8) out
+    unfolding simplifyRefusal firstNo
+    simplify-short s = by-refusal (check-passes b _ e ∙ rw (lt-leb (length b) (length out) s) refl) (λ z. omega (arith, z))
 
     module _ (r : length b ≤ length out) (h : AreBytes b) where
       walk : Evaluated zeros (decode b) (evaluateNode zeros mostDepth b)
       walk = evaluated-table zeros (λ k q. omega arith) b h e
 
-      pub simplify-large : evaluateNode zeros mostDepth b .fits ≡ false → Simplifies b n out (Simplified.Refused 10) []
-      simplify-large z = by-refusal 10 (unfold simplifyRefusal in rw (eq-eqb (refusal b) 0 e, le-leb (length b) (length out) r, sym (walk .fits) ∙ z) refl) refl
+      walked : {x : Bool} → evaluateNode zeros mostDepth b .fits ≡ x → simplifyRefusal b out ≡ firstNo (10 asks x ∷ [])
+      unfolding simplifyRefusal firstNo
+      walked z = check-passes b _ e ∙ rw (le-leb (length b) (length out) r, sym (walk .fits) ∙ z) refl
+
+      pub simplify-large : evaluateNode zeros mostDepth b .fits ≡ false → Simplifies (Simplified.Refused 10) out
+      unfolding firstNo
+      simplify-large z = by-refusal (walked z) (λ q. omega (arith, q))
 
       pub simplify-able : evaluateNode zeros mostDepth b .fits ≡ true → Simplifiable b
       simplify-able z = let t = is-table b h e in record { accepted = t .accepted; back = t .back; fits = is-T _ (sym (walk .fits) ∙ z) }
 
-      fits-all : evaluateNode zeros mostDepth b .fits ≡ true → simplifyRefusal b out ≡ 0
-      unfolding simplifyRefusal
-      fits-all z = rw (eq-eqb (refusal b) 0 e, le-leb (length b) (length out) r, sym (walk .fits) ∙ z) refl
-
-      pub simplify-made : evaluateNode zeros mostDepth b .fits ≡ true → {x : Simplified} {new : List ℕ} → (x ≡ madeAnswer b n) × (new ≡ over (encode (made b n .tree)) out)
-          → (x ≡ simplifyAnswer b n out) × (new ≡ over (simplifyWrites b n out) out)
-      unfolding simplifyAnswer simplifyWrites
-      simplify-made z (a, w) = (a ∙ rw (fits-all z) refl, w ∙ rw (fits-all z) refl)
+      pub simplify-made : evaluateNode zeros mostDepth b .fits ≡ true → {x : Simplified} {new : List ℕ} → (x ≡ madeAnswer b n) × (new ≡ over (encode (made b n .tree)) out) → Simplifies x new
+      unfolding simplifyAnswer simplifyWrites firstNo
+      simplify-made z (a, w) = writes _ _ Simplified.Refused _ out (walked z) a w

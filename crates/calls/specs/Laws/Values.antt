@@ -1,4 +1,4 @@
--- Question 9 as a program puts it, value by value, and what it says of each.
+-- The questions about values. Question 9 as a program puts it, value by value, and what it says of each.
 use mathlib.Core.Path.{_≡_, refl, sym, _∙_}
 use mathlib.Core.Bool.{true, false}
 use mathlib.Core.List.{List, [], _∷_}
@@ -13,7 +13,18 @@ use Rattle.booleans.specs.Tests.{_and_}
 use Rattle.booleans.specs.Laws.{both}
 use Rattle.table.specs.Numbers.{howManyValues, firstTimeSymbol, mostCount}
 use Rattle.evaluate.specs.Evaluate.{valuesOf}
-use Rattle.calls.specs.Answers.{ceiling, ranged, question9}
+use Rattle.table.specs.Laws.Asking.{Yes, all-yes, numbered, yes-all}
+use Rattle.calls.specs.Values.{ceiling, question9, ranged, valueQuestions, valuesRefusal}
+
+pub values-nine : (b vs : List ℕ) → valuesRefusal b vs ≡ 0 → T (question9 vs)
+unfolding valuesRefusal valueQuestions numbered Yes
+values-nine b vs e = all-yes (valueQuestions b vs) tt e .0
+
+pub nine-values : (b vs : List ℕ) → T (question9 vs) → valuesRefusal b vs ≡ 0
+unfolding valuesRefusal valueQuestions Yes
+nine-values b vs h = yes-all (valueQuestions b vs) (h, tt)
+
+-- ---- question 9, value by value
 
 -- the values before i are in range, and the others are asked yet
 abbrev pub Asked : (vs : List ℕ) (i : ℕ) → Type 0

@@ -31,7 +31,7 @@ refusal-of-requires c κs = search needs
 returns : tie.Need-returns
 returns c =
     let told = c .before in
-    promised _ _ _ _ (host-bytes (told .before)) (sent-bytes (told .before)) (host-refused _ _ _ _ _ (told .refusal-of .ensures) (c .if1 .taken))
+    promised _ _ _ _ (host-bytes (told .before)) (sent-bytes (told .before)) (host-refused _ _ _ _ (told .refusal-of .ensures) (c .if1 .taken))
 
 refusal-of-requires-2 : tie.Need-refusal-of-requires-2
 refusal-of-requires-2 c κs = search needs
@@ -40,7 +40,7 @@ returns-2 : tie.Need-returns-2
 returns-2 c =
     let told = c .before in
     let known = told .before .before .before in
-    promised _ _ _ _ (host-bytes known) (sent-bytes known) (sent-refused _ _ _ _ (host-accepted (told .before)) _ (told .refusal-of2 .ensures) (c .if2 .taken))
+    promised _ _ _ _ (host-bytes known) (sent-bytes known) (sent-refused _ _ _ _ (host-accepted (told .before)) (told .refusal-of2 .ensures) (c .if2 .taken))
 
 symbol-allowed-requires : tie.Need-symbol-allowed-requires
 symbol-allowed-requires c κs = is-table _ (sent-bytes (c .before .before .before .before)) (sent-accepted c)

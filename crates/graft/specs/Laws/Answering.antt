@@ -1,28 +1,33 @@
 -- What grafting answers and writes, by the questions in their order; and that it keeps its promises.
 use mathlib.Core.Path.{_≡_, refl, ap, sym, subst, _∙_}
-use mathlib.Core.Bool.{Bool, true, false, cond}
-use mathlib.Core.List.{List}
+use mathlib.Core.Bool.{true, false}
+use mathlib.Core.List.{List, [], _∷_, _++_}
 use Prim.Native.Nat.{ℕ, _*_, _-_, _<_, _≤_}
 use native.Mathlib.Omega.{arith}
-use lib.Dec.{T, eqb, eqb→eq, leb}
+use lib.Dec.{eqb, leb}
 use lib.ListN.{drop, length, take}
-use lib.Seq.{length-take-le, take-at}
-use borrow.Author.Tests.{eq-eqb, le-leb, lt-leb, ne-eqb}
-use Rattle.booleans.specs.Laws.{T-is, is-T}
+use lib.Seq.{length-take-le}
+use borrow.Author.Tests.{le-leb, lt-leb}
+use Rattle.booleans.specs.Laws.{T-is}
+use Rattle.table.specs.Asking.{_asks_, firstNo}
 use Rattle.table.specs.Bytes.{AreBytes}
-use Rattle.table.specs.Checking.{refusal}
+use Rattle.table.specs.Checking.{questions, refusal}
 use Rattle.table.specs.Numbers.{mostDepth, mostRecords, recordLength}
 use Rattle.table.specs.Table.{decode}
 use Rattle.table.specs.Trees.{records}
 use Rattle.table.specs.Survey.{surveyNode, surveyRefusal}
 use Rattle.table.specs.declared.Survey.{Survey}
 use Rattle.table.specs.Laws.Accepted.{is-table}
+use Rattle.table.specs.Laws.Asking.{Yes, all-yes, by-refusals, numbered}
 use Rattle.table.specs.Laws.Reading.{part-to}
+use Rattle.table.specs.Laws.Refusal.{check-passed, check-passes, check-stops}
 use Rattle.table.specs.Laws.RoundTrip.{length-encode}
 use Rattle.calls.specs.Answers.{over}
+use Rattle.calls.specs.Laws.Answers.{refuses, writes}
+use Rattle.calls.specs.Laws.Copies.{take-over}
 use Rattle.graft.specs.declared.Grafted.{Grafted}
 use Rattle.graft.specs.Graft.{graft}
-use Rattle.graft.specs.Answers.{graftAnswer, graftRefusal, graftTable, graftWrites, graftedLength, graftedRefusal, question11, question12}
+use Rattle.graft.specs.Answers.{graftAnswer, graftQuestions, graftRefusal, graftTable, graftWrites, graftedLength, graftedRefusal, question11, question12}
 use Rattle.graft.specs.Promises.{GraftPromised, GraftPromises}
 use Rattle.graft.specs.Splice.{Allowed, GraftMade}
 use Rattle.graft.specs.Laws.Figures.{graft-promised}
@@ -34,83 +39,63 @@ module _ (h b : List ℕ) (s : ℕ) (out : List ℕ) where
   abbrev pub Answered : Grafted → (new : List ℕ) → Type 0
   Answered r new = (r ≡ graftAnswer h b s out) × (new ≡ over (graftWrites h b s out) out)
 
-  -- ---- a refusal changes nothing
+  by-refusal : {n : ℕ} → graftRefusal h b s out ≡ n → (n ≡ 0 → ⊥) → Answered (Grafted.Refused n) out
+  unfolding graftAnswer graftWrites
+  by-refusal = refuses _ _ Grafted.Refused _ out
 
-  by-refusal : (q : ℕ) → graftRefusal h b s out ≡ q → eqb q 0 ≡ false → Answered (Grafted.Refused q) out
-  unfolding graftAnswer graftWrites over
-  by-refusal q e z = (rw (e, z) refl, rw (e, z) refl)
-
-  pub host-refused : (n : ℕ) → n ≡ refusal h → (n ≡ 0 → ⊥) → Answered (Grafted.Refused n) out
+  pub host-refused : {n : ℕ} → n ≡ refusal h → (n ≡ 0 → ⊥) → Answered (Grafted.Refused n) out
   unfolding graftRefusal
-  host-refused n e z = by-refusal n (rw (← e, ne-eqb n 0 z) refl) (ne-eqb n 0 z)
+  host-refused e z = by-refusal (check-stops h _ e z) z
 
-  pub sent-refused : refusal h ≡ 0 → (n : ℕ) → n ≡ refusal b → (n ≡ 0 → ⊥) → Answered (Grafted.Refused n) out
+  pub sent-refused : refusal h ≡ 0 → {n : ℕ} → n ≡ refusal b → (n ≡ 0 → ⊥) → Answered (Grafted.Refused n) out
   unfolding graftRefusal
-  sent-refused p n e z = by-refusal n (rw (p, ← e, ne-eqb n 0 z) refl) (ne-eqb n 0 z)
+  sent-refused p e z = by-refusal (check-passes h _ p ∙ check-stops b _ e z) z
+
+  -- both tables are accepted
+  asked : refusal h ≡ 0 → refusal b ≡ 0 → graftRefusal h b s out ≡ firstNo (graftQuestions h b s out)
+  unfolding graftRefusal
+  asked p q = check-passes h _ p ∙ check-passes b _ q
 
   pub symbol-refused : refusal h ≡ 0 → refusal b ≡ 0 → question11 b s ≡ false → Answered (Grafted.Refused 11) out
-  unfolding graftRefusal
-  symbol-refused p q z = by-refusal 11 (rw (p, q, z) refl) refl
+  unfolding graftQuestions firstNo
+  symbol-refused p q z = by-refusal (asked p q ∙ rw z refl) (λ k. omega (arith, k))
 
   module _ (a : Allowed h b s) where
+    -- and so is the symbol
+    allowed : graftRefusal h b s out ≡ firstNo (12 asks question12 (graftTable h b s) ∷ 8 asks leb (length (graftTable h b s)) (length out) ∷ [])
+    unfolding graftQuestions firstNo
+    allowed = asked (accepted-table h (a .host)) (accepted-table b (a .sent)) ∙ rw (T-is (question11 b s) (a .eleven)) refl
+
     pub result-refused : question12 (graftTable h b s) ≡ false → Answered (Grafted.Refused 12) out
-    unfolding graftRefusal
-    result-refused z = by-refusal 12 (rw (accepted-table h (a .host), accepted-table b (a .sent), T-is (question11 b s) (a .eleven), z) refl) refl
+    unfolding firstNo
+    result-refused z = by-refusal (allowed ∙ rw z refl) (λ k. omega (arith, k))
 
     module _ (t : question12 (graftTable h b s) ≡ true) where
       pub short-refused : length out < length (graftTable h b s) → Answered (Grafted.Refused 8) out
-      unfolding graftRefusal
-      short-refused l =
-          by-refusal 8 (rw (accepted-table h (a .host), accepted-table b (a .sent), T-is (question11 b s) (a .eleven), t, lt-leb (length (graftTable h b s)) (length out) l) refl) refl
-
-      no-refusal : length (graftTable h b s) ≤ length out → graftRefusal h b s out ≡ 0
-      unfolding graftRefusal
-      no-refusal l =
-          rw (accepted-table h (a .host), accepted-table b (a .sent), T-is (question11 b s) (a .eleven), t, le-leb (length (graftTable h b s)) (length out) l) refl
+      unfolding firstNo
+      short-refused l = by-refusal (allowed ∙ rw (t, lt-leb (length (graftTable h b s)) (length out) l) refl) (λ k. omega (arith, k))
 
       pub all-written : (n : ℕ) (x new : List ℕ) → length (graftTable h b s) ≤ length out → x ≡ graftTable h b s → n ≡ length x → new ≡ over x out → Answered (Grafted.Written n) new
-      unfolding graftAnswer graftWrites
-      all-written n x new l i k w = (rw (no-refusal l) (ap Grafted.Written (k ∙ ap length i)), w ∙ rw (no-refusal l) (ap (λ y. over y out) i))
+      unfolding graftAnswer graftWrites firstNo
+      all-written n x new l i k w =
+          writes _ _ Grafted.Refused _ out (allowed ∙ rw (t, le-leb (length (graftTable h b s)) (length out) l) refl) (ap Grafted.Written (k ∙ ap length i)) (w ∙ ap (λ y. over y out) i)
 
   -- ---- the promises
 
-  record Accepts : Type 0 where
-    one : refusal h ≡ 0
-    two : refusal b ≡ 0
-    eleven : T (question11 b s)
-    twelve : T (question12 (graftTable h b s))
-
-  accepts : graftRefusal h b s out ≡ 0 → Accepts
-  unfolding graftRefusal
-  accepts z = go (eqb (refusal h) 0) refl (eqb (refusal b) 0) refl (question11 b s) refl (question12 (graftTable h b s)) refl z
-    where
-      go : (w : Bool) → eqb (refusal h) 0 ≡ w → (x : Bool) → eqb (refusal b) 0 ≡ x → (y : Bool) → question11 b s ≡ y → (z : Bool) → question12 (graftTable h b s) ≡ z
-          → cond w (cond x (cond y (cond z (cond (leb (length (graftTable h b s)) (length out)) 0 8) 12) 11) (refusal b)) (refusal h) ≡ 0 → Accepts
-      go true e₁ true e₂ true e₃ true e₄ q = record { one = eqb→eq (refusal h) 0 (is-T _ e₁); two = eqb→eq (refusal b) 0 (is-T _ e₂); eleven = is-T _ e₃; twelve = is-T _ e₄ }
-      go true e₁ true e₂ true e₃ false e₄ q = absurd (omega arith)
-      go true e₁ true e₂ false e₃ z e₄ q = absurd (omega arith)
-      go true e₁ false e₂ y e₃ z e₄ q = absurd (subst T (sym (eq-eqb (refusal b) 0 q) ∙ e₂) tt)
-      go false e₁ x e₂ y e₃ z e₄ q = absurd (subst T (sym (eq-eqb (refusal h) 0 q) ∙ e₁) tt)
-
-  not-refused : graftedRefusal (graftAnswer h b s out) ≡ 0 → graftRefusal h b s out ≡ 0
-  unfolding graftAnswer graftedRefusal
-  not-refused z = go (eqb (graftRefusal h b s out) 0) refl z
-    where
-      go : (c : Bool) → eqb (graftRefusal h b s out) 0 ≡ c → graftedRefusal (cond c (Grafted.Written (length (graftTable h b s))) (Grafted.Refused (graftRefusal h b s out))) ≡ 0 → graftRefusal h b s out ≡ 0
-      go true e q = eqb→eq (graftRefusal h b s out) 0 (is-T _ e)
-      go false e q = q
-
-  -- the bytes that an answer counts at the buffer's front are the result
-  written-is : graftRefusal h b s out ≡ 0 → take (graftedLength (graftAnswer h b s out)) (over (graftWrites h b s out) out) ≡ graftTable h b s
-  unfolding graftAnswer graftWrites graftedLength over
-  written-is z = rw z (take-at (graftTable h b s) _ (length (graftTable h b s)) refl)
+  accepts : AreBytes h → AreBytes b → graftRefusal h b s out ≡ 0 → GraftPromised h b s (graftTable h b s)
+  unfolding graftRefusal graftQuestions numbered Yes
+  accepts H B n =
+      let (one, m) = check-passed h (questions b ++ graftQuestions h b s out) n in
+      let (two, l) = check-passed b (graftQuestions h b s out) m in
+      let y = all-yes (graftQuestions h b s out) tt l in
+      graft-promised h b s (is-table h H one) (is-table b B two) (y .0) (y .1 .0)
 
   kept : AreBytes h → AreBytes b → GraftPromises h b s (over (graftWrites h b s out) out) (graftAnswer h b s out)
-  unfolding GraftPromises
-  kept H B = λ z.
-      let n = not-refused z in
-      let a = accepts n in
-      subst (GraftPromised h b s) (sym (written-is n)) (graft-promised h b s (is-table h H (a .one)) (is-table b B (a .two)) (a .eleven) (a .twelve))
+  unfolding GraftPromises graftAnswer graftWrites graftedRefusal graftedLength
+  kept H B =
+      by-refusals (λ r y. GraftPromises h b s (over y out) r) (graftRefusal h b s out) _ Grafted.Refused _ _
+      (λ n z. subst (GraftPromised h b s) (sym (take-over (graftTable h b s) out)) (accepts H B n))
+      (λ n z. absurd (n z))
 
   pub promised : {r : Grafted} {new : List ℕ} → AreBytes h → AreBytes b → Answered r new → (r ≡ graftAnswer h b s out) × ((new ≡ over (graftWrites h b s out) out) × GraftPromises h b s new r)
   promised {r} H B (a, w) = (a, (w, subst (λ (x : List ℕ). GraftPromises h b s x r) (sym w) (subst (GraftPromises h b s (over (graftWrites h b s out) out)) (sym a) (kept H B))))

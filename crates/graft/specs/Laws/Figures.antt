@@ -1,5 +1,5 @@
 -- The grafted figure equals the host's figure with the symbol set to the sent table's figure, on the figure call's answers.
-use mathlib.Core.Path.{_≡_, refl, ap, sym, subst, _∙_}
+use mathlib.Core.Path.{_≡_, refl, ap, ap₂, sym, subst, _∙_}
 use mathlib.Core.Bool.{Bool, true, false, cond}
 use mathlib.Core.List.{List, [], _∷_}
 use Prim.Native.Nat.{ℕ, zero, suc, _<_, _≤_, _+_}
@@ -9,17 +9,21 @@ use lib.Dec.{T, eqb, eqb→eq, leb→le, ltb→lt, le→leb}
 use lib.ListN.{getD, length, length-set, set}
 use lib.Seq.{getD-set-other, getD-set-same}
 use borrow.Author.Tests.{eqb-true, eqb-false, le-ltb}
-use Rattle.booleans.specs.Laws.{both, join-and, T-is}
+use Rattle.booleans.specs.Laws.{both, join-and}
 use Rattle.table.specs.Numbers.{firstTimeSymbol, howManySymbols, howManyValues, mostTime}
 use Rattle.table.specs.Table.{decode, recordCount}
-use Rattle.table.specs.Trees.{Tree}
+use Rattle.table.specs.Asking.{_asks_, byRefusal, firstNo}
 use Rattle.table.specs.Checking.{refusal}
 use Rattle.table.specs.Laws.Accepted.{IsTable}
+use Rattle.table.specs.Laws.Asking.{answered}
 use Rattle.evaluate.specs.Evaluate.{figure, fits, valuesOf}
 use Rattle.evaluate.specs.Laws.Ranges.{figure-most}
-use Rattle.calls.specs.Answers.{ceiling, checkAnswer, figureAnswer, question9, quotedFigure, quotedRefusal, quoteOf, ranged}
+use Rattle.calls.specs.Values.{ceiling, question9, ranged, valuesRefusal}
+use Rattle.calls.specs.Answers.{checkAnswer, figureAnswer, quotedFigure, quotedRefusal}
 use Rattle.calls.specs.declared.Checked.{Checked}
+use Rattle.calls.specs.declared.Quote.{Quote}
 use Rattle.calls.specs.Laws.Figures.{figure-is, figure-of, figured}
+use Rattle.calls.specs.Laws.Values.{nine-values, values-nine}
 use Rattle.graft.specs.Graft.{graft, uses}
 use Rattle.graft.specs.Answers.{graftTable, question11, question12}
 use Rattle.graft.specs.Promises.{GraftPromised, Quoted, hostValues}
@@ -61,21 +65,20 @@ set-allowed vs s x g l h =
 
 -- ---- the three figures
 
--- what the figure call answers of an accepted tree, with values that question 9 accepts
-quotes-alike : (vs ws : List ℕ) (t u : Tree) → question9 vs ≡ question9 ws → fits (valuesOf vs) t ≡ fits (valuesOf ws) u → figure (valuesOf vs) t ≡ figure (valuesOf ws) u → quoteOf vs t ≡ quoteOf ws u
-unfolding quoteOf
-quotes-alike vs ws t u a b c = rw (a, b, c) refl
+-- what the figure call answers of two tables with values, all of them accepted
+quotes-alike : (b c vs ws : List ℕ) → refusal b ≡ 0 → refusal c ≡ 0 → valuesRefusal b vs ≡ 0 → valuesRefusal c ws ≡ 0 → fits (valuesOf vs) (decode b) ≡ fits (valuesOf ws) (decode c)
+    → figure (valuesOf vs) (decode b) ≡ figure (valuesOf ws) (decode c) → figureAnswer b vs ≡ figureAnswer c ws
+quotes-alike b c vs ws e f p q k l =
+    figure-of b vs e p ∙ ap₂ (λ x y. byRefusal (firstNo (10 asks x ∷ [])) (Quote.Figure y) Quote.Refused) k l ∙ sym (figure-of c ws f q)
 
 module _ (h b vs : List ℕ) (s : ℕ) (H : IsTable h) (B : IsTable b) (eleven : T (question11 b s)) (twelve : T (question12 (graftTable h b s))) where
-  -- what the figure call answers of the result
-  result-quoted : figureAnswer (graftTable h b s) vs ≡ quoteOf vs (graft s (decode b) (decode h))
-  result-quoted = figure-of (graftTable h b s) vs (result-accepted h b s H B twelve) ∙ ap (quoteOf vs) (result-reads h b s H B)
-
   -- Where the sent table has a figure, the figure call answers of the result what it answers of the host with the symbol set to that figure.
   pub graft-quoted : Quoted b vs → figureAnswer (graftTable h b s) vs ≡ figureAnswer h (hostValues b s vs)
   unfolding question11
   graft-quoted z =
-      let (nine, f, x) = figured b vs (accepted-table b B) z in
+      let f = figured b vs z in
+      let x = f .is in
+      let nine = values-nine b vs (f .allowed) in
       let (low, high) = both _ _ (both _ _ eleven .0) in
       let g = leb→le firstTimeSymbol s low in
       let o = sent-is h b s H B in
@@ -83,13 +86,13 @@ module _ (h b vs : List ℕ) (s : ℕ) (H : IsTable h) (B : IsTable b) (eleven :
       let long : s < length vs = omega (arith, ltb→lt s howManySymbols high, eqb→eq (length vs) howManyValues (nine-long nine)) in
       let w : valuesOf (hostValues b s vs) ≡ setValue (valuesOf vs) s (figure (valuesOf vs) (decode b)) =
       ap (λ y. valuesOf (set vs s y)) x ∙ values-set vs s (figure (valuesOf vs) (decode b)) long in
-      let small : quotedFigure (figureAnswer b vs) ≤ mostTime = omega (arith, x, figure-most (valuesOf vs) (decode b) f) in
-      let same9 : question9 vs ≡ question9 (hostValues b s vs) = T-is _ nine ∙ sym (T-is _ (set-allowed vs s _ g small nine)) in
+      let small : quotedFigure (figureAnswer b vs) ≤ mostTime = omega (arith, x, figure-most (valuesOf vs) (decode b) (f .small)) in
       let fit : fits (valuesOf vs) (graft s (decode b) (decode h)) ≡ fits (valuesOf (hostValues b s vs)) (decode h) =
-      graft-fits (valuesOf vs) s g (decode b) o f (decode h) l ∙ ap (λ v. fits v (decode h)) (sym w) in
+      graft-fits (valuesOf vs) s g (decode b) o (f .small) (decode h) l ∙ ap (λ v. fits v (decode h)) (sym w) in
       let fig : figure (valuesOf vs) (graft s (decode b) (decode h)) ≡ figure (valuesOf (hostValues b s vs)) (decode h) =
       graft-figure (valuesOf vs) s g (decode b) o (decode h) l ∙ ap (λ v. figure v (decode h)) (sym w) in
-      result-quoted ∙ quotes-alike vs _ _ _ same9 fit fig ∙ sym (figure-of h _ (accepted-table h H))
+      let reads = result-reads h b s H B in
+      quotes-alike (graftTable h b s) h vs _ (result-accepted h b s H B twelve) (accepted-table h H) (nine-values _ vs nine) (nine-values h _ (set-allowed vs s _ g small nine)) (ap (fits (valuesOf vs)) reads ∙ fit) (ap (figure (valuesOf vs)) reads ∙ fig)
     where
       nine-long : T (question9 vs) → T (eqb (length vs) howManyValues)
       nine-long k = unfold question9 in both _ _ k .0
@@ -98,15 +101,15 @@ module _ (h b vs : List ℕ) (s : ℕ) (H : IsTable h) (B : IsTable b) (eleven :
   sent-quoted : T (uses s (decode h)) → Quoted (graftTable h b s) vs → Quoted b vs
   unfolding quotedRefusal
   sent-quoted u z =
-      let (nine, f, x) = figured (graftTable h b s) vs (result-accepted h b s H B twelve) z in
-      let fit = graft-needs (valuesOf vs) s (decode b) (sent-is h b s H B) (decode h) u (rw (result-reads h b s H B) at f) in
-      ap quotedRefusal (figure-of b vs (accepted-table b B) ∙ figure-is vs (decode b) nine fit)
+      let f = figured (graftTable h b s) vs z in
+      let fit = graft-needs (valuesOf vs) s (decode b) (sent-is h b s H B) (decode h) u (rw (result-reads h b s H B) at (f .small)) in
+      ap quotedRefusal (figure-is b vs (accepted-table b B) (nine-values b vs (values-nine _ vs (f .allowed))) fit)
 
 -- ---- the promise
 
 checked-accepted : (b : List ℕ) → refusal b ≡ 0 → checkAnswer b ≡ Checked.Accepted (recordCount b)
 unfolding checkAnswer
-checked-accepted b e = rw e refl
+checked-accepted b e = answered (refusal b) _ Checked.Refused e
 
 pub graft-promised : (h b : List ℕ) (s : ℕ) → IsTable h → IsTable b → T (question11 b s) → T (question12 (graftTable h b s)) → GraftPromised h b s (graftTable h b s)
 graft-promised h b s H B eleven twelve = record {

@@ -1,7 +1,7 @@
 -- The result of grafting accepted tables passes questions 2, 3, 4 and 6 always: it is accepted exactly where 1, 5 and 7 say yes.
 use mathlib.Core.Path.{_≡_, refl, ap, sym, subst, _∙_}
 use mathlib.Core.Bool.{Bool, true, false, cond}
-use mathlib.Core.List.{List, [], append-nil}
+use mathlib.Core.List.{List, [], _∷_, append-nil}
 use Prim.Native.Nat.{ℕ, _*_, _%_, _≤_}
 use native.Mathlib.Omega.{arith}
 use lib.Dec.{T, eqb, leb, leb→le}
@@ -14,6 +14,7 @@ use Rattle.table.specs.Questions.{Accepted, depth, listed, loops, named, weight
 use Rattle.table.specs.Table.{decode, encode}
 use Rattle.table.specs.Trees.{Tree, records}
 use Rattle.table.specs.Survey.{surveyNode, surveyRefusal, unfit}
+use Rattle.table.specs.Asking.{_asks_, firstNo}
 use Rattle.table.specs.Checking.{question1, question5, question7, refusal}
 use Rattle.table.specs.Laws.Accepted.{IsTable}
 use Rattle.table.specs.Laws.NotRefused.{not-refused, reads-back}
@@ -54,10 +55,10 @@ module _ (t : Tree) (l : T (listed t)) (m : T (named t 0)) where
       rw (eq-eqb _ 0 z, le-leb _ _ o, le-leb _ _ n) refl
 
   walk-asked : (p : Bool) → eqb (surveyRefusal (cond p (surveyOf t 0) unfit)) 0 ≡ ((true and p) and leb (weight t 0) mostWeight)
-  unfolding _and_
+  unfolding _and_ firstNo
   walk-asked true = rw (T-is (named t 0) m) (seven (leb (weight t 0) mostWeight))
     where
-      seven : (b : Bool) → eqb (cond b 0 7) 0 ≡ b
+      seven : (b : Bool) → eqb (firstNo (7 asks b ∷ [])) 0 ≡ b
       seven true = refl
       seven false = refl
   walk-asked false = refl

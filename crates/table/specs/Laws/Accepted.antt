@@ -1,7 +1,7 @@
 -- A table that checking does not refuse is the table of an accepted tree.
-use mathlib.Core.Path.{_≡_, subst, sym, refl, ap, _∙_}
+use mathlib.Core.Path.{_≡_, subst, sym, ap, _∙_}
 use mathlib.Core.Bool.{false, _||_, _&&_, Bool, true}
-use mathlib.Core.List.{List, [], _∷_}
+use mathlib.Core.List.{List}
 use Prim.Native.Nat.{ℕ, zero, suc, _<_, _/_, _%_, _+_, _*_}
 use native.Mathlib.Omega.{arith}
 use lib.Dec.{T, leb, eqb, le→leb, ltb, eqb→eq, leb→le}
@@ -14,9 +14,10 @@ use Rattle.table.specs.Trees.{Forest, nil, _▸_, size, records}
 use Rattle.table.specs.Questions.{arity, limitInRange, kindInRange, listed, listedIn, Accepted}
 use Rattle.table.specs.Bytes.{AreBytes}
 use Rattle.table.specs.Table.{numFrom, kindFrom, limitFrom, firstNode, childByte, field, firstOnes, afterOnes, forest, formTrees, each, top, decode, encode, recordCount}
-use Rattle.table.specs.Checking.{kindListed, limitListed, limitCount, recordListed, recordInRange, firstNo, question1, question2, question3, question4, question5, question6, question7, questions, refusal}
+use Rattle.table.specs.Checking.{kindListed, limitListed, limitCount, recordListed, recordInRange, question1, question2, question3, question4, question5, question6, question7, questions, refusal}
 use Rattle.table.specs.Laws.RoundTrip.{size-first, size-after, length-encode}
 use Rattle.table.specs.Laws.Canonical.{bytes-drop, encode-decode}
+use Rattle.table.specs.Laws.Asking.{Yes, all-yes, numbered}
 
 kind-arity : (k c s v : ℕ) → c < 256 → T (kindListed k c s v) → T (arity (kindFrom k (numFrom s v)) c)
 unfolding arity kindFrom
@@ -86,32 +87,14 @@ pub decode-listed : (b : List ℕ) → size (forest (recordCount b) b) ≡ 1 →
 unfolding decode
 decode-listed b e h = top-listed _ e h
 
--- ---- the seven answers
-
-unfoldable pub Yes : List Bool → Type 0
-Yes [] = Unit {0}
-Yes (q ∷ qs) = T q × Yes qs
-
-all-yes : (i : ℕ) (qs : List Bool) → 0 < i → firstNo i qs ≡ 0 → Yes qs
-unfolding firstNo Yes
-all-yes i [] h e = tt
-all-yes i (true ∷ qs) h e = (tt, all-yes (suc i) qs (omega arith) e)
-all-yes i (false ∷ qs) h e = absurd (omega arith)
-
-pub yes-all : (i : ℕ) (qs : List Bool) → Yes qs → firstNo i qs ≡ 0
-unfolding firstNo Yes
-yes-all i [] h = refl
-yes-all i (true ∷ qs) h = yes-all (suc i) qs (h .1)
-yes-all i (false ∷ qs) h = absurd (h .0)
-
 pub record IsTable (b : List ℕ) : Type 0 where
   pub accepted : Accepted (decode b)
   pub back : encode (decode b) ≡ b
 
 pub is-table : (b : List ℕ) → AreBytes b → refusal b ≡ 0 → IsTable b
-unfolding refusal question1 question2 question3 question4 question5 question6 question7 Yes
+unfolding refusal questions question1 question2 question3 question4 question5 question6 question7 numbered Yes
 is-table b h e =
-    let y = all-yes 1 (questions b) (omega arith) e in
+    let y = all-yes (questions b) tt e in
     let l = both _ _ (y .0) in
     let m = both _ _ (l .0) in
     let d = both _ _ (y .1 .1 .1 .1 .0) in

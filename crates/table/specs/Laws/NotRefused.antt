@@ -18,7 +18,7 @@ use Rattle.table.specs.Table.{raw, flag, kindByte, valueNum, loopByte, l
 use Rattle.table.specs.Checking.{kindListed, limitListed, recordListed, limitCount, recordInRange, question1, question2, question3, question4, question5, question6, question7, questions, refusal}
 use Rattle.table.specs.Laws.Trees.{some-records}
 use Rattle.table.specs.Laws.RoundTrip.{WritesKind, WritesLimit, WritesNode, Writes, WritesAll, flag-low, flag-high, kind-value, limit-most, head-bytes, drop-bytes, children-bytes, decode-encode, length-encode}
-use Rattle.table.specs.Laws.Accepted.{Yes, yes-all}
+use Rattle.table.specs.Laws.Asking.{Yes, yes-all}
 
 -- ---- each node can be written
 
@@ -176,14 +176,14 @@ pub whole-form : (t : Tree) → T (formTrees (recordCount (encode t)) 1 (encode 
 whole-form t = rw (count-records t) (rw (← append-nil (encode t)) (subst T (sym (form-tree t 0 0 [])) (unfold formTrees in tt)))
 
 pub not-refused : (t : Tree) → Accepted t → refusal (encode t) ≡ 0
-unfolding refusal question1 question2 question3 question4 question5 question6 question7 Yes
+unfolding refusal questions question1 question2 question3 question4 question5 question6 question7 Yes
 not-refused t a =
     let e = reads-back t (a .listed) in
     let w : length (encode t) ≡ recordLength * records t = length-encode t in
     let z : length (encode t) % recordLength ≡ 0 = omega arith in
     let o : recordLength ≤ length (encode t) = omega (arith, some-records t) in
     let s : length (encode t) ≤ recordLength * mostRecords = omega (arith, a .short) in
-    yes-all 1 (questions (encode t)) (
+    yes-all (questions (encode t)) (
       join-and _ _ (join-and _ _ (subst (λ x. T (eqb x 0)) (sym z) tt) (le→leb _ _ o)) (le→leb _ _ s),
       (
         whole-each recordListed record-listed t (a .listed),
