@@ -1,8 +1,8 @@
 // Runs document 01's cases that are not starred, L, M and N, and prints what the library answers. data/ holds their tables; an absent one is empty.
-use calls::Checked;
-use calls::HOW_MANY_VALUES;
-use calls::Quote;
 use libc::STDOUT_FILENO;
+use quoting::Checked;
+use quoting::HOW_MANY_VALUES;
+use quoting::Quote;
 use table::MOST_RECORDS;
 use table::RECORD_LENGTH;
 
@@ -21,7 +21,7 @@ fn quote(path: &[u8]) {
     let mut table = [0u8; ROOM];
     let file = files::load(path, &mut table);
     let len = file.len;
-    let answer = calls::figure(&table[..len], &[0; HOW_MANY_VALUES]);
+    let answer = quoting::figure(&table[..len], &[0; HOW_MANY_VALUES]);
     match answer {
         Quote::Figure(figure) => say(path, b" figure ", figure),
         Quote::Refused(number) => say(path, b" refused ", number),
@@ -32,7 +32,7 @@ fn check(path: &[u8]) {
     let mut table = [0u8; ROOM];
     let file = files::load(path, &mut table);
     let len = file.len;
-    let answer = calls::check(&table[..len]);
+    let answer = quoting::check(&table[..len]);
     match answer {
         Checked::Accepted(records) => say(path, b" accepted ", records as u64),
         Checked::Refused(number) => say(path, b" refused ", number),

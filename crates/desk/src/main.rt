@@ -1,8 +1,8 @@
 // The desk program: quotes tree.tab with values.tab, both in the folder that it runs in, on one line.
-use calls::HOW_MANY_VALUES;
-use calls::Quote;
-use calls::VALUE_LENGTH;
+use deskfiles::VALUE_LENGTH;
 use libc::STDOUT_FILENO;
+use quoting::HOW_MANY_VALUES;
+use quoting::Quote;
 use table::MOST_RECORDS;
 use table::RECORD_LENGTH;
 
@@ -26,7 +26,7 @@ fn main() {
     }
     let tree_len = t.len;
     let values_len = v.len;
-    let quote = calls::quote_files(&tree[..tree_len], &values[..values_len]);
+    let quote = deskfiles::quote_files(&tree[..tree_len], &values[..values_len]);
     match quote {
         Quote::Figure(figure) => say(b"figure ", figure),
         Quote::Refused(number) => say(b"refused ", number),

@@ -6,8 +6,8 @@ use Prim.Native.Nat.{ℕ}
 use lib.Dec.{T}
 use lib.ListN.{set, take}
 use Rattle.table.specs.Table.{decode, recordCount}
-use Rattle.calls.specs.Answers.{checkAnswer, figureAnswer, quotedFigure, quotedRefusal}
-use Rattle.calls.specs.declared.Checked.{Checked}
+use Rattle.quoting.specs.Answers.{checkAnswer, figureAnswer, quotedFigure, quotedRefusal}
+use Rattle.quoting.specs.declared.Checked.{Checked}
 use Rattle.graft.specs.Graft.{uses}
 use Rattle.graft.specs.Answers.{graftedLength, graftedRefusal}
 use Rattle.graft.specs.declared.Grafted.{Grafted}

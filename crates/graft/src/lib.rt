@@ -8,7 +8,7 @@ ghost use lib.ListN.{drop, length};
 ghost use Rattle.table.specs.Numbers.{mostLoops, mostRecords, recordLength, wholeRun};
 ghost use Rattle.table.specs.Table.{decode, encode, firstNode, recordCount};
 ghost use Rattle.rewrite.specs.Writing.{front};
-ghost use Rattle.calls.specs.Answers.{over};
+ghost use Rattle.quoting.specs.Answers.{over};
 ghost use Rattle.graft.specs.Graft.{isSymbol, rename, renamedLimit};
 ghost use Rattle.table.specs.Laws.Accepted.{IsTable};
 ghost use Rattle.graft.specs.Answers.{graftAnswer, graftWrites, question11};
@@ -269,7 +269,7 @@ fn put_graft(host: &[u8], sent: &[u8], symbol: u64, out: &mut [u8]) -> Grafted
     if out.len() < len {
         return Grafted::Refused(8);
     }
-    calls::write_bytes(&work, len, out);
+    quoting::write_bytes(&work, len, out);
     Grafted::Written(len)
 }
 

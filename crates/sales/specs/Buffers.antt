@@ -7,9 +7,10 @@ use lib.ListN.{length, drop, length-append, length-take}
 use Rattle.io.specs.Counts.{Counts}
 use Rattle.table.specs.Table.{encode}
 use Rattle.table.specs.Laws.Asking.{by-refusals}
-use Rattle.calls.specs.declared.Ending.{Ending}
-use Rattle.calls.specs.declared.Simplified.{Simplified}
-use Rattle.calls.specs.Answers.{made, madeAnswer, over, simplifyAnswer, simplifyRefusal, simplifyWrites}
+use Rattle.simplifying.specs.declared.Ending.{Ending}
+use Rattle.simplifying.specs.declared.Simplified.{Simplified}
+use Rattle.quoting.specs.Answers.{over}
+use Rattle.simplifying.specs.Answers.{made, madeAnswer, simplifyAnswer, simplifyRefusal, simplifyWrites}
 
 -- a written table stands at the buffer's front
 unfoldable pub Within : Simplified → (buffer : List ℕ) → Type 0

@@ -1,9 +1,9 @@
 // The sales desk's program: simplifies tree.tab to simple.tab, both in the folder that it runs in, and says so on one line. Its one argument is the allowance of steps; without it there is none.
 use arguments::Allowance;
-use calls::Ending;
-use calls::Simplified;
 use libc::STDERR_FILENO;
 use libc::STDOUT_FILENO;
+use simplifying::Ending;
+use simplifying::Simplified;
 use table::MOST_RECORDS;
 use table::RECORD_LENGTH;
 ghost use Rattle.io.specs.Counts.{Counts};
@@ -62,7 +62,7 @@ fn refuse(number: u64) {
 
 // Simplifies the tree into the lent buffer, and delivers what was written there.
 fn simplify_into(tree: &[u8], allowance: u64, simple: &mut [u8]) {
-    let answer = calls::simplify(tree, allowance, simple);
+    let answer = simplifying::simplify(tree, allowance, simple);
     match answer {
         Simplified::Written(len, steps, ending) => deliver(simple, len, steps, ending),
         Simplified::Refused(number) => refuse(number),

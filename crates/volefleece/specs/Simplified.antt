@@ -1,7 +1,7 @@
 -- The numbers of simplifying's answer, as C gets them.
 use mathlib.Core.Path.{_≡_}
-use Rattle.calls.specs.Answers.{simplifiedFinished, simplifiedLength, simplifiedRefusal, simplifiedSteps}
-use Rattle.calls.specs.declared.Simplified.{Simplified}
+use Rattle.simplifying.specs.Answers.{simplifiedFinished, simplifiedLength, simplifiedRefusal, simplifiedSteps}
+use Rattle.simplifying.specs.declared.Simplified.{Simplified}
 use Rattle.volefleece.specs.declared.VfSimplified.{VfSimplified}
 
 pub record Numbers (r : VfSimplified) (answer : Simplified) : Type 0 where

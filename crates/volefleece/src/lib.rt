@@ -1,19 +1,19 @@
 // The C interface: thin wrappers of the outside calls, whose answers become structs of numbers. include/volefleece.h declares them.
-use calls::Checked;
-use calls::Ending;
-use calls::Listed;
-use calls::Quote;
-use calls::Simplified;
 use graft::Grafted;
+use quoting::Checked;
+use quoting::Listed;
+use quoting::Quote;
+use simplifying::Ending;
+use simplifying::Simplified;
 ghost use mathlib.Core.Path.{_≡_};
 ghost use lib.ListN.{take};
-ghost use Rattle.calls.specs.Answers.{checkAnswer, checkedRefusal, checkedRecords};
-ghost use Rattle.calls.specs.Answers.{figureAnswer, quotedRefusal, quotedFigure};
-ghost use Rattle.calls.specs.Promises.{Promised};
+ghost use Rattle.quoting.specs.Answers.{checkAnswer, checkedRefusal, checkedRecords};
+ghost use Rattle.quoting.specs.Answers.{figureAnswer, quotedRefusal, quotedFigure};
+ghost use Rattle.quoting.specs.Promises.{Promised};
 ghost use Rattle.evaluate.specs.Evaluate.{valuesOf};
 ghost use Rattle.table.specs.Table.{decode};
-ghost use Rattle.calls.specs.Answers.{listAnswer, listedRefusal, listedPairs, listWrites, over};
-ghost use Rattle.calls.specs.Answers.{finishedNumber, simplifyAnswer, simplifyWrites};
+ghost use Rattle.quoting.specs.Answers.{listAnswer, listedRefusal, listedPairs, listWrites, over};
+ghost use Rattle.simplifying.specs.Answers.{finishedNumber, simplifyAnswer, simplifyWrites};
 ghost use Rattle.graft.specs.Answers.{graftAnswer, graftWrites, graftedLength, graftedRefusal};
 ghost use Rattle.graft.specs.Promises.{GraftPromised};
 ghost use Rattle.volefleece.specs.Simplified.{Numbers};
@@ -28,7 +28,7 @@ pub struct VfChecked {
 pub extern "C" fn vf_check(table: &[u8]) -> VfChecked
     ensures { λ r. ⌜ (r .refused ≡ checkedRefusal (checkAnswer (now (table .entry)))) × (r .records ≡ checkedRecords (checkAnswer (now (table .entry)))) ⌝ }
 {
-    let answer = calls::check(table);
+    let answer = quoting::check(table);
     match answer {
         Checked::Accepted(records) => VfChecked {
             refused: 0,
@@ -52,7 +52,7 @@ pub extern "C" fn vf_figure(table: &[u8], values: &[u64]) -> VfFigureAnswer
     ensures promise { λ r. ⌜ (r .refused ≡ 0 → Promised (valuesOf (now (values .entry))) (decode (now (table .entry))) (r .figure)) ⌝ }
     ensures answer { λ r. ⌜ (r .refused ≡ quotedRefusal (figureAnswer (now (table .entry)) (now (values .entry)))) × (r .figure ≡ quotedFigure (figureAnswer (now (table .entry)) (now (values .entry)))) ⌝ }
 {
-    let answer = calls::figure(table, values);
+    let answer = quoting::figure(table, values);
     match answer {
         Quote::Figure(figure) => VfFigureAnswer {
             refused: 0,
@@ -76,7 +76,7 @@ pub extern "C" fn vf_list(table: &[u8], values: &[u64], out: &mut [u64]) -> VfLi
     ensures answer { λ r. ⌜ (r .refused ≡ listedRefusal (listAnswer (now (table .entry)) (now (values .entry)) (now (out .entry)))) × (r .pairs ≡ listedPairs (listAnswer (now (table .entry)) (now (values .entry)) (now (out .entry)))) ⌝ }
     ensures written { λ r. ⌜ now (out .exit) ≡ over (listWrites (now (table .entry)) (now (values .entry)) (now (out .entry))) (now (out .entry)) ⌝ }
 {
-    let answer = calls::list(table, values, out);
+    let answer = quoting::list(table, values, out);
     match answer {
         Listed::Pairs(pairs) => VfListAnswer {
             refused: 0,
@@ -112,7 +112,7 @@ pub extern "C" fn vf_simplify(table: &[u8], allowance: u64, out: &mut [u8]) -> V
     ensures answer { λ r. ⌜ Numbers r (simplifyAnswer (now (table .entry)) allowance (now (out .entry))) ⌝ }
     ensures written { λ r. ⌜ now (out .exit) ≡ over (simplifyWrites (now (table .entry)) allowance (now (out .entry))) (now (out .entry)) ⌝ }
 {
-    let answer = calls::simplify(table, allowance, out);
+    let answer = simplifying::simplify(table, allowance, out);
     match answer {
         Simplified::Written(length, steps, ending) => VfSimplified {
             refused: 0,

@@ -22,9 +22,9 @@ use Rattle.table.specs.Laws.Asking.{Yes, all-yes, by-refusals, numbered}
 use Rattle.table.specs.Laws.Reading.{part-to}
 use Rattle.table.specs.Laws.Refusal.{check-passed, check-passes, check-stops}
 use Rattle.table.specs.Laws.RoundTrip.{length-encode}
-use Rattle.calls.specs.Answers.{over}
-use Rattle.calls.specs.Laws.Answers.{refuses, writes}
-use Rattle.calls.specs.Laws.Copies.{take-over}
+use Rattle.quoting.specs.Answers.{over}
+use Rattle.quoting.specs.Laws.Answers.{refuses, writes}
+use Rattle.quoting.specs.Laws.Copies.{take-over}
 use Rattle.graft.specs.declared.Grafted.{Grafted}
 use Rattle.graft.specs.Graft.{graft}
 use Rattle.graft.specs.Answers.{graftAnswer, graftQuestions, graftRefusal, graftTable, graftWrites, graftedLength, graftedRefusal, question11, question12}

@@ -18,12 +18,12 @@ use Rattle.table.specs.Laws.Accepted.{IsTable}
 use Rattle.table.specs.Laws.Asking.{answered}
 use Rattle.evaluate.specs.Evaluate.{figure, fits, valuesOf}
 use Rattle.evaluate.specs.Laws.Ranges.{figure-most}
-use Rattle.calls.specs.Values.{ceiling, question9, ranged, valuesRefusal}
-use Rattle.calls.specs.Answers.{checkAnswer, figureAnswer, quotedFigure, quotedRefusal}
-use Rattle.calls.specs.declared.Checked.{Checked}
-use Rattle.calls.specs.declared.Quote.{Quote}
-use Rattle.calls.specs.Laws.Figures.{figure-is, figure-of, figured}
-use Rattle.calls.specs.Laws.Values.{nine-values, values-nine}
+use Rattle.quoting.specs.Values.{ceiling, question9, ranged, valuesRefusal}
+use Rattle.quoting.specs.Answers.{checkAnswer, figureAnswer, quotedFigure, quotedRefusal}
+use Rattle.quoting.specs.declared.Checked.{Checked}
+use Rattle.quoting.specs.declared.Quote.{Quote}
+use Rattle.quoting.specs.Laws.Figures.{figure-is, figure-of, figured}
+use Rattle.quoting.specs.Laws.Values.{nine-values, values-nine}
 use Rattle.graft.specs.Graft.{graft, uses}
 use Rattle.graft.specs.Answers.{graftTable, question11, question12}
 use Rattle.graft.specs.Promises.{GraftPromised, Quoted, hostValues}

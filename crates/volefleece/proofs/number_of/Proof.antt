@@ -1,4 +1,4 @@
-use Rattle.calls.specs.Answers.{finishedNumber}
+use Rattle.simplifying.specs.Answers.{finishedNumber}
 use borrow.Author.Needs.{needs}
 use Rattle.volefleece.proofs.number_of.Statement.{statement}
 use Rattle.volefleece.proofs.number_of.Tie as tie

@@ -1,6 +1,6 @@
 use mathlib.Core.Path.{refl, sym, _∙_}
 use borrow.Author.Needs.{needs}
-use Rattle.calls.specs.Answers.{checkedRefusal, checkedRecords}
+use Rattle.quoting.specs.Answers.{checkedRefusal, checkedRecords}
 use Rattle.volefleece.proofs.vf_check.Statement.{statement}
 use Rattle.volefleece.proofs.vf_check.Tie as tie
 

@@ -1,7 +1,7 @@
 use mathlib.Core.Path.{refl, sym, _∙_}
 use borrow.Author.Needs.{needs}
-use Rattle.calls.specs.Promises.{Promises}
-use Rattle.calls.specs.Answers.{quotedRefusal, quotedFigure}
+use Rattle.quoting.specs.Promises.{Promises}
+use Rattle.quoting.specs.Answers.{quotedRefusal, quotedFigure}
 use Rattle.volefleece.proofs.vf_figure.Statement.{statement}
 use Rattle.volefleece.proofs.vf_figure.Tie as tie
 

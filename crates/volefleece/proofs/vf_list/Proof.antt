@@ -1,6 +1,6 @@
 use mathlib.Core.Path.{refl, sym, _∙_}
 use borrow.Author.Needs.{needs}
-use Rattle.calls.specs.Answers.{listedRefusal, listedPairs}
+use Rattle.quoting.specs.Answers.{listedRefusal, listedPairs}
 use Rattle.volefleece.proofs.vf_list.Statement.{statement}
 use Rattle.volefleece.proofs.vf_list.Tie as tie
 

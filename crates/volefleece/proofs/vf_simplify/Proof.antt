@@ -1,5 +1,5 @@
 use mathlib.Core.Path.{refl, sym, _∙_}
-use Rattle.calls.specs.Answers.{simplifiedFinished, simplifiedLength, simplifiedRefusal, simplifiedSteps}
+use Rattle.simplifying.specs.Answers.{simplifiedFinished, simplifiedLength, simplifiedRefusal, simplifiedSteps}
 use borrow.Author.Needs.{needs}
 use Rattle.volefleece.proofs.vf_simplify.Statement.{statement}
 use Rattle.volefleece.proofs.vf_simplify.Tie as tie

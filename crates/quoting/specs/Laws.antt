@@ -1,0 +1,7 @@
+-- Laws, in the order in which they lean on each other.
+pub mod Copies
+pub mod Answers
+pub mod Values
+pub mod Figures
+pub mod Evaluated
+pub mod Promises

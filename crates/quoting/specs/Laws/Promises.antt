@@ -1,0 +1,62 @@
+-- The figure call keeps demand 2's promises.
+use mathlib.Core.Path.{_≡_, refl, ap, sym, subst, _∙_}
+use mathlib.Core.List.{List}
+use Prim.Native.Nat.{ℕ, _*_, suc}
+use native.Mathlib.Omega.{arith}
+use lib.ListN.{length, take}
+use Rattle.table.specs.Trees.{Tree}
+use Rattle.table.specs.Bytes.{AreBytes}
+use Rattle.table.specs.Table.{decode}
+use Rattle.table.specs.Questions.{Accepted}
+use Rattle.table.specs.Laws.Accepted.{is-table}
+use Rattle.table.specs.Laws.Asking.{by-refusals}
+use Rattle.evaluate.specs.Evaluate.{Values, valuesOf, figure}
+use Rattle.lists.specs.Pairs.{Pairs, ever, numbers, run, width}
+use Rattle.evaluate.specs.ListPairs.{listPairs}
+use Rattle.evaluate.specs.Laws.ListPairs.{list-pairs}
+use Rattle.evaluate.specs.Laws.Covered.{covered}
+use Rattle.evaluate.specs.Laws.Reached.{reached}
+use Rattle.quoting.specs.declared.Listed.{Listed}
+use Rattle.quoting.specs.declared.Quote.{Quote}
+use Rattle.quoting.specs.Answers.{figureAnswer, listAnswer, listRefusal, listWrites, listedPairs, listedRefusal, over}
+use Rattle.quoting.specs.Promises.{ListPromises, Promised, Promises}
+use Rattle.quoting.specs.Laws.Copies.{take-over}
+use Rattle.quoting.specs.Laws.Figures.{figured}
+use Rattle.quoting.specs.Laws.Evaluated.{Lists}
+
+figure-promised : (v : Values) (t : Tree) → Accepted t → Promised v t (figure v t)
+figure-promised v t a = record { covered = covered v t; reached = λ h. reached v t h (a .listed) }
+
+pub figure-promises : (b vs : List ℕ) → AreBytes b → Promises b vs (figureAnswer b vs)
+unfolding Promises
+figure-promises b vs h = λ p.
+    let f = figured b vs p in
+    subst (Promised (valuesOf vs) (decode b)) (sym (f .is)) (figure-promised (valuesOf vs) (decode b) (is-table b h (f .accepted) .accepted))
+
+-- an answer that is the figure call's keeps them too
+pub kept : (b vs : List ℕ) → AreBytes b → (r : Quote) → r ≡ figureAnswer b vs → (r ≡ figureAnswer b vs) × Promises b vs r
+kept b vs h r e = (e, subst (Promises b vs) (sym e) (figure-promises b vs h))
+
+-- ---- the list call
+
+long-numbers : (p : Pairs) → length (numbers p) ≡ 2 * suc (width p)
+unfolding numbers width
+long-numbers (ever v) = refl
+long-numbers (run v c p) = omega (arith, long-numbers p)
+
+take-numbers : (p : Pairs) (out : List ℕ) → take (2 * suc (width p)) (over (numbers p) out) ≡ numbers p
+take-numbers p out = ap (λ n. take n (over (numbers p) out)) (sym (long-numbers p)) ∙ take-over (numbers p) out
+
+-- an answer that is the list call's, with its buffer, keeps them
+pub list-kept : (b vs out : List ℕ) {r : Listed} {x : List ℕ} → Lists b vs out r x → (r ≡ listAnswer b vs out) × ((x ≡ over (listWrites b vs out) out) × ListPromises b vs r x)
+unfolding listAnswer listWrites ListPromises listedRefusal listedPairs
+list-kept b vs out (e, w) = (e, (w, rw (e, w) kept-by))
+  where
+    p : Pairs
+    p = listPairs (valuesOf vs) (decode b)
+
+    kept-by : ListPromises b vs (listAnswer b vs out) (over (listWrites b vs out) out)
+    kept-by =
+        by-refusals (λ r y. ListPromises b vs r (over y out)) (listRefusal b vs out) _ Listed.Refused _ _
+        (λ n z. record { pairs = p; are = list-pairs (valuesOf vs) (decode b); many = refl; written = take-numbers p out })
+        (λ n z. absurd (n z))

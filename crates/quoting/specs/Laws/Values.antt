@@ -1,0 +1,69 @@
+-- The questions about values. Question 9 as a program puts it, value by value, and what it says of each.
+use mathlib.Core.Path.{_≡_, refl, sym, _∙_}
+use mathlib.Core.Bool.{true, false}
+use mathlib.Core.List.{List, [], _∷_}
+use Prim.Native.Nat.{ℕ, zero, suc, _+_, _<_, _≤_}
+use native.Mathlib.Nat.{add-zero}
+use native.Mathlib.Omega.{arith}
+use lib.Dec.{T, leb→le, eqb→eq}
+use lib.ListN.{length, getD, drop}
+use lib.Seq.{drop-cons, drop-length}
+use borrow.Author.Tests.{eq-eqb, ne-eqb, le-leb, lt-leb, lt-ltb}
+use Rattle.booleans.specs.Tests.{_and_}
+use Rattle.booleans.specs.Laws.{both}
+use Rattle.table.specs.Numbers.{howManyValues, firstTimeSymbol, mostCount}
+use Rattle.evaluate.specs.Evaluate.{valuesOf}
+use Rattle.table.specs.Laws.Asking.{Yes, all-yes, numbered, yes-all}
+use Rattle.quoting.specs.Values.{ceiling, question9, ranged, valueQuestions, valuesRefusal}
+
+pub values-nine : (b vs : List ℕ) → valuesRefusal b vs ≡ 0 → T (question9 vs)
+unfolding valuesRefusal valueQuestions numbered Yes
+values-nine b vs e = all-yes (valueQuestions b vs) tt e .0
+
+pub nine-values : (b vs : List ℕ) → T (question9 vs) → valuesRefusal b vs ≡ 0
+unfolding valuesRefusal valueQuestions Yes
+nine-values b vs h = yes-all (valueQuestions b vs) (h, tt)
+
+-- ---- question 9, value by value
+
+-- the values before i are in range, and the others are asked yet
+abbrev pub Asked : (vs : List ℕ) (i : ℕ) → Type 0
+Asked vs i = ranged 0 vs ≡ ranged i (drop i vs)
+
+pub none-asked : (vs : List ℕ) → Asked vs 0
+none-asked vs = refl
+
+pub one-asked : (vs : List ℕ) (i : ℕ) → i < length vs → Asked vs i → getD vs i 0 ≤ ceiling i → Asked vs (suc i)
+unfolding ranged _and_
+one-asked vs i l h r = h ∙ rw (drop-cons vs i 0 l, le-leb (getD vs i 0) (ceiling i) r) refl
+
+pub one-over : (vs : List ℕ) (i : ℕ) → i < length vs → length vs ≡ howManyValues → Asked vs i → ceiling i < getD vs i 0 → false ≡ question9 vs
+unfolding question9 ranged _and_
+one-over vs i l e h r = sym (rw (eq-eqb (length vs) howManyValues e) (h ∙ rw (drop-cons vs i 0 l, lt-leb (getD vs i 0) (ceiling i) r) refl))
+
+pub all-asked : (vs : List ℕ) (i : ℕ) → i ≡ length vs → length vs ≡ howManyValues → Asked vs i → true ≡ question9 vs
+unfolding question9 ranged _and_
+all-asked vs i q e h = sym (rw (eq-eqb (length vs) howManyValues e) (h ∙ rw (q, drop-length vs) refl))
+
+pub other-length : (vs : List ℕ) → (length vs ≡ howManyValues → ⊥) → false ≡ question9 vs
+unfolding question9 _and_
+other-length vs e = rw (ne-eqb (length vs) howManyValues e) refl
+
+-- ---- what it says of a value
+
+ranged-at : (i j : ℕ) (vs : List ℕ) → T (ranged i vs) → j < length vs → getD vs j 0 ≤ ceiling (i + j)
+unfolding ranged
+ranged-at i j [] h l = absurd (omega arith)
+ranged-at i zero (x ∷ xs) h l = rw add-zero (leb→le x (ceiling i) (both _ _ h .0))
+ranged-at i (suc j) (x ∷ xs) h l = let e : i + suc j ≡ suc i + j = omega arith in rw e (ranged-at (suc i) j xs (both _ _ h .1) (omega arith))
+
+pub counts-ranged : (vs : List ℕ) → T (question9 vs) → (k : ℕ) → k < firstTimeSymbol → valuesOf vs k ≤ mostCount
+unfolding question9
+counts-ranged vs h k l =
+    let (a, b) = both _ _ h in
+    let n = eqb→eq (length vs) howManyValues a in
+    let e : 0 + k ≡ k = omega arith in
+    omega (arith, rw e at (ranged-at 0 k vs b (omega arith)), low-ceiling k l)
+  where
+    low-ceiling : (k : ℕ) → k < firstTimeSymbol → ceiling k ≡ mostCount
+    low-ceiling k l = unfold ceiling in rw (lt-ltb k firstTimeSymbol l) refl

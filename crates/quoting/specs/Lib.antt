@@ -1,0 +1,7 @@
+-- Definitions, in the order of reading.
+pub mod Values
+pub mod Answers
+pub mod Promises
+pub mod Cases
+-- What is proved of them.
+pub mod Laws

@@ -1,0 +1,34 @@
+-- Demand 2: what a figure promises of the runs of the table's tree under the values it was quoted for.
+use mathlib.Core.Path.{_≡_}
+use mathlib.Core.List.{List}
+use Prim.Native.Nat.{ℕ, _*_, _≤_, suc}
+use lib.Dec.{T}
+use lib.ListN.{take}
+use Rattle.table.specs.Trees.{Tree}
+use Rattle.table.specs.Table.{decode}
+use Rattle.evaluate.specs.Evaluate.{Values, list, valuesOf}
+use Rattle.evaluate.specs.Runs.{Pass, Run, Costs, cost, limitFree}
+use Rattle.lists.specs.Pairs.{ArePairs, Pairs, numbers, width}
+use Rattle.quoting.specs.declared.Listed.{Listed}
+use Rattle.quoting.specs.declared.Quote.{Quote}
+use Rattle.quoting.specs.Answers.{listedPairs, listedRefusal, quotedFigure, quotedRefusal}
+
+pub record Promised (v : Values) (t : Tree) (x : ℕ) : Type 0 where
+  -- no admitted run costs more
+  pub covered : (r : Pass t) → Run v t r → cost v t r ≤ x
+  -- with no limits in the table, some admitted run costs exactly that
+  pub reached : T (limitFree t) → Costs v t x
+
+-- an answer that is no refusal promises this of its figure
+unfoldable pub Promises : (table values : List ℕ) → Quote → Type 0
+Promises b vs q = quotedRefusal q ≡ 0 → Promised (valuesOf vs) (decode b) (quotedFigure q)
+
+-- What the list call promises: it wrote the pairs of the tree's list, values strictly falling and the last count 0, for ever, and answers how many.
+pub record Listing (v : Values) (t : Tree) (count : ℕ) (buffer : List ℕ) : Type 0 where
+  pub pairs : Pairs
+  pub are : ArePairs (list v t) pairs
+  pub many : count ≡ suc (width pairs)
+  pub written : take (2 * count) buffer ≡ numbers pairs
+
+unfoldable pub ListPromises : (table values : List ℕ) → Listed → (buffer : List ℕ) → Type 0
+ListPromises b vs r buffer = listedRefusal r ≡ 0 → Listing (valuesOf vs) (decode b) (listedPairs r) buffer

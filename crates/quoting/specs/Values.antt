@@ -1,0 +1,33 @@
+-- A desk's values: what is asked of them (document 01, "Questions put to a call"), and when none is lower.
+use mathlib.Core.Bool.{Bool, true, cond}
+use mathlib.Core.List.{List, [], _∷_}
+use Prim.Native.Nat.{ℕ, suc, _≤_}
+use lib.Dec.{eqb, leb, ltb}
+use lib.ListN.{getD, length}
+use Rattle.booleans.specs.Tests.{_and_}
+use Rattle.table.specs.Numbers.{howManyValues, firstTimeSymbol, mostCount, mostTime}
+use Rattle.table.specs.Asking.{Question, _asks_, firstNo}
+
+-- the ceiling of value i
+unfoldable pub ceiling : ℕ → ℕ
+ceiling i = cond (ltb i firstTimeSymbol) mostCount mostTime
+
+-- each is at most its ceiling, the first being number i
+unfoldable pub ranged : ℕ → List ℕ → Bool
+ranged i [] = true
+ranged i (x ∷ xs) = leb x (ceiling i) and ranged (suc i) xs
+
+-- 9. exactly 32 values, each in its range, used or not
+unfoldable pub question9 : List ℕ → Bool
+question9 vs = eqb (length vs) howManyValues and ranged 0 vs
+
+-- every question about a desk's values for a table, put by each call that is lent both; 9 is the same for every table
+unfoldable pub valueQuestions : (table values : List ℕ) → List Question
+valueQuestions b vs = 9 asks question9 vs ∷ []
+
+unfoldable pub valuesRefusal : (table values : List ℕ) → ℕ
+valuesRefusal b vs = firstNo (valueQuestions b vs)
+
+-- w is none lower than v: each number is at least v's at the same place
+abbrev pub NoneLower : (v w : List ℕ) → Type 0
+NoneLower v w = (i : ℕ) → getD v i 0 ≤ getD w i 0

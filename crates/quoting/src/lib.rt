@@ -1,0 +1,157 @@
+// Checking, the figure and the list. Each answers with an enum: one case with what was asked for, one with the number of the question that says no.
+use table::FIRST_TIME_SYMBOL;
+use table::MOST_COUNT;
+use table::MOST_TIME;
+use table::RECORD_LENGTH;
+ghost use mathlib.Core.Path.{_≡_};
+ghost use Prim.Native.Nat.{_≤_};
+ghost use lib.ListN.{length, take};
+ghost use Rattle.table.specs.Numbers.{listRoom};
+ghost use Rattle.quoting.specs.Promises.{ListPromises, Promises};
+ghost use Rattle.quoting.specs.Values.{ceiling, question9, valuesRefusal};
+ghost use Rattle.quoting.specs.Answers.{checkAnswer, figureAnswer, listAnswer, listWrites, over};
+
+// How many values a desk holds.
+pub const HOW_MANY_VALUES: usize = 32;
+
+// Numbers that the list call's buffer holds at least.
+pub const LIST_ROOM: usize = 512;
+
+// Checking: how many records the accepted table has.
+pub enum Checked {
+    Accepted(usize),
+    Refused(u64),
+}
+
+// The figure call: the figure.
+pub enum Quote {
+    Figure(u64),
+    Refused(u64),
+}
+
+// The list call: how many pairs were written.
+pub enum Listed {
+    Pairs(usize),
+    Refused(u64),
+}
+
+// Puts questions 1 to 7 to a table of any bytes.
+pub fn check(table: &[u8]) -> Checked
+    ensures { λ r. ⌜ r ≡ checkAnswer (now (table .entry)) ⌝ }
+{
+    let number = table::refusal_of(table);
+    if number == 0 {
+        Checked::Accepted(table.len() / RECORD_LENGTH)
+    } else {
+        Checked::Refused(number)
+    }
+}
+
+// The ceiling of value i.
+pub fn ceiling_of(i: usize) -> u64
+    ensures { λ r. ⌜ r ≡ ceiling i ⌝ }
+{
+    if (i as u64) < FIRST_TIME_SYMBOL {
+        MOST_COUNT
+    } else {
+        MOST_TIME
+    }
+}
+
+// Question 9: exactly 32 values, each within its ceiling, used or not?
+fn values_allowed(values: &[u64]) -> bool
+    ensures { λ r. ⌜ r ≡ question9 (now (values .entry)) ⌝ }
+{
+    if values.len() != HOW_MANY_VALUES {
+        return false;
+    }
+    let mut i = 0;
+    while i < HOW_MANY_VALUES {
+        if ceiling_of(i) < values[i] {
+            return false;
+        }
+        i += 1;
+    }
+    true
+}
+
+// The first question about a desk's values for a table that says no, or 0: each call that is lent both asks here.
+fn values_refusal(table: &[u8], values: &[u64]) -> u64
+    ensures { λ r. ⌜ r ≡ valuesRefusal (now (table .entry)) (now (values .entry)) ⌝ }
+{
+    if values_allowed(values) { 0 } else { 9 }
+}
+
+// Writes the first n numbers of a list over the front of a buffer.
+fn write_front(list: &[u64; LIST_ROOM], n: usize, out: &mut [u64])
+    requires { ⌜ (length (now list) ≡ listRoom) × (n ≤ listRoom) × (listRoom ≤ length (now out)) ⌝ }
+    ensures { λ _. ⌜ now (out .exit) ≡ over (take n (now (list .entry))) (now (out .entry)) ⌝ }
+{
+    let mut i = 0;
+    while i < n {
+        out[i] = list[i];
+        i += 1;
+    }
+}
+
+// Writes the first n bytes of a table over the front of a buffer.
+pub fn write_bytes(table: &[u8], n: usize, out: &mut [u8])
+    requires { ⌜ (n ≤ length (now table)) × (n ≤ length (now out)) ⌝ }
+    ensures { λ _. ⌜ now (out .exit) ≡ over (take n (now (table .entry))) (now (out .entry)) ⌝ }
+{
+    let mut i = 0;
+    while i < n {
+        out[i] = table[i];
+        i += 1;
+    }
+}
+
+// The figure of a table's tree under a desk's values: questions 1 to 7, 9 and 10.
+pub fn figure(table: &[u8], values: &[u64]) -> Quote
+    ensures answer { λ r. ⌜ r ≡ figureAnswer (now (table .entry)) (now (values .entry)) ⌝ }
+    ensures promise { λ r. ⌜ Promises (now (table .entry)) (now (values .entry)) r ⌝ }
+{
+    let number = table::refusal_of(table);
+    if number != 0 {
+        return Quote::Refused(number);
+    }
+    let question = values_refusal(table, values);
+    if question != 0 {
+        return Quote::Refused(question);
+    }
+    let mut list = [0; LIST_ROOM];
+    let found = evaluate::evaluate(table, values, &mut list);
+    if found.fits {
+        Quote::Figure(list[0])
+    } else {
+        Quote::Refused(10)
+    }
+}
+
+// The list of a table's tree as pairs of value and count, written over the front of `out`: questions 1 to 10.
+pub fn list(table: &[u8], values: &[u64], out: &mut [u64]) -> Listed
+    ensures answer { λ r. ⌜ r ≡ listAnswer (now (table .entry)) (now (values .entry)) (now (out .entry)) ⌝ }
+    ensures written { λ r. ⌜ now (out .exit) ≡ over (listWrites (now (table .entry)) (now (values .entry)) (now (out .entry))) (now (out .entry)) ⌝ }
+    ensures promise { λ r. ⌜ ListPromises (now (table .entry)) (now (values .entry)) r (now (out .exit)) ⌝ }
+{
+    let number = table::refusal_of(table);
+    if number != 0 {
+        return Listed::Refused(number);
+    }
+    if out.len() < LIST_ROOM {
+        return Listed::Refused(8);
+    }
+    let question = values_refusal(table, values);
+    if question != 0 {
+        return Listed::Refused(question);
+    }
+    let mut list = [0; LIST_ROOM];
+    let found = evaluate::evaluate(table, values, &mut list);
+    if found.fits {
+        let n = found.len;
+        write_front(&list, 2 * n, out);
+        Listed::Pairs(n)
+    } else {
+        Listed::Refused(10)
+    }
+}
