@@ -9,7 +9,7 @@ use Rattle.table.specs.Numbers.{firstTimeSymbol, howManySymbols}
 use Rattle.table.specs.Table.{decode, encode}
 use Rattle.table.specs.Asking.{Question, _asks_, byRefusal, firstNo}
 use Rattle.table.specs.Checking.{question1, question5, question7, questions}
-use Rattle.graft.specs.Graft.{graft, uses}
+use Rattle.splice.specs.Graft.{graft, uses}
 use Rattle.graft.specs.declared.Grafted.{Grafted}
 
 -- 11. the replaced symbol is 16 to 31, and the sent table does not use it

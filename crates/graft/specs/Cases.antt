@@ -3,7 +3,7 @@ use mathlib.Core.Path.{_≡_, refl}
 use Prim.Native.Nat.{ℕ}
 use Rattle.table.specs.Trees.{Tree, around, rest}
 use Rattle.table.specs.Notation.{_/_at_, block, both, either, loop, sequence, symbol}
-use Rattle.graft.specs.Graft.{graft, inPlace, isSymbol, rename, renamedLimit}
+use Rattle.splice.specs.Graft.{graft, inPlace, isSymbol, rename, renamedLimit}
 
 -- (X/2@255, loop 3 of (X, 5)), X symbol 20
 pub host : (x : Tree) → Tree

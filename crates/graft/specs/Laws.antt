@@ -1,11 +1,7 @@
 -- Laws, in the order in which they lean on each other.
-pub mod Tables
 pub mod Renamed
 pub mod Grafted
 pub mod Result
 pub mod Figures
-pub mod Splice
-pub mod Renaming
-pub mod Splicing
 pub mod Making
 pub mod Answering

@@ -8,7 +8,7 @@ use lib.ListN.{set, take}
 use Rattle.table.specs.Table.{decode, recordCount}
 use Rattle.quoting.specs.Answers.{checkAnswer, figureAnswer, quotedFigure, quotedRefusal}
 use Rattle.quoting.specs.declared.Checked.{Checked}
-use Rattle.graft.specs.Graft.{uses}
+use Rattle.splice.specs.Graft.{uses}
 use Rattle.graft.specs.Answers.{graftedLength, graftedRefusal}
 use Rattle.graft.specs.declared.Grafted.{Grafted}
 

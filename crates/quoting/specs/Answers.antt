@@ -2,7 +2,7 @@
 use mathlib.Core.List.{List, [], _∷_, _++_}
 use Prim.Native.Nat.{ℕ, suc}
 use lib.Dec.{leb}
-use lib.ListN.{length, drop}
+use lib.ListN.{length}
 use Rattle.table.specs.Numbers.{listRoom}
 use Rattle.table.specs.Table.{decode, recordCount}
 use Rattle.table.specs.Asking.{Question, _asks_, byRefusal, firstNo}
@@ -14,10 +14,6 @@ use Rattle.quoting.specs.declared.Checked.{Checked}
 use Rattle.quoting.specs.declared.Quote.{Quote}
 use Rattle.quoting.specs.declared.Listed.{Listed}
 use Rattle.quoting.specs.Values.{valueQuestions}
-
--- a buffer with numbers written over its front, and the rest of it as it was
-unfoldable pub over : (front buffer : List ℕ) → List ℕ
-over front buffer = front ++ drop (length front) buffer
 
 -- ---- checking: questions 1 to 7
 

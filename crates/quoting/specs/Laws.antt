@@ -1,5 +1,4 @@
 -- Laws, in the order in which they lean on each other.
-pub mod Copies
 pub mod Answers
 pub mod Values
 pub mod Figures

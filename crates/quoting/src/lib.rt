@@ -9,7 +9,8 @@ ghost use lib.ListN.{length, take};
 ghost use Rattle.table.specs.Numbers.{listRoom};
 ghost use Rattle.quoting.specs.Promises.{ListPromises, Promises};
 ghost use Rattle.quoting.specs.Values.{ceiling, question9, valuesRefusal};
-ghost use Rattle.quoting.specs.Answers.{checkAnswer, figureAnswer, listAnswer, listWrites, over};
+ghost use Rattle.writing.specs.Over.{over};
+ghost use Rattle.quoting.specs.Answers.{checkAnswer, figureAnswer, listAnswer, listWrites};
 
 // How many values a desk holds.
 pub const HOW_MANY_VALUES: usize = 32;
@@ -90,18 +91,6 @@ fn write_front(list: &[u64; LIST_ROOM], n: usize, out: &mut [u64])
     let mut i = 0;
     while i < n {
         out[i] = list[i];
-        i += 1;
-    }
-}
-
-// Writes the first n bytes of a table over the front of a buffer.
-pub fn write_bytes(table: &[u8], n: usize, out: &mut [u8])
-    requires { ⌜ (n ≤ length (now table)) × (n ≤ length (now out)) ⌝ }
-    ensures { λ _. ⌜ now (out .exit) ≡ over (take n (now (table .entry))) (now (out .entry)) ⌝ }
-{
-    let mut i = 0;
-    while i < n {
-        out[i] = table[i];
         i += 1;
     }
 }

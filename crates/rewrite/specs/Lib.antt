@@ -1,9 +1,5 @@
--- Definitions, in the order of reading.
+-- Definitions.
 mod Nodes
-pub mod Writing
-pub mod Children
-pub mod Settled
-pub mod Blocks
-pub mod Sharing
+pub mod Wrote
 -- What is proved of them.
 pub mod Laws

@@ -9,7 +9,7 @@ use Rattle.table.specs.Table.{encode}
 use Rattle.table.specs.Laws.Asking.{by-refusals}
 use Rattle.simplifying.specs.declared.Ending.{Ending}
 use Rattle.simplifying.specs.declared.Simplified.{Simplified}
-use Rattle.quoting.specs.Answers.{over}
+use Rattle.writing.specs.Over.{over}
 use Rattle.simplifying.specs.Answers.{made, madeAnswer, simplifyAnswer, simplifyRefusal, simplifyWrites}
 
 -- a written table stands at the buffer's front

@@ -13,7 +13,8 @@ use Rattle.quoting.specs.declared.Quote.{Quote}
 use Rattle.simplifying.specs.declared.Simplified.{Simplified}
 use Rattle.quoting.specs.Values.{NoneLower}
 use Rattle.quoting.specs.Promises.{Promises}
-use Rattle.quoting.specs.Answers.{checkAnswer, checkedRefusal, figureAnswer, over, quotedFigure, quotedRefusal}
+use Rattle.writing.specs.Over.{over}
+use Rattle.quoting.specs.Answers.{checkAnswer, checkedRefusal, figureAnswer, quotedFigure, quotedRefusal}
 use Rattle.simplifying.specs.Answers.{endingOf, finishedNumber, simplifiedFinished, simplifiedLength, simplifiedRefusal, simplifiedSteps, simplifyAnswer, simplifyWrites}
 
 -- Simplifying the accepted table b under an allowance wrote the bytes `written`, with this count of steps, finished (1) or spent (0).

@@ -10,7 +10,7 @@ ghost use Prim.Native.Nat.{_≤_};
 ghost use lib.ListN.{length};
 ghost use Rattle.table.specs.Table.{encode};
 ghost use Rattle.subtrees.specs.Parts.{Simplifiable};
-ghost use Rattle.quoting.specs.Answers.{over};
+ghost use Rattle.writing.specs.Over.{over};
 ghost use Rattle.simplifying.specs.Demand.{Asked, Demand3};
 ghost use Rattle.simplifying.specs.Answers.{endingOf, made, madeAnswer, simplifiedLength, simplifyAnswer, simplifyWrites};
 
@@ -46,7 +46,7 @@ fn make_steps(table: &[u8], allowance: u64, out: &mut [u8]) -> Simplified
     let mut spare = [0; RECORD_LENGTH * MOST_RECORDS];
     let mut extents = [0; MOST_RECORDS];
     let mut marks = [0; MARKS * MOST_RECORDS];
-    quoting::write_bytes(table, len, &mut work);
+    writing::write_bytes(table, len, &mut work);
     let run = stepping::steps_in(
         &mut work,
         len,
@@ -56,7 +56,7 @@ fn make_steps(table: &[u8], allowance: u64, out: &mut [u8]) -> Simplified
         &mut spare,
     );
     let n = run.len;
-    quoting::write_bytes(&work, n, out);
+    writing::write_bytes(&work, n, out);
     Simplified::Written(n, run.steps, ending_of(run.finished))
 }
 

@@ -1,5 +1,5 @@
--- Definitions, in the order of reading.
+-- Definitions.
 mod Nodes
-pub mod Spots
+pub mod Steps
 -- What is proved of them.
 pub mod Laws

@@ -1,6 +1,6 @@
 -- Facts of a subtree that rules ask for, and how the program keeps those of every record.
 use mathlib.Core.Path.{_≡_}
-use mathlib.Core.Bool.{Bool, cond}
+use mathlib.Core.Bool.{Bool, cond, false, true}
 use mathlib.Core.List.{List}
 use Prim.Native.Nat.{ℕ, _+_, _*_, _-_, _<_, _≤_, max, min}
 use lib.Dec.{leb}
@@ -11,7 +11,8 @@ use Rattle.table.specs.Trees.{Forest, Tree, nil, node, _▸_, records, recordsI
 use Rattle.evaluate.specs.Closed.{symbolFree, symbolFreeIn}
 use Rattle.evaluate.specs.Evaluate.{name, nameIn, outward}
 use Rattle.subtrees.specs.Nodes.{Block, Choice, Kind, Loop, Sequence}
-use Rattle.subtrees.specs.Parts.{Simplifiable, subtree}
+use Rattle.table.specs.Checking.{IsTable}
+use Rattle.subtrees.specs.Parts.{subtree}
 use Rattle.subtrees.specs.declared.Below.{Below}
 
 -- ---- the outermost loop that a limit names: 0 where there is none, 1 and on the loops around the node, counted outward, 255 the whole run
@@ -47,6 +48,13 @@ symbolsIn f = cond (symbolFreeIn f) 0 1
 
 -- ---- what children come to
 
+-- a loop sees its body, the first child, from outside
+unfoldable pub isLoop : Kind → Bool
+isLoop (Block t) = false
+isLoop Sequence = false
+isLoop Choice = false
+isLoop (Loop n) = true
+
 abbrev pub noChild : Below
 noChild = record { records = 0; symbols = 0; named = wholeRun; reach = 0 }
 
@@ -81,7 +89,7 @@ pub record MarkedAt (b marks : List ℕ) (j : ℕ) : Type 0 where
 
 -- how many records each subtree has
 pub record Extents (b extents : List ℕ) : Type 0 where
-  pub simplifiable : Simplifiable b
+  pub table : IsTable b
   pub room : recordCount b ≤ length extents
   pub each : (j : ℕ) → j < recordCount b → getD extents j 0 ≡ records (subtree b j)
 

@@ -1,4 +1,4 @@
--- The marks of a record, by its bytes and what stands below it.
+-- The marks of a record, by its node and what stands below it.
 use mathlib.Core.Bool.{cond}
 use mathlib.Core.List.{List}
 use Prim.Native.Nat.{ℕ, _+_, _*_, min}
@@ -6,12 +6,8 @@ use lib.Dec.{eqb}
 use lib.ListN.{set}
 use Rattle.subtrees.specs.Facts.{marksEach}
 
--- byte 1, and whether there is a symbol below
-abbrev pub flagged : (flags symbols : ℕ) → ℕ
-flagged x y = cond (eqb x 0) y 1
-
--- byte 3, and the loop that the children name
-abbrev pub limitedName : (limit named : ℕ) → ℕ
+-- the loop that a limit names, 0 for none, and the one that the children name
+abbrev pub limitedName : (name named : ℕ) → ℕ
 limitedName l k = cond (eqb l 0) k (min l k)
 
 -- written one after the other

@@ -1,13 +1,12 @@
 -- The subtrees of a table, each read as the part of the table that starts at its record.
-use mathlib.Core.Path.{_≡_}
 use mathlib.Core.List.{List}
 use Prim.Native.Nat.{ℕ, _-_, _*_}
 use lib.Dec.{T}
 use lib.ListN.{drop}
 use Rattle.table.specs.Numbers.{recordLength}
-use Rattle.table.specs.Questions.{Accepted}
-use Rattle.table.specs.Table.{decode, encode, forest, recordCount, top}
+use Rattle.table.specs.Table.{decode, forest, recordCount, top}
 use Rattle.table.specs.Trees.{Forest, Tree}
+use Rattle.table.specs.Checking.{IsTable}
 use Rattle.evaluate.specs.Evaluate.{fits, zeros}
 
 -- the trees that b's records from record i on write: the subtree at that record, and then those that stand after it
@@ -17,8 +16,7 @@ treesAt b i = forest (recordCount b - i) (drop (recordLength * i) b)
 unfoldable pub subtree : List ℕ → ℕ → Tree
 subtree b i = top (treesAt b i)
 
--- a table that simplifying works on: its tree is accepted, and question 10 says yes with every symbol 0
+-- a table that simplifying works on: question 10 says yes with every symbol 0
 pub record Simplifiable (b : List ℕ) : Type 0 where
-  pub accepted : Accepted (decode b)
-  pub back : encode (decode b) ≡ b
+  pub table : IsTable b
   pub fits : T (fits zeros (decode b))

@@ -1,20 +1,29 @@
 // Facts of a table's subtrees, each given by its record: one pass over the table finds those of all.
 ghost use mathlib.Core.Path.{_≡_};
-ghost use mathlib.Core.Bool.{false};
-ghost use Prim.Native.Nat.{_+_, _*_, _<_, _≤_, max, min, suc};
+ghost use mathlib.Core.Bool.{cond, false};
+ghost use Prim.Native.Nat.{_+_, _*_, _<_, _≤_, max};
 ghost use lib.ListN.{length};
 ghost use Rattle.table.specs.Numbers.{mostRecords};
 ghost use Rattle.table.specs.Table.{recordCount};
-ghost use Rattle.subtrees.specs.Parts.{Simplifiable, treesAt};
-ghost use Rattle.subtrees.specs.Facts.{Known, Surveyed, belowAt, childIn, marksEach, outer};
-ghost use Rattle.subtrees.specs.Marks.{flagged, limitedName, marked};
-use table::MOST_RECORDS;
+ghost use Rattle.table.specs.Checking.{IsTable};
+ghost use Rattle.subtrees.specs.Parts.{treesAt};
+ghost use Rattle.evaluate.specs.Closed.{isPlain};
+ghost use Rattle.subtrees.specs.Facts.{Known, Surveyed, belowAt, childIn, isLoop, marksEach, outer};
+ghost use Rattle.subtrees.specs.Marks.{limitedName, marked};
+use table::Kind;
+use table::Number;
 use table::RECORD_LENGTH;
 use table::WHOLE_RUN;
 
-// Numbers that are kept of each record beside how many records its subtree has: whether it has a symbol (1 or 0), the loop that its list names,
-// the outermost loop that a limit in it names, and the same without its top's own limit.
+// Numbers that are kept of each record beside how many records its subtree has: first whether it has a symbol (1 or 0); then, at these places after it,
+// the loop that its list names, the outermost loop that a limit in it names, and the same without its top's own limit.
 pub const MARKS: usize = 4;
+
+pub const NAME: usize = 1;
+
+pub const REACH: usize = 2;
+
+pub const REACH_BELOW: usize = 3;
 
 // What a node's children come to: their records, whether they have a symbol (1 or 0), the innermost loop that a child's list names, and the outermost
 // that a limit in them names, both counted from the node.
@@ -34,6 +43,30 @@ impl Below {
         reach: 0,
     };
 }
+
+// ---- Tests of a node
+
+pub fn is_plain(number: Number) -> bool
+    ensures { λ r. ⌜ r ≡ isPlain number ⌝ }
+{
+    match number {
+        Number::Plain(_) => true,
+        Number::Symbol(_) => false,
+    }
+}
+
+fn is_loop(kind: Kind) -> bool
+    ensures { λ r. ⌜ r ≡ isLoop kind ⌝ }
+{
+    match kind {
+        Kind::Block(_) => false,
+        Kind::Sequence => false,
+        Kind::Choice => false,
+        Kind::Loop(_) => true,
+    }
+}
+
+// ---- Children
 
 fn larger_of(a: u8, b: u8) -> u8
     ensures { λ r. ⌜ r ≡ max a b ⌝ }
@@ -87,19 +120,27 @@ fn next_child(found: Below, body: bool, records: usize, symbols: u8, named: u8, 
 
 // The children of the node at record i, by their facts.
 fn below_of(table: &[u8], i: usize, extents: &[usize], marks: &[u8]) -> Below
-    requires { ⌜ Simplifiable (now table) ⌝ ∗ ⌜ i < recordCount (now table) ⌝ ∗ ⌜ Known (now table) (now extents) (now marks) (i + 1) ⌝ }
+    requires { ⌜ IsTable (now table) ⌝ ∗ ⌜ i < recordCount (now table) ⌝ ∗ ⌜ Known (now table) (now extents) (now marks) (i + 1) ⌝ }
     requires { ⌜ (recordCount (now table) ≤ length (now extents)) × (marksEach * recordCount (now table) ≤ length (now marks)) ⌝ }
     ensures { λ r. ⌜ r ≡ belowAt (treesAt (now (table .entry)) i) ⌝ }
 {
-    let start = RECORD_LENGTH * i;
+    let node = table::node_at(table, i);
+    let kind = node.kind;
     let mut found = Below::NONE;
-    let mut body = table[start] == 3;
-    let mut left = table::child_count(&table[start..]);
+    let mut body = is_loop(kind);
+    let mut left = table::children_at(table, i);
     let mut p = i + 1;
     while 0 < left {
         let m = MARKS * p;
         let records = extents[p];
-        found = next_child(found, body, records, marks[m], marks[m + 1], marks[m + 2]);
+        found = next_child(
+            found,
+            body,
+            records,
+            marks[m],
+            marks[m + NAME],
+            marks[m + REACH],
+        );
         p += records;
         body = false;
         left -= 1;
@@ -107,21 +148,23 @@ fn below_of(table: &[u8], i: usize, extents: &[usize], marks: &[u8]) -> Below
     found
 }
 
-// Whether there is a symbol, by a record's flags and by what stands below it.
-fn with_flags(flags: u8, symbols: u8) -> u8
-    ensures { λ r. ⌜ r ≡ flagged flags symbols ⌝ }
+// ---- Records
+
+// Whether there is a symbol, by whether the record has no flag and by what stands below it.
+fn with_symbol(flagless: bool, symbols: u8) -> u8
+    ensures { λ r. ⌜ r ≡ cond flagless symbols 1 ⌝ }
 {
-    if flags == 0 { symbols } else { 1 }
+    if flagless { symbols } else { 1 }
 }
 
-// The loop that a list names, by byte 3 of the node's record and by its children.
-fn with_limit(limit: u8, named: u8) -> u8
-    ensures { λ r. ⌜ r ≡ limitedName limit named ⌝ }
+// The loop that a list names, by the one that the node's limit names, 0 for none, and by its children.
+fn with_name(name: u8, named: u8) -> u8
+    ensures { λ r. ⌜ r ≡ limitedName name named ⌝ }
 {
-    if limit == 0 {
+    if name == 0 {
         return named;
     }
-    evaluate::inner_of(limit, named)
+    evaluate::inner_of(name, named)
 }
 
 fn put_marks(marks: &mut [u8], i: usize, symbols: u8, named: u8, reach: u8, below: u8)
@@ -130,30 +173,29 @@ fn put_marks(marks: &mut [u8], i: usize, symbols: u8, named: u8, reach: u8, belo
 {
     let at = MARKS * i;
     marks[at] = symbols;
-    marks[at + 1] = named;
-    marks[at + 2] = reach;
-    marks[at + 3] = below;
+    marks[at + NAME] = named;
+    marks[at + REACH] = reach;
+    marks[at + REACH_BELOW] = below;
 }
 
 // Keeps the facts of record i, where those of all later records are kept.
 fn mark_record(table: &[u8], i: usize, extents: &mut [usize], marks: &mut [u8])
-    requires { ⌜ Simplifiable (now table) ⌝ ∗ ⌜ i < recordCount (now table) ⌝ ∗ ⌜ Known (now table) (now extents) (now marks) (i + 1) ⌝ }
+    requires { ⌜ IsTable (now table) ⌝ ∗ ⌜ i < recordCount (now table) ⌝ ∗ ⌜ Known (now table) (now extents) (now marks) (i + 1) ⌝ }
     requires { ⌜ (recordCount (now table) ≤ length (now extents)) × (marksEach * recordCount (now table) ≤ length (now marks)) ⌝ }
     ensures { λ _. ⌜ Known (now (table .entry)) (now (extents .exit)) (now (marks .exit)) i ⌝ }
 {
     let below = below_of(table, i, extents, marks);
-    let start = RECORD_LENGTH * i;
-    let limit = table[start + 3];
-    let symbols = with_flags(table[start + 1], below.symbols);
-    let named = with_limit(limit, below.named);
-    let reach = larger_of(limit, below.reach);
+    let name = table::name_at(table, i);
+    let symbols = with_symbol(table::flagless_at(table, i), below.symbols);
+    let named = with_name(name, below.named);
+    let reach = larger_of(name, below.reach);
     extents[i] = below.records + 1;
     put_marks(marks, i, symbols, named, reach, below.reach);
 }
 
 // The facts of every record: one pass from the last to the first, in which each record is read once for itself and once as a child.
 pub fn survey(table: &[u8], extents: &mut [usize], marks: &mut [u8])
-    requires { ⌜ Simplifiable (now table) ⌝ ∗ ⌜ (recordCount (now table) ≤ length (now extents)) × (marksEach * recordCount (now table) ≤ length (now marks)) ⌝ }
+    requires { ⌜ IsTable (now table) ⌝ ∗ ⌜ (recordCount (now table) ≤ length (now extents)) × (marksEach * recordCount (now table) ≤ length (now marks)) ⌝ }
     ensures { λ _. ⌜ Surveyed (now (table .entry)) (now (extents .exit)) (now (marks .exit)) ⌝ }
 {
     let mut i = table.len() / RECORD_LENGTH;

@@ -1,4 +1,5 @@
 -- Document 01, "Questions put to a call": questions 1 to 7, put to a table's bytes, and the number of the first that says no.
+use mathlib.Core.Path.{_≡_}
 use mathlib.Core.Bool.{Bool, _&&_, _||_, true}
 use mathlib.Core.List.{List, [], _∷_}
 use Prim.Native.Nat.{ℕ, _/_, _%_, _*_}
@@ -8,8 +9,8 @@ use Rattle.booleans.specs.Tests.{_and_}
 use Rattle.table.specs.Asking.{Question, _asks_, firstNo}
 use Rattle.table.specs.Nodes.{Limit, Unlimited, AtMost}
 use Rattle.table.specs.Numbers.{wholeRun, mostLoops, recordLength, mostRecords, mostDepth, mostWeight}
-use Rattle.table.specs.Questions.{countInRange, kindInRange, depth, loops, named, weight}
-use Rattle.table.specs.Table.{field, firstNode, formTrees, each, recordCount, decode}
+use Rattle.table.specs.Questions.{Accepted, countInRange, kindInRange, depth, loops, named, weight}
+use Rattle.table.specs.Table.{field, firstNode, formTrees, each, recordCount, decode, encode}
 
 -- 1. a multiple of 16 from 16 to 8,192
 unfoldable pub question1 : List ℕ → Bool
@@ -75,3 +76,8 @@ questions b =
 -- the refusal's number, 0 for none
 unfoldable pub refusal : List ℕ → ℕ
 refusal b = firstNo (questions b)
+
+-- a table that questions 1 to 7 accept, as what follows them knows it: the table of an accepted tree
+pub record IsTable (b : List ℕ) : Type 0 where
+  pub accepted : Accepted (decode b)
+  pub back : encode (decode b) ≡ b

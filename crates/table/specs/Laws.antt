@@ -10,3 +10,4 @@ pub mod Written
 pub mod Reading
 pub mod Survey
 pub mod Refusal
+pub mod Tables

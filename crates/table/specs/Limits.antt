@@ -5,13 +5,13 @@ use Rattle.table.specs.Nodes.{Number, Limit, Unlimited, AtMost}
 use Rattle.booleans.specs.Tests.{_and_}
 use Rattle.table.specs.Trees.{Tree, node, Forest, nil, _▸_}
 
-unfoldable pub passes : (ℕ → Number → Bool) → Limit → Bool
-passes p Unlimited = true
-passes p (AtMost k m) = p k m
+unfoldable pub limitHolds : (ℕ → Number → Bool) → Limit → Bool
+limitHolds p Unlimited = true
+limitHolds p (AtMost k m) = p k m
 
 unfoldable mutual
   pub everyLimit : (ℕ → Number → Bool) → Tree → Bool
-  everyLimit p (node n f) = passes p (n .limit) and everyLimitIn p f
+  everyLimit p (node n f) = limitHolds p (n .limit) and everyLimitIn p f
 
   pub everyLimitIn : (ℕ → Number → Bool) → Forest → Bool
   everyLimitIn p nil = true

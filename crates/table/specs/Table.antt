@@ -82,6 +82,10 @@ firstNode b = record {
 unfoldable pub childByte : List ℕ → ℕ
 childByte b = getD b 2 0
 
+-- neither of the first record's numbers is a symbol
+unfoldable pub flagless : List ℕ → Bool
+flagless b = eqb (getD b 1 0) 0
+
 -- the first n trees of a forest, and the others
 unfoldable pub firstOnes : ℕ → Forest → Forest
 firstOnes zero f = nil

@@ -1,12 +1,11 @@
 // The reader of tree tables: the node of a record, and questions 1 to 7 of document 01.
 ghost use mathlib.Core.Path.{_≡_};
 ghost use Prim.Native.Nat.{_+_, _*_, _^_, _<_, _≤_};
-ghost use lib.ListN.{length};
+ghost use lib.ListN.{drop, length};
 ghost use Rattle.table.specs.Numbers.{recordLength, mostRecords};
-ghost use Rattle.table.specs.Table.{field, numFrom, kindFrom, limitFrom, firstNode, childByte};
+ghost use Rattle.table.specs.Table.{childByte, field, firstNode, flagless, kindFrom, limitFrom, loopByte, numFrom, recordCount};
 ghost use Rattle.table.specs.Questions.{timeInRange, countInRange, kindInRange};
-ghost use Rattle.table.specs.Checking.{kindListed, limitListed, recordListed, limitCount, recordInRange};
-ghost use Rattle.table.specs.Checking.{question1, question2, question3, question4, refusal};
+ghost use Rattle.table.specs.Checking.{kindListed, limitCount, limitListed, question1, question2, question3, question4, recordInRange, recordListed, refusal};
 ghost use Rattle.table.specs.Numbers.{mostLoops, mostDepth};
 ghost use Rattle.table.specs.Trees.{around};
 ghost use Rattle.table.specs.Questions.{nameOk};
@@ -151,6 +150,40 @@ pub fn child_count(b: &[u8]) -> usize
     ensures { λ r. ⌜ (r ≡ childByte (now (b .entry))) × (r < 256) ⌝ }
 {
     widen(b[2])
+}
+
+// The node of record i.
+pub fn node_at(table: &[u8], i: usize) -> Node
+    requires { ⌜ i < recordCount (now table) ⌝ }
+    ensures { λ r. ⌜ r ≡ firstNode (drop (recordLength * i) (now (table .entry))) ⌝ }
+{
+    let at = RECORD_LENGTH * i;
+    read_node(&table[at..])
+}
+
+// How many children it announces.
+pub fn children_at(table: &[u8], i: usize) -> usize
+    requires { ⌜ i < recordCount (now table) ⌝ }
+    ensures { λ r. ⌜ (r ≡ childByte (drop (recordLength * i) (now (table .entry)))) × (r < 256) ⌝ }
+{
+    let at = RECORD_LENGTH * i;
+    child_count(&table[at..])
+}
+
+// The loop that its limit names, 0 for none.
+pub fn name_at(table: &[u8], i: usize) -> u8
+    requires { ⌜ i < recordCount (now table) ⌝ }
+    ensures { λ r. ⌜ r ≡ loopByte (firstNode (drop (recordLength * i) (now (table .entry))) .limit) ⌝ }
+{
+    table[RECORD_LENGTH * i + 3]
+}
+
+// Has it no flag?
+pub fn flagless_at(table: &[u8], i: usize) -> bool
+    requires { ⌜ i < recordCount (now table) ⌝ }
+    ensures { λ r. ⌜ r ≡ flagless (drop (recordLength * i) (now (table .entry))) ⌝ }
+{
+    table[RECORD_LENGTH * i + 1] == 0
 }
 
 // ---- Question 1

@@ -12,7 +12,8 @@ ghost use Rattle.quoting.specs.Answers.{figureAnswer, quotedRefusal, quotedFigu
 ghost use Rattle.quoting.specs.Promises.{Promised};
 ghost use Rattle.evaluate.specs.Evaluate.{valuesOf};
 ghost use Rattle.table.specs.Table.{decode};
-ghost use Rattle.quoting.specs.Answers.{listAnswer, listedRefusal, listedPairs, listWrites, over};
+ghost use Rattle.writing.specs.Over.{over};
+ghost use Rattle.quoting.specs.Answers.{listAnswer, listedRefusal, listedPairs, listWrites};
 ghost use Rattle.simplifying.specs.Answers.{finishedNumber, simplifyAnswer, simplifyWrites};
 ghost use Rattle.graft.specs.Answers.{graftAnswer, graftWrites, graftedLength, graftedRefusal};
 ghost use Rattle.graft.specs.Promises.{GraftPromised};

@@ -4,7 +4,7 @@ use borrow.Author.Needs.{needs}
 use Rattle.table.specs.Numbers.{mostRecords}
 use Rattle.table.specs.Table.{recordCount}
 use Rattle.graft.specs.Laws.Making.{made-all, made-long, made-room, product-small}
-use Rattle.graft.specs.Laws.Tables.{count-few, length-is}
+use Rattle.table.specs.Laws.Tables.{few-records, length-is}
 use Rattle.graft.proofs.make_graft.Statement.{statement}
 use Rattle.graft.proofs.make_graft.Tie as tie
 
@@ -16,7 +16,7 @@ start c = c .before .before .before .before
 small : (c : tie.After-count-occurrences) → c .count-occurrences .result * (recordCount (start c .args .sent .now) + 1) ≤ mostRecords * (mostRecords + 1)
 small c =
     let s = start c in
-    product-small (c .count-occurrences .result) (recordCount (s .args .sent .now)) (omega (arith, count-few (s .args .host .now) (s .pre .0), c .count-occurrences .ensures .1)) (count-few (s .args .sent .now) (s .pre .1 .0))
+    product-small (c .count-occurrences .result) (recordCount (s .args .sent .now)) (omega (arith, few-records (s .args .host .now) (s .pre .0), c .count-occurrences .ensures .1)) (few-records (s .args .sent .now) (s .pre .1 .0))
 
 count-occurrences-requires : tie.Need-count-occurrences-requires
 count-occurrences-requires c κs = search needs
@@ -28,7 +28,7 @@ mul-if1 : tie.Need-mul-if1
 mul-if1 c = omega (arith, small c)
 
 add-if1-2 : tie.Need-add-if1-2
-add-if1-2 c = omega (arith, small c, count-few (start c .args .host .now) (start c .pre .0))
+add-if1-2 c = omega (arith, small c, few-records (start c .args .host .now) (start c .pre .0))
 
 returns : tie.Need-returns
 returns c = made-long _ _ _ (start (c .before) .pre .0) (start (c .before) .pre .1 .0) _ _ (c .before .count-occurrences .ensures .0) (c .if1 .taken)
@@ -39,7 +39,7 @@ slice-aggregate-rename-all c = search needs
 rename-all-requires : tie.Need-rename-all-requires
 rename-all-requires c κs =
     let s = start (c .before .before) in
-    (s .pre .1 .0, omega (arith, length-is (s .args .sent .now) (s .pre .1 .0), count-few (s .args .sent .now) (s .pre .1 .0)))
+    (s .pre .1 .0, omega (arith, length-is (s .args .sent .now) (s .pre .1 .0), few-records (s .args .sent .now) (s .pre .1 .0)))
 
 slice-aggregate-put-all : tie.Need-slice-aggregate-put-all
 slice-aggregate-put-all c = search needs
@@ -51,7 +51,7 @@ put-all-requires c κs =
     let s = start (else .before) in
     let a = s .args in
     let room = made-room (a .host .now) (a .sent .now) (a .symbol) (s .pre .0) (s .pre .1 .0) _ (else .before .count-occurrences .ensures .0) (else .if1 .left) in
-    (omega (arith, names .rename-all .kept, count-few (a .sent .now) (s .pre .1 .0)), omega (arith, room, s .pre .1 .1))
+    (omega (arith, names .rename-all .kept, few-records (a .sent .now) (s .pre .1 .0)), omega (arith, room, s .pre .1 .1))
 
 same-length : tie.Need-same-length
 same-length c = search needs

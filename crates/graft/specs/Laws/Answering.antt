@@ -22,16 +22,16 @@ use Rattle.table.specs.Laws.Asking.{Yes, all-yes, by-refusals, numbered}
 use Rattle.table.specs.Laws.Reading.{part-to}
 use Rattle.table.specs.Laws.Refusal.{check-passed, check-passes, check-stops}
 use Rattle.table.specs.Laws.RoundTrip.{length-encode}
-use Rattle.quoting.specs.Answers.{over}
+use Rattle.writing.specs.Over.{over}
 use Rattle.quoting.specs.Laws.Answers.{refuses, writes}
-use Rattle.quoting.specs.Laws.Copies.{take-over}
+use Rattle.writing.specs.Laws.Over.{take-over}
 use Rattle.graft.specs.declared.Grafted.{Grafted}
-use Rattle.graft.specs.Graft.{graft}
+use Rattle.splice.specs.Graft.{graft}
 use Rattle.graft.specs.Answers.{graftAnswer, graftQuestions, graftRefusal, graftTable, graftWrites, graftedLength, graftedRefusal, question11, question12}
 use Rattle.graft.specs.Promises.{GraftPromised, GraftPromises}
-use Rattle.graft.specs.Splice.{Allowed, GraftMade}
+use Rattle.graft.specs.Making.{Allowed, GraftMade}
 use Rattle.graft.specs.Laws.Figures.{graft-promised}
-use Rattle.graft.specs.Laws.Tables.{accepted-table}
+use Rattle.table.specs.Laws.Tables.{accepted-table}
 use Rattle.graft.specs.Laws.Result.{result-surveyed}
 
 module _ (h b : List ℕ) (s : ℕ) (out : List ℕ) where

@@ -13,8 +13,7 @@ use Rattle.booleans.specs.Laws.{both, join-and}
 use Rattle.table.specs.Numbers.{firstTimeSymbol, howManySymbols, howManyValues, mostTime}
 use Rattle.table.specs.Table.{decode, recordCount}
 use Rattle.table.specs.Asking.{_asks_, byRefusal, firstNo}
-use Rattle.table.specs.Checking.{refusal}
-use Rattle.table.specs.Laws.Accepted.{IsTable}
+use Rattle.table.specs.Checking.{IsTable, refusal}
 use Rattle.table.specs.Laws.Asking.{answered}
 use Rattle.evaluate.specs.Evaluate.{figure, fits, valuesOf}
 use Rattle.evaluate.specs.Laws.Ranges.{figure-most}
@@ -23,12 +22,12 @@ use Rattle.quoting.specs.Answers.{checkAnswer, figureAnswer, quotedFigure, quot
 use Rattle.quoting.specs.declared.Checked.{Checked}
 use Rattle.quoting.specs.declared.Quote.{Quote}
 use Rattle.quoting.specs.Laws.Figures.{figure-is, figure-of, figured}
-use Rattle.quoting.specs.Laws.Values.{nine-values, values-nine}
-use Rattle.graft.specs.Graft.{graft, uses}
+use Rattle.quoting.specs.Laws.Values.{nine-values, values-carry, values-nine}
+use Rattle.splice.specs.Graft.{graft, uses}
 use Rattle.graft.specs.Answers.{graftTable, question11, question12}
 use Rattle.graft.specs.Promises.{GraftPromised, Quoted, hostValues}
 use Rattle.graft.specs.Laws.Grafted.{graft-figure, graft-fits, graft-needs, setValue}
-use Rattle.graft.specs.Laws.Tables.{accepted-table}
+use Rattle.table.specs.Laws.Tables.{accepted-table}
 use Rattle.graft.specs.Laws.Result.{result-accepted, result-reads, result-unused, sent-is}
 
 -- ---- a desk's values with one of them set
@@ -92,7 +91,7 @@ module _ (h b vs : List ℕ) (s : ℕ) (H : IsTable h) (B : IsTable b) (eleven :
       let fig : figure (valuesOf vs) (graft s (decode b) (decode h)) ≡ figure (valuesOf (hostValues b s vs)) (decode h) =
       graft-figure (valuesOf vs) s g (decode b) o (decode h) l ∙ ap (λ v. figure v (decode h)) (sym w) in
       let reads = result-reads h b s H B in
-      quotes-alike (graftTable h b s) h vs _ (result-accepted h b s H B twelve) (accepted-table h H) (nine-values _ vs nine) (nine-values h _ (set-allowed vs s _ g small nine)) (ap (fits (valuesOf vs)) reads ∙ fit) (ap (figure (valuesOf vs)) reads ∙ fig)
+      quotes-alike (graftTable h b s) h vs _ (result-accepted h b s H B twelve) (accepted-table h H) (values-carry b _ vs (f .allowed)) (nine-values h _ (set-allowed vs s _ g small nine)) (ap (fits (valuesOf vs)) reads ∙ fit) (ap (figure (valuesOf vs)) reads ∙ fig)
     where
       nine-long : T (question9 vs) → T (eqb (length vs) howManyValues)
       nine-long k = unfold question9 in both _ _ k .0
@@ -103,7 +102,7 @@ module _ (h b vs : List ℕ) (s : ℕ) (H : IsTable h) (B : IsTable b) (eleven :
   sent-quoted u z =
       let f = figured (graftTable h b s) vs z in
       let fit = graft-needs (valuesOf vs) s (decode b) (sent-is h b s H B) (decode h) u (rw (result-reads h b s H B) at (f .small)) in
-      ap quotedRefusal (figure-is b vs (accepted-table b B) (nine-values b vs (values-nine _ vs (f .allowed))) fit)
+      ap quotedRefusal (figure-is b vs (accepted-table b B) (values-carry _ b vs (f .allowed)) fit)
 
 -- ---- the promise
 

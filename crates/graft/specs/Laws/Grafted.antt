@@ -3,7 +3,7 @@ use mathlib.Core.Path.{_≡_, refl, ap, ap₂, _∙_, sym, subst}
 use mathlib.Core.Bool.{Bool, true, false, cond, _||_}
 use Prim.Native.Nat.{ℕ, suc, min, _≤_}
 use native.Mathlib.Omega.{arith}
-use lib.Dec.{T, eqb, leb, ltb, eqb→eq, le→leb, ltb→lt}
+use lib.Dec.{T, eqb, leb, le→leb, ltb→lt}
 use borrow.Author.Tests.{eq-eqb, ne-eqb}
 use Rattle.graft.specs.Nodes.{Number, Plain, Symbol, Limit, Unlimited, AtMost, Kind, Block, Sequence, Choice, Loop}
 use Rattle.booleans.specs.Tests.{_and_}
@@ -17,7 +17,8 @@ use Rattle.evaluate.specs.Closed.{stays, closed, closedIn}
 use Rattle.evaluate.specs.Laws.Evaluator.{Fair, rest-ranged}
 use Rattle.evaluate.specs.Laws.Ranges.{figure-most}
 use Rattle.evaluate.specs.Laws.Constant.{closedIn-const, closedIn-run}
-use Rattle.graft.specs.Graft.{graft, graftIn, inPlace, isSymbol, rename, uses, usesIn, zeroBlock}
+use Rattle.splice.specs.Graft.{graft, graftIn, inPlace, isSymbol, rename, uses, usesIn, zeroBlock}
+use Rattle.splice.specs.Laws.Sizes.{size-grafted, symbol-only}
 use Rattle.graft.specs.Laws.Renamed.{rename-closed, rename-fits, rename-list, rename-listed, rename-named}
 
 -- what is asked of a sent tree
@@ -50,16 +51,6 @@ placed u = rename u 0 ▸ zeroBlock ▸ nil
 placed-closed : (u : Tree) → Fair u 0 → T (closedIn (Loop (Plain 1)) (placed u) 0)
 unfolding closed stays around rest
 placed-closed u s = join-and _ _ (rename-closed u 0 (s .listed) (s .nested) (s .named)) (unfold _and_ in tt)
-
--- a block with the symbol has no children
-pub symbol-only : (s : ℕ) (k : Kind) (f : Forest) → T (isSymbol s k) → T (arity k (size f)) → (k ≡ Block (Symbol s)) × (f ≡ nil)
-unfolding isSymbol arity size
-symbol-only s (Block (Plain n)) f h a = absurd h
-symbol-only s (Block (Symbol k)) nil h a = (ap (λ x. Block (Symbol x)) (eqb→eq k s h), refl)
-symbol-only s (Block (Symbol k)) (t ▸ f) h a = let e : suc (size f) ≡ 0 = eqb→eq (suc (size f)) 0 a in absurd (omega arith)
-symbol-only s Sequence f h a = absurd h
-symbol-only s Choice f h a = absurd h
-symbol-only s (Loop n) f h a = absurd h
 
 -- it names the whole run, and its list repeats the symbol's value
 symbol-alone : (s : ℕ) (k : Kind) (f : Forest) → T (isSymbol s k) → T (arity k (size f)) → (nameIn k f ≡ wholeRun) × ((v : Values) → before v k f ≡ const (v s))
@@ -260,11 +251,6 @@ place-listed u l s h =
 place-named : (u : Tree) (l : Limit) (d : ℕ) → Fair u 0 → T (nameOk l d) → T (named (inPlace u l) d)
 unfolding inPlace named around rest nameOk
 place-named u l d s h = join-and _ _ h (join-and _ _ (rename-named u 0 (suc d) (omega arith) (s .named)) (zero-named d))
-
-pub size-grafted : (s : ℕ) (u : Tree) (f : Forest) → size (graftIn s u f) ≡ size f
-unfolding size graft
-size-grafted s u nil = refl
-size-grafted s u (t ▸ f) = ap suc (size-grafted s u f)
 
 module _ (s : ℕ) (u : Tree) (o : Fair u 0) where
   mutual

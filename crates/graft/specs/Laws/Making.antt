@@ -1,58 +1,30 @@
--- The program's pieces on accepted tables: the count and the splice.
-use mathlib.Core.Path.{_≡_, refl, ap, ap₂, sym, _∙_}
-use mathlib.Core.Bool.{false, not, _&&_}
-use mathlib.Core.List.{List, [], _++_, append-nil}
-use Prim.Native.Nat.{ℕ, zero, suc, _+_, _*_, _%_, _<_, _≤_}
-use native.Mathlib.Nat.{add-zero, mul-le-mul-left, mul-le-mul-right, le-trans}
+-- The program's pieces on accepted tables: question 11, and the result.
+use mathlib.Core.Path.{_≡_, refl, ap, _∙_}
+use mathlib.Core.Bool.{false, _&&_}
+use mathlib.Core.List.{List}
+use Prim.Native.Nat.{ℕ, suc, _+_, _*_, _%_, _<_, _≤_}
+use native.Mathlib.Nat.{mul-le-mul-left, mul-le-mul-right, le-trans}
 use native.Mathlib.Omega.{arith}
 use lib.Dec.{eqb, leb, ltb}
 use lib.ListN.{length}
-use borrow.Author.Tests.{lt-leb, lt-ltb, ne-eqb}
+use borrow.Author.Tests.{lt-leb}
 use Rattle.booleans.specs.Tests.{_and_}
 use Rattle.booleans.specs.Laws.{and-false, and-is}
 use Rattle.table.specs.Numbers.{firstTimeSymbol, howManySymbols, mostRecords, recordLength}
-use Rattle.table.specs.Questions.{listed}
 use Rattle.table.specs.Table.{decode, encode, recordCount}
-use Rattle.table.specs.Trees.{Tree, records}
-use Rattle.table.specs.Checking.{question1}
-use Rattle.table.specs.Laws.Accepted.{IsTable}
+use Rattle.table.specs.Trees.{records}
+use Rattle.table.specs.Checking.{IsTable, question1}
 use Rattle.table.specs.Laws.RoundTrip.{length-encode}
+use Rattle.table.specs.Laws.Tables.{count-is}
 use Rattle.table.specs.Laws.Trees.{some-records}
-use Rattle.rewrite.specs.Writing.{front}
-use Rattle.graft.specs.Graft.{graft, rename, uses}
+use Rattle.writing.specs.Records.{front}
+use Rattle.splice.specs.Graft.{graft, rename}
+use Rattle.splice.specs.Splice.{occurrencesIn, splice, spliceRecords}
+use Rattle.splice.specs.Laws.Splice.{graft-records, long-table, occurrences-table, splice-table, uses-none}
 use Rattle.graft.specs.Answers.{graftTable, question11, question12}
-use Rattle.graft.specs.Splice.{GraftMade, occurrences, occurrencesIn, splice, spliceRecords}
-use Rattle.graft.specs.Laws.Tables.{count-is, whole-table}
-use Rattle.graft.specs.Laws.Splice.{occurrences-tree, graft-records, splice-tree, uses-occurrences}
-
-module _ (h : List ℕ) (t : IsTable h) where
-  pub splice-table : (s : ℕ) (u : Tree) → splice s (encode (rename u 0)) (recordCount h) h ≡ encode (graft s u (decode h))
-  splice-table s u =
-      let e = splice-tree s u (decode h) (t .accepted .listed) 0 [] in
-      sym (ap₂ (splice s (encode (rename u 0))) (add-zero _ ∙ sym (count-is h t)) (whole-table h t)) ∙ e ∙ none s (encode (rename u 0)) (encode (graft s u (decode h)))
-    where
-      none : (s : ℕ) (body x : List ℕ) → x ++ splice s body 0 [] ≡ x
-      none s body x = unfold splice in append-nil x
-
-  pub occurrences-table : (s : ℕ) → occurrencesIn s (recordCount h) h ≡ occurrences s (decode h)
-  occurrences-table s = sym (ap₂ (occurrencesIn s) (add-zero _ ∙ sym (count-is h t)) (whole-table h t)) ∙ occurrences-tree s (decode h) (t .accepted .listed) 0 [] ∙ none s (occurrences s (decode h))
-    where
-      none : (s x : ℕ) → x + occurrencesIn s 0 [] ≡ x
-      none s x = unfold occurrencesIn in add-zero x
-
-  pub long-table : (s : ℕ) (u : Tree) → spliceRecords s (records u) (recordCount h) h ≡ records (graft s u (decode h))
-  unfolding spliceRecords
-  long-table s u = rw (occurrences-table s) (omega (arith, count-is h t, graft-records s u (decode h) (t .accepted .listed)))
+use Rattle.graft.specs.Making.{GraftMade}
 
 -- ---- question 11
-
--- the program's count answers whether the sent table uses the symbol
-pub uses-none : (b : List ℕ) → IsTable b → (s count : ℕ) → count ≡ occurrencesIn s (recordCount b) b → eqb count 0 ≡ not (uses s (decode b))
-uses-none b t s count e = go count (e ∙ occurrences-table b t s)
-  where
-    go : (k : ℕ) → k ≡ occurrences s (decode b) → eqb k 0 ≡ not (uses s (decode b))
-    go zero q = rw (uses-occurrences s (decode b), ← q) refl
-    go (suc k) q = rw (uses-occurrences s (decode b), ← q, lt-ltb 0 (suc k) (omega arith), ne-eqb (suc k) 0 (omega arith)) refl
 
 pub asked-11 : (b : List ℕ) → IsTable b → (s count : ℕ) → count ≡ occurrencesIn s (recordCount b) b → (leb firstTimeSymbol s && ltb s howManySymbols && eqb count 0) ≡ question11 b s
 unfolding question11

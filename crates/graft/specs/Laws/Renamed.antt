@@ -1,7 +1,7 @@
 -- The renamed sent tree: the same list and, as far as its own loops go, the same named loop; closed but for the loop that is put around it.
 use mathlib.Core.Path.{_≡_, refl, ap, ap₂, _∙_, sym}
 use mathlib.Core.Bool.{Bool, true, false, cond, _||_}
-use Prim.Native.Nat.{ℕ, suc, min, _-_, _≤_, _+_, _^_}
+use Prim.Native.Nat.{ℕ, suc, min, _-_, _≤_, _^_}
 use native.Mathlib.Omega.{arith}
 use lib.Dec.{T, eqb, leb, ltb, leb→le, le→leb, lt→ltb}
 use borrow.Author.Tests.{leb-true, leb-false, eqb-true, le-leb, lt-leb}
@@ -9,12 +9,13 @@ use Rattle.graft.specs.Nodes.{Limit, Unlimited, AtMost, Kind, Block, Seq
 use Rattle.booleans.specs.Tests.{_and_}
 use Rattle.booleans.specs.Laws.{both, join-and, or-false, or-left}
 use Rattle.table.specs.Numbers.{wholeRun, mostLoops, mostTime, mostWeight}
-use Rattle.table.specs.Trees.{Tree, node, Forest, nil, _▸_, size, rest, around, records, recordsIn}
+use Rattle.table.specs.Trees.{Tree, node, Forest, nil, _▸_, rest, around}
 use Rattle.table.specs.Questions.{limitInRange, listed, listedIn, loops, loopsIn, nameOk, named, namedIn, share, weight, weightIn}
 use Rattle.lists.specs.Streams.{Stream, group, const}
 use Rattle.evaluate.specs.Evaluate.{Values, amount, inner, outward, seen, name, nameIn, limit, rounds, turns, join, list, before, fits, fitsIn}
 use Rattle.evaluate.specs.Closed.{stays, closed, closedIn}
-use Rattle.graft.specs.Graft.{renamedLimit, rename, renameIn}
+use Rattle.splice.specs.Graft.{renamedLimit, rename, renameIn}
+use Rattle.splice.specs.Laws.Sizes.{size-renamed}
 
 -- ---- names that are the same as far as d loops go
 
@@ -180,11 +181,6 @@ module _ (v : Values) where
 
 -- ---- what questions 2 to 7 ask of it
 
-pub size-renamed : (k : Kind) (f : Forest) (d : ℕ) → size (renameIn k f d) ≡ size f
-unfolding size rename
-size-renamed k nil d = refl
-size-renamed k (t ▸ f) d = ap suc (size-renamed (rest k) f d)
-
 -- question 7 lets a whole-run limit stand under 7 loops at most
 under-seven : (d : ℕ) → d ≤ mostLoops → 2 ^ d ≤ mostWeight → suc d ≤ mostLoops
 under-seven d h w = go (leb (suc d) mostLoops) refl
@@ -253,13 +249,3 @@ mutual
   renameIn-named k (t ▸ f) d e g h =
       let (a, b) = both _ _ h in
       join-and _ _ (rename-named t (around k d) (around k e) (around-le k d e g) a) (renameIn-named (rest k) f d e g b)
-
-mutual
-  unfolding records rename
-
-  pub rename-records : (t : Tree) (d : ℕ) → records (rename t d) ≡ records t
-  rename-records (node n f) d = ap suc (renameIn-records (n .kind) f d)
-
-  renameIn-records : (k : Kind) (f : Forest) (d : ℕ) → recordsIn (renameIn k f d) ≡ recordsIn f
-  renameIn-records k nil d = refl
-  renameIn-records k (t ▸ f) d = ap₂ _+_ (rename-records t (around k d)) (renameIn-records (rest k) f d)

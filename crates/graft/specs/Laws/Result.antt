@@ -15,14 +15,13 @@ use Rattle.table.specs.Table.{decode, encode}
 use Rattle.table.specs.Trees.{Tree, records}
 use Rattle.table.specs.Survey.{surveyNode, surveyRefusal, unfit}
 use Rattle.table.specs.Asking.{_asks_, firstNo}
-use Rattle.table.specs.Checking.{question1, question5, question7, refusal}
-use Rattle.table.specs.Laws.Accepted.{IsTable}
+use Rattle.table.specs.Checking.{IsTable, question1, question5, question7, refusal}
 use Rattle.table.specs.Laws.NotRefused.{not-refused, reads-back}
 use Rattle.table.specs.Laws.RoundTrip.{length-encode}
 use Rattle.table.specs.Laws.Survey.{fitting, surveyOf, tree-surveyed}
 use Rattle.table.specs.Laws.Trees.{some-records}
 use Rattle.evaluate.specs.Laws.Evaluator.{Fair}
-use Rattle.graft.specs.Graft.{graft, uses}
+use Rattle.splice.specs.Graft.{graft, uses}
 use Rattle.graft.specs.Answers.{graftTable, question12}
 use Rattle.graft.specs.Laws.Grafted.{accepted-fair, graft-listed, graft-named, graft-unused}
 

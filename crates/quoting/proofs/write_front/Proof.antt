@@ -5,7 +5,7 @@ use native.Mathlib.Numerals.{add-one}
 use native.Mathlib.Omega.{arith}
 use borrow.Author.Needs.{needs}
 use lib.ListN.{length, getD, set, length-set}
-use Rattle.quoting.specs.Laws.Copies.{copied, copied-next, copied-over}
+use Rattle.writing.specs.Laws.Over.{copied, copied-next, copied-over}
 use Rattle.quoting.proofs.write_front.Statement.{statement}
 use Rattle.quoting.proofs.write_front.Tie as tie
 

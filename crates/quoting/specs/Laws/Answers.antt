@@ -4,7 +4,7 @@ use mathlib.Core.List.{List, []}
 use Prim.Native.Nat.{ℕ}
 use Rattle.table.specs.Asking.{byRefusal}
 use Rattle.table.specs.Laws.Asking.{answered, refused}
-use Rattle.quoting.specs.Answers.{over}
+use Rattle.writing.specs.Over.{over}
 
 module _ {A : Type 0} (n : ℕ) (x : A) (f : ℕ → A) (front out : List ℕ) where
   abbrev pub Answers : A → (new : List ℕ) → Type 0

@@ -18,9 +18,10 @@ use Rattle.evaluate.specs.Laws.Covered.{covered}
 use Rattle.evaluate.specs.Laws.Reached.{reached}
 use Rattle.quoting.specs.declared.Listed.{Listed}
 use Rattle.quoting.specs.declared.Quote.{Quote}
-use Rattle.quoting.specs.Answers.{figureAnswer, listAnswer, listRefusal, listWrites, listedPairs, listedRefusal, over}
+use Rattle.writing.specs.Over.{over}
+use Rattle.quoting.specs.Answers.{figureAnswer, listAnswer, listRefusal, listWrites, listedPairs, listedRefusal}
 use Rattle.quoting.specs.Promises.{ListPromises, Promised, Promises}
-use Rattle.quoting.specs.Laws.Copies.{take-over}
+use Rattle.writing.specs.Laws.Over.{take-over}
 use Rattle.quoting.specs.Laws.Figures.{figured}
 use Rattle.quoting.specs.Laws.Evaluated.{Lists}
 

@@ -24,6 +24,11 @@ pub nine-values : (b vs : List ℕ) → T (question9 vs) → valuesRefusal b vs 
 unfolding valuesRefusal valueQuestions Yes
 nine-values b vs h = yes-all (valueQuestions b vs) (h, tt)
 
+-- Values that one table's questions let pass pass another's: today they are the same for every table. What reads a table's limits will ask here what
+-- the two tables have in common.
+pub values-carry : (b c vs : List ℕ) → valuesRefusal b vs ≡ 0 → valuesRefusal c vs ≡ 0
+values-carry b c vs e = nine-values c vs (values-nine b vs e)
+
 -- ---- question 9, value by value
 
 -- the values before i are in range, and the others are asked yet

@@ -1,7 +1,7 @@
 -- Two kinds are the same where their bytes, flags and fields are.
 use mathlib.Core.Path.{ap, _∙_}
 use Rattle.table.specs.Table.{flag, raw}
-use Rattle.rewrite.specs.Laws.Children.{same-parts}
+use Rattle.rewrite.specs.Laws.Tests.{same-parts}
 use borrow.Author.Needs.{needs}
 use Rattle.rewrite.proofs.same_kind.Statement.{statement}
 use Rattle.rewrite.proofs.same_kind.Tie as tie

@@ -8,21 +8,20 @@ use native.Mathlib.Omega.{arith}
 use lib.Dec.{eqb, leb}
 use lib.ListN.{drop, getD, length}
 use borrow.Author.Tests.{lt-leb, ne-eqb, not-false, not-true}
-use Rattle.booleans.specs.Tests.{_and_}
 use Rattle.table.specs.Numbers.{recordLength}
-use Rattle.table.specs.Table.{encode, encodes, firstNode, loopByte, recordCount}
+use Rattle.table.specs.Table.{encode, encodes, firstNode, recordCount}
 use Rattle.table.specs.Trees.{Forest, Tree, nil, node, _▸_, _⧺_, records, recordsIn, size}
-use Rattle.table.specs.Laws.RoundTrip.{WritesLimit}
-use Rattle.evaluate.specs.Closed.{isUnlimited}
 use Rattle.simplify.specs.Rules.{isSum}
 use Rattle.simplify.specs.Steps.{also}
 use Rattle.subtrees.specs.Facts.{Extents}
-use Rattle.subtrees.specs.Parts.{Simplifiable, subtree, treesAt}
+use Rattle.table.specs.Checking.{IsTable}
+use Rattle.subtrees.specs.Parts.{subtree, treesAt}
 use Rattle.subtrees.specs.Laws.Forests.{Sound}
 use Rattle.subtrees.specs.Laws.Parts.{Here, bytes-at, here-at, kids-row, next-row, records-at, row-end, tail-at, top-at}
-use Rattle.subtrees.specs.Laws.Records.{limit-at, node-at, own-writes}
-use Rattle.rewrite.specs.Nodes.{AtMost, Limit, Node, Unlimited}
-use Rattle.rewrite.specs.Writing.{Wrote, front, ruleAt, slice}
+use Rattle.subtrees.specs.Laws.Records.{node-at}
+use Rattle.rewrite.specs.Nodes.{Node}
+use Rattle.writing.specs.Records.{front, slice}
+use Rattle.rewrite.specs.Wrote.{Wrote, ruleAt}
 
 -- ---- tests
 
@@ -39,14 +38,6 @@ pub some-yes : (t : Bool) (n : ℕ) {x : ℕ} → x ≡ cond t n 0 → (x ≡ 0 
 some-yes true n e z = (refl, e)
 some-yes false n e z = absurd (z e)
 
-no-limit : (l : Limit) → WritesLimit l → eqb (loopByte l) 0 ≡ isUnlimited l
-unfolding loopByte isUnlimited WritesLimit
-no-limit Unlimited w = refl
-no-limit (AtMost j m) w = ne-eqb j 0 (λ e. omega arith)
-
-pub unlimited-at : (b : List ℕ) (i : ℕ) (h : Here b i) → eqb (getD b (recordLength * i + 3) 0) 0 ≡ isUnlimited (h .own .limit)
-unlimited-at b i h = ap (λ x. eqb x 0) (limit-at b i h) ∙ no-limit (h .own .limit) (own-writes b i h .limit)
-
 -- ---- trees at records
 
 pub ⧺-assoc : (f g h : Forest) → (f ⧺ g) ⧺ h ≡ f ⧺ (g ⧺ h)
@@ -54,10 +45,10 @@ unfolding _⧺_
 ⧺-assoc nil g h = refl
 ⧺-assoc (t ▸ f) g h = ap (λ r. t ▸ r) (⧺-assoc f g h)
 
-pub subtree-sound : (b : List ℕ) → Simplifiable b → (i : ℕ) → i < recordCount b → Sound (subtree b i)
+pub subtree-sound : (b : List ℕ) → IsTable b → (i : ℕ) → i < recordCount b → Sound (subtree b i)
 subtree-sound b s i l = let h = here-at b s i l in rw (top-at b i (h .here)) (h .sound)
 
-pub subtree-bytes : (b : List ℕ) → Simplifiable b → (i : ℕ) → i < recordCount b → slice b i (records (subtree b i)) ≡ encode (subtree b i)
+pub subtree-bytes : (b : List ℕ) → IsTable b → (i : ℕ) → i < recordCount b → slice b i (records (subtree b i)) ≡ encode (subtree b i)
 unfolding recordsIn encodes _⧺_
 subtree-bytes b s i l =
     let h = here-at b s i l in
@@ -78,7 +69,7 @@ pub two-at : (b extents : List ℕ) → Extents b extents → (i : ℕ) (h : Her
 unfolding _⧺_
 two-at b extents x i h e =
     let q = i + 1 + getD extents (i + 1) 0 in
-    let n = next-row b extents x (i + 1) (size (h .kids)) (kids-row b (x .simplifiable) i h) (omega arith) in
+    let n = next-row b extents x (i + 1) (size (h .kids)) (kids-row b (x .table) i h) (omega arith) in
     let m = next-row b extents x q (size (h .kids) - 1) (n .others) (omega arith) in
     let last : n .others .trees ≡ subtree b q ▸ nil = m .are ∙ ap (λ f. subtree b q ▸ f) (row-end (m .others) (omega arith)) in
     record {
@@ -100,14 +91,14 @@ unfolding Wrote
 wrote-none o out e = wrote-as 0 out e refl
 
 -- what stands from record i to the table's end
-pub rest-written : (b : List ℕ) → Simplifiable b → (i r : ℕ) (out : List ℕ) → r ≡ recordCount b - i → front r out ≡ slice b i (recordCount b - i)
+pub rest-written : (b : List ℕ) → IsTable b → (i r : ℕ) (out : List ℕ) → r ≡ recordCount b - i → front r out ≡ slice b i (recordCount b - i)
     → Wrote (some (treesAt b i)) r out
 unfolding Wrote
 rest-written b s i r out e w = (e ∙ sym (records-at b s i), w ∙ tail-at b s i)
 
 -- ---- a rule at record i
 
-module _ (b : List ℕ) (s : Simplifiable b) (i : ℕ) (l : i < recordCount b) where
+module _ (b : List ℕ) (s : IsTable b) (i : ℕ) (l : i < recordCount b) where
   abbrev pub it : Here b i
   it = here-at b s i l
 

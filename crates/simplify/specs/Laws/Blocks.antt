@@ -8,7 +8,7 @@ use Rattle.booleans.specs.Laws.{both, join-and}
 use Rattle.booleans.specs.Tests.{_and_}
 use Rattle.table.specs.Numbers.{wholeRun, mostTime}
 use Rattle.table.specs.Questions.{arity, timeInRange, kindInRange, limitInRange, listed, nameOk, named, share, weight, loops, depth}
-use Rattle.table.specs.Limits.{everyLimit, passes}
+use Rattle.table.specs.Limits.{everyLimit, limitHolds}
 use Rattle.table.specs.Trees.{Tree, node, nil, _▸_, size, records}
 use Rattle.lists.specs.Streams.{const}
 use Rattle.evaluate.specs.Closed.{isPlain, plainKind}
@@ -57,7 +57,7 @@ unfolding leaf named nameOk _and_
 leaf-named x d = tt
 
 pub leaf-limits : (p : ℕ → Number → Bool) (x : ℕ) → T (everyLimit p (leaf x Unlimited))
-unfolding leaf everyLimit passes _and_
+unfolding leaf everyLimit limitHolds _and_
 leaf-limits p x = tt
 
 pub leaf-weight : (x d : ℕ) → weight (leaf x Unlimited) d ≡ 0

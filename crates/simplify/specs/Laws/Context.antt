@@ -1,5 +1,6 @@
 -- Keeps and Refines pass through a context: a tree with a hole, where one subtree is replaced.
 use mathlib.Core.Path.{_≡_, refl, ap, sym, subst}
+use mathlib.Core.Bool.{Bool}
 use Prim.Native.Nat.{suc}
 use lib.Dec.{T}
 use Rattle.simplify.specs.Nodes.{Node, Kind}
@@ -38,8 +39,8 @@ module _ (R : Tree → Tree → Type 0) (RIn : Kind → Forest → Forest → Ty
       on-node n _ _ (among (n .kind) l _ _ r (plugged c u t h))
       (λ q a. subst (λ x. T (arity (n .kind) x)) (sym (among-size l (plug c u) (plug c t) r)) a)
 
-pub plug-keeps : (c : Context) (u t : Tree) → Keeps u t → Keeps (plug c u) (plug c t)
-plug-keeps = plugged Keeps KeepsIn node-keeps head-keeps tail-keeps
+pub plug-keeps : {asked : Bool} (c : Context) (u t : Tree) → Keeps asked u t → Keeps asked (plug c u) (plug c t)
+plug-keeps {asked} = plugged (Keeps asked) (KeepsIn asked) node-keeps head-keeps tail-keeps
 
 pub plug-refines : (c : Context) (u t : Tree) → Refines u t → Refines (plug c u) (plug c t)
 plug-refines = plugged Refines RefinesIn node-refines head-refines tail-refines

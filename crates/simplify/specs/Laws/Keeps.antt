@@ -1,5 +1,6 @@
--- What any change that keeps quotes keeps of a tree: `Keeps u t`, u is no worse than t in anything that the calls ask, and the same in what they answer.
--- It says nothing of the number of records, so that it holds of a rule and of a change of order alike.
+-- What any change that keeps quotes keeps of a tree: `Keeps asked u t`, u is no worse than t in anything that the calls ask, and the same in what they answer.
+-- It says nothing of the number of records, so that it holds of a rule and of a change of order alike. `asked` says what `stillListed` presupposes: where it
+-- is true, that question 10 says yes of t with every symbol 0, which puts the time of a rule's new block in range; where it is false, nothing.
 use mathlib.Core.Path.{_≡_, sym, ap, subst, ap₂, refl, _∙_}
 use mathlib.Core.Bool.{Bool}
 use Prim.Native.Nat.{ℕ, _≤_, min}
@@ -15,11 +16,11 @@ use Rattle.evaluate.specs.Evaluate.{Values, name, list, fits, zeros, nameIn, be
 use Rattle.evaluate.specs.Laws.Joins.{join-right}
 use Rattle.simplify.specs.Nodes.{Kind, Node, Number}
 
-pub record Keeps (u t : Tree) : Type 0 where
+pub record Keeps (asked : Bool) (u t : Tree) : Type 0 where
   pub sameName : name u ≡ name t
   pub sameList : (v : Values) → list v u ≡ list v t
   pub stillFits : (v : Values) → T (fits v t) → T (fits v u)
-  pub stillListed : T (fits zeros t) → T (listed t) → T (listed u)
+  pub stillListed : (T asked → T (fits zeros t)) → T (listed t) → T (listed u)
   pub deep : depth u ≤ depth t
   pub nested : (d : ℕ) → loops u d ≤ loops t d
   pub stillNamed : (d : ℕ) → T (named t d) → T (named u d)
@@ -27,20 +28,20 @@ pub record Keeps (u t : Tree) : Type 0 where
   pub limits : (p : ℕ → Number → Bool) → T (everyLimit p t) → T (everyLimit p u)
 
 -- the same of the children of a node of kind k
-pub record KeepsIn (k : Kind) (g f : Forest) : Type 0 where
+pub record KeepsIn (asked : Bool) (k : Kind) (g f : Forest) : Type 0 where
   pub sameName : nameIn k g ≡ nameIn k f
   pub sameList : (v : Values) → before v k g ≡ before v k f
   pub stillFits : (v : Values) → before v k f 0 ≤ mostTime → T (fitsIn v f) → T (fitsIn v g)
-  pub stillListed : before zeros k f 0 ≤ mostTime → T (fitsIn zeros f) → T (listedIn f) → T (listedIn g)
+  pub stillListed : (T asked → before zeros k f 0 ≤ mostTime) → (T asked → T (fitsIn zeros f)) → T (listedIn f) → T (listedIn g)
   pub deep : depthIn g ≤ depthIn f
   pub nested : (d : ℕ) → loopsIn k g d ≤ loopsIn k f d
   pub stillNamed : (d : ℕ) → T (namedIn k f d) → T (namedIn k g d)
   pub weighed : (d : ℕ) → weightIn k g d ≤ weightIn k f d
   pub limits : (p : ℕ → Number → Bool) → T (everyLimitIn p f) → T (everyLimitIn p g)
 
--- ---- one change after another
+-- ---- one change after another: keeps-trans, keepsIn-refl and keepsIn-trans serve a change made of several, as a reordering of children is
 
-pub keeps-refl : (t : Tree) → Keeps t t
+pub keeps-refl : {asked : Bool} (t : Tree) → Keeps asked t t
 keeps-refl t = record {
   sameName = refl;
   sameList = λ v. refl;
@@ -53,12 +54,12 @@ keeps-refl t = record {
   limits = λ p h. h;
 }
 
-pub keeps-trans : (t u w : Tree) → Keeps w u → Keeps u t → Keeps w t
+pub keeps-trans : {asked : Bool} (t u w : Tree) → Keeps asked w u → Keeps asked u t → Keeps asked w t
 keeps-trans t u w p q = record {
   sameName = p .sameName ∙ q .sameName;
   sameList = λ v. p .sameList v ∙ q .sameList v;
   stillFits = λ v h. p .stillFits v (q .stillFits v h);
-  stillListed = λ h l. p .stillListed (q .stillFits zeros h) (q .stillListed h l);
+  stillListed = λ h l. p .stillListed (λ x. q .stillFits zeros (h x)) (q .stillListed h l);
   deep = le-trans (p .deep) (q .deep);
   nested = λ d. le-trans (p .nested d) (q .nested d);
   stillNamed = λ d h. p .stillNamed d (q .stillNamed d h);
@@ -66,7 +67,7 @@ keeps-trans t u w p q = record {
   limits = λ r h. p .limits r (q .limits r h);
 }
 
-pub keepsIn-refl : (k : Kind) (f : Forest) → KeepsIn k f f
+pub keepsIn-refl : {asked : Bool} (k : Kind) (f : Forest) → KeepsIn asked k f f
 keepsIn-refl k f = record {
   sameName = refl;
   sameList = λ v. refl;
@@ -79,12 +80,12 @@ keepsIn-refl k f = record {
   limits = λ p h. h;
 }
 
-pub keepsIn-trans : (k : Kind) (f g h : Forest) → KeepsIn k h g → KeepsIn k g f → KeepsIn k h f
+pub keepsIn-trans : {asked : Bool} (k : Kind) (f g h : Forest) → KeepsIn asked k h g → KeepsIn asked k g f → KeepsIn asked k h f
 keepsIn-trans k f g h p q = record {
   sameName = p .sameName ∙ q .sameName;
   sameList = λ v. p .sameList v ∙ q .sameList v;
   stillFits = λ v b a. p .stillFits v (few v b) (q .stillFits v b a);
-  stillListed = λ b a l. p .stillListed (few zeros b) (q .stillFits zeros b a) (q .stillListed b a l);
+  stillListed = λ b a l. p .stillListed (λ x. few zeros (b x)) (λ x. q .stillFits zeros (b x) (a x)) (q .stillListed b a l);
   deep = le-trans (p .deep) (q .deep);
   nested = λ d. le-trans (p .nested d) (q .nested d);
   stillNamed = λ d a. p .stillNamed d (q .stillNamed d a);
@@ -97,7 +98,7 @@ keepsIn-trans k f g h p q = record {
 
 -- ---- it passes through a context
 
-pub node-keeps : (n : Node) (g f : Forest) → KeepsIn (n .kind) g f → (T (listedIn f) → T (arity (n .kind) (size f)) → T (arity (n .kind) (size g))) → Keeps (node n g) (node n f)
+pub node-keeps : {asked : Bool} (n : Node) (g f : Forest) → KeepsIn asked (n .kind) g f → (T (listedIn f) → T (arity (n .kind) (size f)) → T (arity (n .kind) (size g))) → Keeps asked (node n g) (node n f)
 unfolding name list fits listed depth loops named weight everyLimit
 node-keeps n g f r s = record {
   sameName = ap (inner (n .limit)) (r .sameName);
@@ -106,10 +107,9 @@ node-keeps n g f r s = record {
       let (a, b) = both _ _ h in
       join-and _ _ (subst (λ x. T (leb x mostTime)) (sym (ap (λ s. s 0) (r .sameList v))) a) (r .stillFits v (leb→le _ _ a) b);
   stillListed = λ h l.
-      let (a, b) = both _ _ h in
       let (p, c) = both _ _ l in
       let (q, e) = both _ _ p in
-      join-and _ _ (join-and _ _ q (s c e)) (r .stillListed (leb→le _ _ a) b c);
+      join-and _ _ (join-and _ _ q (s c e)) (r .stillListed (λ x. leb→le _ _ (both _ _ (h x) .0)) (λ x. both _ _ (h x) .1) c);
   deep = omega (arith, r .deep);
   nested = λ d. omega (arith, r .nested d);
   stillNamed = λ d h. let (a, b) = both _ _ h in join-and _ _ a (r .stillNamed d b);
@@ -117,16 +117,13 @@ node-keeps n g f r s = record {
   limits = λ p h. let (a, b) = both _ _ h in join-and _ _ a (r .limits p b);
 }
 
-pub head-keeps : (k : Kind) (u t : Tree) (f : Forest) → Keeps u t → KeepsIn k (u ▸ f) (t ▸ f)
+pub head-keeps : {asked : Bool} (k : Kind) (u t : Tree) (f : Forest) → Keeps asked u t → KeepsIn asked k (u ▸ f) (t ▸ f)
 unfolding name list fits listed depth loops named weight everyLimit
 head-keeps k u t f r = record {
   sameName = ap (λ x. min (seen k x) (nameIn (rest k) f)) (r .sameName);
   sameList = λ v. ap₂ (λ x s. join k (turns v k x s) (before v (rest k) f)) (r .sameName) (r .sameList v);
   stillFits = λ v b h. let (x, y) = both _ _ h in join-and _ _ (r .stillFits v x) y;
-  stillListed = λ b h l.
-      let (x, y) = both _ _ h in
-      let (p, q) = both _ _ l in
-      join-and _ _ (r .stillListed x p) q;
+  stillListed = λ b h l. let (p, q) = both _ _ l in join-and _ _ (r .stillListed (λ x. both _ _ (h x) .0) p) q;
   deep = omega (arith, r .deep);
   nested = λ d. omega (arith, r .nested (around k d));
   stillNamed = λ d h. let (x, y) = both _ _ h in join-and _ _ (r .stillNamed (around k d) x) y;
@@ -134,16 +131,13 @@ head-keeps k u t f r = record {
   limits = λ p h. let (x, y) = both _ _ h in join-and _ _ (r .limits p x) y;
 }
 
-pub tail-keeps : (k : Kind) (t : Tree) (g f : Forest) → KeepsIn (rest k) g f → KeepsIn k (t ▸ g) (t ▸ f)
+pub tail-keeps : {asked : Bool} (k : Kind) (t : Tree) (g f : Forest) → KeepsIn asked (rest k) g f → KeepsIn asked k (t ▸ g) (t ▸ f)
 unfolding name list fits listed depth loops named weight everyLimit
 tail-keeps k t g f r = record {
   sameName = ap (min (seen k (name t))) (r .sameName);
   sameList = λ v. ap (join k (turns v k (name t) (list v t))) (r .sameList v);
   stillFits = λ v b h. let (x, y) = both _ _ h in join-and _ _ x (r .stillFits v (le-trans (join-right k _ _) b) y);
-  stillListed = λ b h l.
-      let (x, y) = both _ _ h in
-      let (p, q) = both _ _ l in
-      join-and _ _ p (r .stillListed (le-trans (join-right k _ _) b) y q);
+  stillListed = λ b h l. let (p, q) = both _ _ l in join-and _ _ p (r .stillListed (λ x. le-trans (join-right k _ _) (b x)) (λ x. both _ _ (h x) .1) q);
   deep = omega (arith, r .deep);
   nested = λ d. omega (arith, r .nested d);
   stillNamed = λ d h. let (x, y) = both _ _ h in join-and _ _ x (r .stillNamed d y);
@@ -154,15 +148,15 @@ tail-keeps k t g f r = record {
 -- ---- the whole table
 
 -- what a change keeps of a table: the same figure at all values, what the questions ask, and whatever holds of every limit
-pub record Kept (u t : Tree) : Type 0 where
+pub record Kept (asked : Bool) (u t : Tree) : Type 0 where
   pub sameFigure : (v : Values) → figure v u ≡ figure v t
   pub stillFits : (v : Values) → T (fits v t) → T (fits v u)
-  pub stillAccepted : T (fits zeros t) → Accepted t → Accepted u
-  pub noMore : T (fits zeros t) → Accepted t → records u ≤ records t
+  pub stillAccepted : (T asked → T (fits zeros t)) → Accepted t → Accepted u
+  pub noMore : (T asked → T (fits zeros t)) → Accepted t → records u ≤ records t
   pub limits : (p : ℕ → Number → Bool) → T (everyLimit p t) → T (everyLimit p u)
 
 -- no more records is all that it takes besides
-pub keeps-kept : (u t : Tree) → Keeps u t → (T (listed t) → records u ≤ records t) → Kept u t
+pub keeps-kept : {asked : Bool} (u t : Tree) → Keeps asked u t → (T (listed t) → records u ≤ records t) → Kept asked u t
 unfolding figure
 keeps-kept u t r n = record {
   sameFigure = λ v. ap (λ s. s 0) (r .sameList v);
@@ -179,14 +173,14 @@ keeps-kept u t r n = record {
   limits = r .limits;
 }
 
-pub kept-refl : (t : Tree) → Kept t t
+pub kept-refl : {asked : Bool} (t : Tree) → Kept asked t t
 kept-refl t = keeps-kept t t (keeps-refl t) (λ l. omega arith)
 
-pub kept-trans : (t u w : Tree) → Kept w u → Kept u t → Kept w t
+pub kept-trans : {asked : Bool} (t u w : Tree) → Kept asked w u → Kept asked u t → Kept asked w t
 kept-trans t u w p q = record {
   sameFigure = λ v. p .sameFigure v ∙ q .sameFigure v;
   stillFits = λ v h. p .stillFits v (q .stillFits v h);
-  stillAccepted = λ h a. p .stillAccepted (q .stillFits zeros h) (q .stillAccepted h a);
-  noMore = λ h a. le-trans (p .noMore (q .stillFits zeros h) (q .stillAccepted h a)) (q .noMore h a);
+  stillAccepted = λ h a. p .stillAccepted (λ x. q .stillFits zeros (h x)) (q .stillAccepted h a);
+  noMore = λ h a. le-trans (p .noMore (λ x. q .stillFits zeros (h x)) (q .stillAccepted h a)) (q .noMore h a);
   limits = λ r h. p .limits r (q .limits r h);
 }

@@ -1,5 +1,6 @@
 -- What a rule does to a tree: `Refines u t`, u keeps what t has, and has fewer records.
 use mathlib.Core.Path.{_≡_, sym, subst, refl}
+use mathlib.Core.Bool.{true}
 use Prim.Native.Nat.{ℕ, _≤_, _<_, min, _+_, max}
 use native.Mathlib.Omega.{arith}
 use lib.Dec.{T, leb, leb→le, le→leb}
@@ -15,12 +16,12 @@ use Rattle.simplify.specs.Rules.{isSum}
 use Rattle.simplify.specs.Laws.Keeps.{Keeps, KeepsIn, node-keeps, head-keeps, tail-keeps}
 
 pub record Refines (u t : Tree) : Type 0 where
-  pub keeps : Keeps u t
+  pub keeps : Keeps true u t
   pub fewer : T (listed t) → records u < records t
 
 -- the same of the children of a node of kind k
 pub record RefinesIn (k : Kind) (g f : Forest) : Type 0 where
-  pub keeps : KeepsIn k g f
+  pub keeps : KeepsIn true k g f
   pub fewer : T (listedIn f) → recordsIn g < recordsIn f
 
 -- ---- it passes through a context

@@ -8,7 +8,7 @@ use Rattle.booleans.specs.Laws.{both, join-and}
 use Rattle.booleans.specs.Tests.{_and_}
 use Rattle.table.specs.Numbers.{mostTime, wholeRun}
 use Rattle.table.specs.Questions.{listed, depth, depthIn, loops, loopsIn, named, weight, weightIn, arity, kindInRange, limitInRange, nameOk, share}
-use Rattle.table.specs.Limits.{everyLimit, passes}
+use Rattle.table.specs.Limits.{everyLimit, limitHolds}
 use Rattle.table.specs.Trees.{nil, _▸_, node, Tree, Forest, size, rest, around, records, recordsIn}
 use Rattle.lists.specs.Streams.{const, add, merge}
 use Rattle.lists.specs.Laws.MergeLaws.{merge-zero, merge-lift, add-zero-r}
@@ -156,7 +156,7 @@ shared-named l t c x d h =
     join-and _ _ a (join-and _ _ (join-and _ _ tt (each-first (named-each Choice choice-sum d) x (λ u m. both _ _ (both _ _ m .1) .0) (t ▸ c) b)) y)
 
 shared-limits : (p : ℕ → Number → Bool) (l : Limit) (t : Tree) (c : Forest) (x : Tree) → T (everyLimit p (node (at Choice l) (withEach (t ▸ c) x))) → T (everyLimit p (factored l (t ▸ c) x))
-unfolding everyLimit withEach passes
+unfolding everyLimit withEach limitHolds
 shared-limits p l t c x h =
     let (a, b) = both _ _ h in
     let (q, r) = both _ _ b in

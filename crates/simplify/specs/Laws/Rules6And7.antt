@@ -205,7 +205,7 @@ module _ (k : Kind) (s : SumKind k) where
             sameName = omega (arith, s .names (leaf (acc f) Unlimited) (others f), leaf-name (acc f), others-name f, nameIn-le k f);
             sameList = λ v. s .lists v (leaf (acc f) Unlimited) (others f) ∙ ap (λ y. join k y (before v k (others f))) (leaf-list v (acc f)) ∙ sym (gathered v f);
             stillFits = λ v b h. join-and _ _ (leaf-fits v (acc f) Unlimited (acc-most v f b)) (others-each (fits-each v) f h);
-            stillListed = λ b h l. join-and _ _ (leaf-listed (acc f) Unlimited (acc-most zeros f b) tt) (others-each listed-each f l);
+            stillListed = λ b h l. join-and _ _ (leaf-listed (acc f) Unlimited (acc-most zeros f (b tt)) tt) (others-each listed-each f l);
             deep = omega (arith, leaf-depth (acc f) Unlimited, others-depth f, depth-some f n);
             nested = λ d. omega (arith, s .loopses (leaf (acc f) Unlimited) (others f) d, leaf-loops (acc f) Unlimited d, others-loops f d, loops-some f d n);
             stillNamed = λ d h. named-each k s d .more (leaf (acc f) Unlimited) (others f) (leaf-named (acc f) d) (others-each (named-each k s d) f h);
@@ -222,7 +222,7 @@ module _ (k : Kind) (s : SumKind k) where
         sameName = first-name (acc f) f;
         sameList = λ v. first-list v (acc f) f (omega arith) ∙ sym (gathered v f);
         stillFits = λ v b h. first-each (fits-each v) (acc f) (leaf-fits v (acc f) Unlimited (acc-most v f b)) f h;
-        stillListed = λ b h l. first-each listed-each (acc f) (leaf-listed (acc f) Unlimited (acc-most zeros f b) tt) f l;
+        stillListed = λ b h l. first-each listed-each (acc f) (leaf-listed (acc f) Unlimited (acc-most zeros f (b tt)) tt) f l;
         deep = first-depth (acc f) f;
         nested = λ d. first-loops (acc f) f d;
         stillNamed = λ d h. first-each (named-each k s d) (acc f) (leaf-named (acc f) d) f h;

@@ -153,13 +153,13 @@ mutual
 
 -- ---- the whole table
 
-rule1-kept : (t : Tree) → T (symbolFree t) → Kept (leaf (figure zeros t) Unlimited) t
+rule1-kept : (t : Tree) → T (symbolFree t) → Kept true (leaf (figure zeros t) Unlimited) t
 rule1-kept t h = record {
   sameFigure = λ v. same-figure v;
   stillFits = λ v q. leaf-fits v (figure zeros t) Unlimited (rw (same-first v) at (figure-most v t q));
   stillAccepted = λ q a. record {
     short = omega (arith, leaf-records (figure zeros t) Unlimited);
-    listed = leaf-listed (figure zeros t) Unlimited (figure-most zeros t q) (unfold limitInRange in tt);
+    listed = leaf-listed (figure zeros t) Unlimited (figure-most zeros t (q tt)) (unfold limitInRange in tt);
     deep = omega (arith, leaf-depth (figure zeros t) Unlimited);
     nested = omega (arith, leaf-loops (figure zeros t) Unlimited 0);
     named = leaf-named (figure zeros t) 0;
@@ -179,8 +179,8 @@ rule1-kept t h = record {
 -- block), where no rule fits any more
 pub data Steps (t : Tree) : Option Tree → Type 0 where
   ends : Steps t none
-  goes : {u : Tree} → Kept u t → (T (listed t) → records u < records t) → Steps t (some u)
-  last : {u : Tree} → Kept u t → records u ≡ 1 → step u ≡ none → Steps t (some u)
+  goes : {u : Tree} → Kept true u t → (T (listed t) → records u < records t) → Steps t (some u)
+  last : {u : Tree} → Kept true u t → records u ≡ 1 → step u ≡ none → Steps t (some u)
 
 -- no rule fits an unlimited plain block
 pub leaf-done : (x : ℕ) → step (leaf x Unlimited) ≡ none

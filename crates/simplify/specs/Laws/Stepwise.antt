@@ -16,13 +16,13 @@ use Rattle.simplify.specs.Laws.Stepping.{Steps, ends, goes, last, step-s
 
 -- ---- steps up to an allowance
 
-onward-kept : (t : Tree) (k : Tree → Made) → ((u : Tree) → Kept (k u .tree) u) → (x : Option Tree) → Steps t x → Kept (onward t k x .tree) t
+onward-kept : (t : Tree) (k : Tree → Made) → ((u : Tree) → Kept true (k u .tree) u) → (x : Option Tree) → Steps t x → Kept true (onward t k x .tree) t
 unfolding onward
 onward-kept t k h none ends = kept-refl t
 onward-kept t k h (some u) (goes q l) = kept-trans t u _ (h u) q
 onward-kept t k h (some u) (last q o e) = kept-trans t u _ (h u) q
 
-pub steps-kept : (n : ℕ) (t : Tree) → Kept (steps n t .tree) t
+pub steps-kept : (n : ℕ) (t : Tree) → Kept true (steps n t .tree) t
 unfolding steps
 steps-kept zero t = kept-refl t
 steps-kept (suc n) t = onward-kept t (steps n) (steps-kept n) _ (step-steps t)
@@ -80,7 +80,7 @@ onward-ends : (n : ℕ) (t : Tree) → ((u : Tree) → T (fits zeros u) → Acce
     → T (fits zeros t) → Accepted t → records t ≤ suc n → (x : Option Tree) → Steps t x → onward t (steps n) x .finished ≡ true
 unfolding onward
 onward-ends n t h f a l none ends = refl
-onward-ends n t h f a l (some u) (goes q r) = h u (q .stillFits zeros f) (q .stillAccepted f a) (omega (arith, r (a .listed)))
+onward-ends n t h f a l (some u) (goes q r) = h u (q .stillFits zeros f) (q .stillAccepted (λ x. f) a) (omega (arith, r (a .listed)))
 onward-ends n t h f a l (some u) (last q o e) = done n u e
 
 pub steps-end : (n : ℕ) (t : Tree) → T (fits zeros t) → Accepted t → records t ≤ n → steps n t .finished ≡ true

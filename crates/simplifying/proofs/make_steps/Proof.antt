@@ -2,8 +2,9 @@
 use mathlib.Core.Path.{sym, subst}
 use native.Mathlib.Omega.{arith}
 use borrow.Author.Needs.{needs}
+use Rattle.table.specs.Laws.Tables.{not-long}
 use Rattle.subtrees.specs.Parts.{Simplifiable}
-use Rattle.simplifying.specs.Laws.Simplifying.{copy-is, made-is, not-long}
+use Rattle.simplifying.specs.Laws.Simplifying.{copy-is, made-is}
 use Rattle.simplifying.proofs.make_steps.Statement.{statement}
 use Rattle.simplifying.proofs.make_steps.Tie as tie
 
@@ -13,7 +14,7 @@ slice-aggregate-write-bytes c = search needs
 write-bytes-requires : tie.Need-write-bytes-requires
 write-bytes-requires c κs =
     let start = c .before .before .before in
-    (omega arith, omega (arith, not-long _ (start .pre .0)))
+    (omega arith, omega (arith, not-long _ (start .pre .0 .table)))
 
 slice-aggregate-steps-in : tie.Need-slice-aggregate-steps-in
 slice-aggregate-steps-in c = search needs
@@ -31,7 +32,7 @@ steps-in-requires : tie.Need-steps-in-requires
 steps-in-requires c κs =
     let copy = c .before .before .before .before .before in
     let start = copy .before .before .before .before in
-    let l = not-long _ (start .pre .0) in
+    let l = not-long _ (start .pre .0 .table) in
     (subst Simplifiable (sym (copy-is _ _ _ (copy .write-bytes .ensures))) (start .pre .0), (omega (arith, l, copy .write-bytes .kept), (omega (arith, l), (omega (arith, l), omega (arith, l)))))
 
 slice-aggregate-write-bytes-2 : tie.Need-slice-aggregate-write-bytes-2
@@ -43,7 +44,7 @@ write-bytes-requires-2 c κs =
     let copy = run .before .before .before .before .before .before in
     let start = copy .before .before .before .before in
     let short = run .steps-in .ensures .1 in
-    (omega (arith, short, not-long _ (start .pre .0), run .steps-in .kept, copy .write-bytes .kept), omega (arith, short, start .pre .1))
+    (omega (arith, short, not-long _ (start .pre .0 .table), run .steps-in .kept, copy .write-bytes .kept), omega (arith, short, start .pre .1))
 
 ending-of-requires : tie.Need-ending-of-requires
 ending-of-requires c κs = search needs
@@ -57,7 +58,7 @@ returns c =
     let run = write .before .before .before .before .before .before .before in
     let copy = run .before .before .before .before .before .before in
     made-is _ _ _ _ _ _ _ _ _ _ (copy-is _ _ _ (copy .write-bytes .ensures)) (run .steps-in .ensures .0)
-    (omega (arith, run .steps-in .ensures .1, not-long _ (copy .before .before .before .before .pre .0), run .steps-in .kept, copy .write-bytes .kept)) (c .ending-of .ensures) (write .write-bytes2 .ensures)
+    (omega (arith, run .steps-in .ensures .1, not-long _ (copy .before .before .before .before .pre .0 .table), run .steps-in .kept, copy .write-bytes .kept)) (c .ending-of .ensures) (write .write-bytes2 .ensures)
 
 pub make-steps-spec : {M : Type 1} → statement M
 make-steps-spec =

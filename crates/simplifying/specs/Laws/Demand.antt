@@ -10,12 +10,12 @@ use Rattle.table.specs.Asking.{_asks_, byRefusal, firstNo}
 use Rattle.table.specs.Bytes.{AreBytes}
 use Rattle.table.specs.Table.{encode, decode, recordCount}
 use Rattle.table.specs.Questions.{Accepted}
-use Rattle.table.specs.Checking.{refusal}
+use Rattle.table.specs.Checking.{IsTable, refusal}
 use Rattle.table.specs.Laws.Asking.{Yes, all-yes, by-refusals, numbered}
 use Rattle.table.specs.Laws.Reading.{part-to}
 use Rattle.table.specs.Laws.Refusal.{check-passes}
 use Rattle.table.specs.Laws.RoundTrip.{length-encode}
-use Rattle.table.specs.Laws.Accepted.{IsTable, is-table}
+use Rattle.table.specs.Laws.Accepted.{is-table}
 use Rattle.table.specs.Laws.NotRefused.{reads-back, not-refused}
 use Rattle.evaluate.specs.Evaluate.{valuesOf, figure, fits, zeros}
 use Rattle.evaluate.specs.Laws.Monotone.{figure-mono, fits-zeros}
@@ -26,13 +26,14 @@ use Rattle.quoting.specs.declared.Checked.{Checked}
 use Rattle.quoting.specs.declared.Quote.{Quote}
 use Rattle.simplifying.specs.declared.Simplified.{Simplified}
 use Rattle.quoting.specs.Values.{valuesRefusal}
-use Rattle.quoting.specs.Answers.{checkAnswer, checkedRefusal, figureAnswer, over, quotedFigure, quotedRefusal}
+use Rattle.writing.specs.Over.{over}
+use Rattle.quoting.specs.Answers.{checkAnswer, checkedRefusal, figureAnswer, quotedFigure, quotedRefusal}
 use Rattle.simplifying.specs.Answers.{endingOf, finishedNumber, made, madeAnswer, simplifiedFinished, simplifiedLength, simplifiedRefusal, simplifiedSteps, simplifyAnswer, simplifyRefusal, simplifyWrites}
 use Rattle.quoting.specs.Promises.{Promises}
 use Rattle.simplifying.specs.Demand.{Asked, Demand3, Sold, soldBytes}
-use Rattle.quoting.specs.Laws.Copies.{long-over, take-over}
+use Rattle.writing.specs.Laws.Over.{long-over, take-over}
 use Rattle.quoting.specs.Laws.Figures.{figure-is, figured}
-use Rattle.quoting.specs.Laws.Values.{nine-values, values-nine}
+use Rattle.quoting.specs.Laws.Values.{values-carry}
 
 spent-not : (finished : Bool) → finishedNumber (endingOf finished) ≡ 0 → finished ≡ false
 unfolding endingOf finishedNumber
@@ -46,8 +47,8 @@ module _ (b : List ℕ) (n : ℕ) (v w : List ℕ) (h : AreBytes b) (e : refusal
       let t = decode b in
       let i : IsTable b = is-table b h e in
       let m : Made = steps n t in
-      let k : Kept (m .tree) t = steps-kept n t in
-      let a : Accepted (m .tree) = k .stillAccepted f (i .accepted) in
+      let k : Kept true (m .tree) t = steps-kept n t in
+      let a : Accepted (m .tree) = k .stillAccepted (λ x. f) (i .accepted) in
       let back : decode (encode (m .tree)) ≡ m .tree = reads-back (m .tree) (a .listed) in
       let ok : refusal (encode (m .tree)) ≡ 0 = not-refused (m .tree) a in
       let long : length (encode t) ≡ length b = ap length (i .back) in
@@ -56,7 +57,7 @@ module _ (b : List ℕ) (n : ℕ) (v w : List ℕ) (h : AreBytes b) (e : refusal
         made = steps-made n t;
         wrote = refl;
         accepted = ok;
-        noLonger = omega (arith, length-encode (m .tree), length-encode t, k .noMore f (i .accepted));
+        noLonger = omega (arith, length-encode (m .tree), length-encode t, k .noMore (λ x. f) (i .accepted));
         within = steps-within n t;
         spent = λ q. steps-spent n t (spent-not _ q);
         ends = ap (λ x. finishedNumber (endingOf x)) (steps-finished n t ∙ ap (λ u. isNone (step u)) (sym back));
@@ -64,7 +65,7 @@ module _ (b : List ℕ) (n : ℕ) (v w : List ℕ) (h : AreBytes b) (e : refusal
             omega (arith, figured b v p .is, figured _ w z .is, ap (figure (valuesOf w)) back, k .sameFigure (valuesOf w), figure-mono (valuesOf v) (valuesOf w) q t);
         sameFigure = λ q p.
             let f = figured b v p in
-            let allowed : valuesRefusal (encode (m .tree)) v ≡ 0 = nine-values _ v (values-nine b v (f .allowed)) in
+            let allowed : valuesRefusal (encode (m .tree)) v ≡ 0 = values-carry b _ v (f .allowed) in
             let small : T (fits (valuesOf v) (decode (encode (m .tree)))) = rw back (k .stillFits (valuesOf v) (f .small)) in
             let same : figureAnswer (encode (m .tree)) w ≡ Quote.Figure (figure (valuesOf v) t) =
             ap (figureAnswer (encode (m .tree))) (sym q) ∙ figure-is _ v ok allowed small ∙ ap Quote.Figure (ap (figure (valuesOf v)) back ∙ k .sameFigure (valuesOf v)) in

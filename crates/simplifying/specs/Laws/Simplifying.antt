@@ -2,7 +2,7 @@
 use mathlib.Core.Path.{_≡_, refl, ap, sym, _∙_}
 use mathlib.Core.Bool.{Bool, false, true}
 use mathlib.Core.List.{List, [], _∷_}
-use Prim.Native.Nat.{ℕ, _*_, _<_, _≤_}
+use Prim.Native.Nat.{ℕ, _<_, _≤_}
 use native.Mathlib.Omega.{arith}
 use lib.ListN.{length, take}
 use lib.Seq.{length-take-le, take-length}
@@ -11,7 +11,7 @@ use Rattle.booleans.specs.Laws.{is-T}
 use Rattle.table.specs.Asking.{_asks_, firstNo}
 use Rattle.table.specs.Bytes.{AreBytes}
 use Rattle.table.specs.Checking.{refusal}
-use Rattle.table.specs.Numbers.{mostDepth, mostRecords, recordLength}
+use Rattle.table.specs.Numbers.{mostDepth}
 use Rattle.table.specs.Table.{decode, encode}
 use Rattle.table.specs.Laws.Accepted.{is-table}
 use Rattle.table.specs.Laws.Refusal.{check-passes, check-stops}
@@ -20,11 +20,10 @@ use Rattle.evaluate.specs.Evaluator.{evaluateNode}
 use Rattle.evaluate.specs.Laws.Evaluator.{Evaluated, evaluated-table}
 use Rattle.simplify.specs.Steps.{steps}
 use Rattle.subtrees.specs.Parts.{Simplifiable}
-use Rattle.subtrees.specs.Laws.Parts.{few-records, length-is}
-use Rattle.stepping.specs.Spots.{Ends}
-use Rattle.quoting.specs.Answers.{over}
+use Rattle.stepping.specs.Steps.{Ends}
+use Rattle.writing.specs.Over.{over}
 use Rattle.simplifying.specs.Answers.{endingOf, made, madeAnswer, simplifyAnswer, simplifyRefusal, simplifyWrites}
-use Rattle.quoting.specs.Laws.Copies.{take-over}
+use Rattle.writing.specs.Laws.Over.{take-over}
 use Rattle.quoting.specs.Laws.Answers.{refuses, writes}
 use Rattle.simplifying.specs.declared.Ending.{Ending}
 use Rattle.simplifying.specs.declared.Simplified.{Simplified}
@@ -34,9 +33,6 @@ use Rattle.simplifying.specs.declared.Simplified.{Simplified}
 -- the table stands at the copy's front
 pub copy-is : (b work copy : List ℕ) → copy ≡ over (take (length b) b) work → take (length b) copy ≡ b
 copy-is b work copy e = ap (take (length b)) (e ∙ ap (λ x. over x work) (take-length b)) ∙ take-over b work
-
-pub not-long : (b : List ℕ) → Simplifiable b → length b ≤ recordLength * mostRecords
-not-long b s = omega (arith, length-is b s, few-records b s)
 
 pub made-is : (b copy work out new : List ℕ) (n long count : ℕ) (finished : Bool) (end : Ending) → copy ≡ b → Ends copy n (take long work) count finished → long ≤ length work
     → end ≡ endingOf finished → new ≡ over (take long work) out → (Simplified.Written long count end ≡ madeAnswer b n) × (new ≡ over (encode (made b n .tree)) out)
@@ -80,7 +76,7 @@ module _ (b : List ℕ) (n : ℕ) (out : List ℕ) where
       simplify-large z = by-refusal (walked z) (λ q. omega (arith, q))
 
       pub simplify-able : evaluateNode zeros mostDepth b .fits ≡ true → Simplifiable b
-      simplify-able z = let t = is-table b h e in record { accepted = t .accepted; back = t .back; fits = is-T _ (sym (walk .fits) ∙ z) }
+      simplify-able z = let t = is-table b h e in record { table = t; fits = is-T _ (sym (walk .fits) ∙ z) }
 
       pub simplify-made : evaluateNode zeros mostDepth b .fits ≡ true → {x : Simplified} {new : List ℕ} → (x ≡ madeAnswer b n) × (new ≡ over (encode (made b n .tree)) out) → Simplifies x new
       unfolding simplifyAnswer simplifyWrites firstNo

@@ -2,8 +2,8 @@
 use mathlib.Core.Path.{_∙_}
 use native.Mathlib.Omega.{arith}
 use Rattle.lists.specs.Reading.{valueAt}
-use Rattle.subtrees.specs.Laws.Parts.{length-is}
-use Rattle.stepping.specs.Laws.Whole.{block-written, first-is, has-symbol, not-long, some-record, that-already}
+use Rattle.table.specs.Laws.Tables.{length-is, not-long}
+use Rattle.stepping.specs.Laws.Whole.{block-written, first-is, has-symbol, some-record, that-already}
 use borrow.Author.Needs.{needs}
 use Rattle.stepping.proofs.rule1_at.Statement.{statement}
 use Rattle.stepping.proofs.rule1_at.Tie as tie
@@ -19,7 +19,7 @@ returns c =
 is-bare-requires : tie.Need-is-bare-requires
 is-bare-requires c κs =
     let start = c .before .before .before .before .before in
-    (start .pre .0, some-record _ (start .pre .0))
+    (start .pre .0 .table, some-record _ (start .pre .0))
 
 returns-2 : tie.Need-returns-2
 returns-2 c =
@@ -36,7 +36,7 @@ evaluate-requires : tie.Need-evaluate-requires
 evaluate-requires c κs =
     let zero = c .before .before in
     let start = zero .before .before .before .before .before .before .before .before in
-    (not-long _ (start .pre .0), zero .zero .ensures .proper .long)
+    (not-long _ (start .pre .0 .table), zero .zero .ensures .proper .long)
 
 value-at-requires : tie.Need-value-at-requires
 value-at-requires c κs = search needs
@@ -44,7 +44,7 @@ value-at-requires c κs = search needs
 put-node-requires : tie.Need-put-node-requires
 put-node-requires c κs =
     let start = c .before .before .before .before .before .before .before .before .before .before .before .before .before .before .before in
-    omega (arith, start .pre .1 .1 .1, length-is _ (start .pre .0), some-record _ (start .pre .0))
+    omega (arith, start .pre .1 .1 .1, length-is _ (start .pre .0 .table), some-record _ (start .pre .0))
 
 same-length : tie.Need-same-length
 same-length c = search needs

@@ -1,7 +1,6 @@
 -- Rule 1, or else the search.
 use native.Mathlib.Omega.{arith}
-use Rattle.stepping.specs.Laws.Search.{by-rule1, by-search}
-use Rattle.stepping.specs.Laws.Whole.{some-record}
+use Rattle.stepping.specs.Laws.Whole.{by-rule1, by-search, some-record}
 use borrow.Author.Needs.{needs}
 use Rattle.stepping.proofs.step_onto.Statement.{statement}
 use Rattle.stepping.proofs.step_onto.Tie as tie
@@ -33,7 +32,11 @@ returns c =
     by-rule1 _ (start .pre .0) _ _ (c .if1 .taken) (call .rule1-at .ensures)
 
 find-requires : tie.Need-find-requires
-find-requires c κs = search needs
+find-requires c κs =
+    let call = c .before .before .before .before .before .before in
+    let survey = call .before .before .before .before .before .before .before in
+    let start = survey .before .before .before .before .before .before .before in
+    (survey .survey .ensures, (search needs, start .pre .0))
 
 same-length-4 : tie.Need-same-length-4
 same-length-4 c = search needs

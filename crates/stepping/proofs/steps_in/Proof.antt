@@ -1,5 +1,5 @@
 -- The invariant: so many steps were made, and the next one is found. The measure: the steps left of the allowance.
-use mathlib.Core.Path.{_≡_, refl}
+use mathlib.Core.Path.{_≡_}
 use Prim.Native.Nat.{_*_, _-_}
 use native.Mathlib.Omega.{arith}
 use borrow.Author.Needs.{needs}
@@ -7,7 +7,7 @@ use lib.ListN.{length, take}
 use Rattle.table.specs.Numbers.{recordLength}
 use lib.Seq.{length-take-le}
 use Rattle.table.specs.Laws.Reading.{part-to}
-use Rattle.stepping.specs.Laws.Budget.{Stage, going-start, part-ready, stage-ends, stage-fewer, stage-next, stage-on, stage-short, turn-of, Turn}
+use Rattle.stepping.specs.Laws.Budget.{Stage, going-start, part-ready, stage-ends, stage-next, stage-short, turn-of, Turn}
 use Rattle.stepping.proofs.steps_in.Statement.{statement}
 use Rattle.stepping.proofs.steps_in.Tie as tie
 

@@ -23,8 +23,9 @@ use Rattle.simplify.specs.Laws.Keeps.{Kept}
 use Rattle.simplify.specs.Laws.Stepping.{Steps, ends, goes, last, step-steps}
 use Rattle.subtrees.specs.Facts.{marksEach}
 use Rattle.subtrees.specs.Parts.{Simplifiable}
-use Rattle.rewrite.specs.Writing.{front, slice}
-use Rattle.stepping.specs.Spots.{Ends, Rewritten, stepped}
+use Rattle.writing.specs.Records.{front, slice}
+use Rattle.searching.specs.Rewritten.{Rewritten}
+use Rattle.stepping.specs.Steps.{Ends, stepped}
 
 -- after k steps, what is made of the rest
 abbrev pub added : ℕ → Made → Made
@@ -65,7 +66,7 @@ next-step b at n out z w = next-of b at n out (step (decode b)) refl z w
 
 unfoldable keeps : Tree → Option Tree → Type 0
 keeps t none = Unit {0}
-keeps t (some u) = Kept u t
+keeps t (some u) = Kept true u t
 
 step-keeps : (t : Tree) → keeps t (step t)
 step-keeps t = go (step t) (step-steps t)
@@ -75,7 +76,7 @@ step-keeps t = go (step t) (step-steps t)
     go (some u) (goes k l) = unfold keeps in k
     go (some u) (last k o e) = unfold keeps in k
 
-kept-step : (t u : Tree) → step t ≡ some u → Kept u t
+kept-step : (t u : Tree) → step t ≡ some u → Kept true u t
 unfolding keeps
 kept-step t u e = subst (keeps t) e (step-keeps t)
 
@@ -95,13 +96,13 @@ going-next b₀ n b k g l {at} {m} {out} x =
     let u = x .tree in
     let kept = kept-step t u (x .is) in
     let s = g .simplifiable in
-    let a : Accepted u = kept .stillAccepted (s .fits) (s .accepted) in
+    let a : Accepted u = kept .stillAccepted (λ x. s .fits) (s .table .accepted) in
     let back : decode (encode u) ≡ u = reads-back u (a .listed) in
     let left : n - k ≡ suc (n - (k + 1)) = omega arith in
     rw (x .bytes) (record {
-      simplifiable = record { accepted = rw back a; back = ap encode back; fits = rw back (kept .stillFits zeros (s .fits)) };
+      simplifiable = record { table = record { accepted = rw back a; back = ap encode back }; fits = rw back (kept .stillFits zeros (s .fits)) };
       within = omega arith;
-      noLonger = omega (arith, length-encode u, length-encode t, ap length (s .back), kept .noMore (s .fits) (s .accepted), g .noLonger);
+      noLonger = omega (arith, length-encode u, length-encode t, ap length (s .table .back), kept .noMore (λ x. s .fits) (s .table .accepted), g .noLonger);
       same = g .same ∙ ap (λ j. added k (steps j t)) left ∙ ap (added k) (next-steps (n - (k + 1)) t u (x .is)) ∙ one-more k (steps (n - (k + 1)) u) ∙ ap (λ w. added (k + 1) (steps (n - (k + 1)) w)) (sym back);
     })
 
@@ -119,7 +120,7 @@ used t u e = λ i. record { tree = t; taken = 0; finished = isNone (e i) }
 ends-by : (b₀ : List ℕ) (n : ℕ) (b : List ℕ) (k : ℕ) (finished : Bool) → Going b₀ n b k → steps (n - k) (decode b) ≡ record { tree = decode b; taken = 0; finished = finished } → Ends b₀ n b k finished
 ends-by b₀ n b k finished g e =
     let m = g .same ∙ ap (added k) e in
-    record { bytes = ap (λ x. encode (x .tree)) m ∙ g .simplifiable .back; taken = ap (λ x. x .taken) m ∙ add-zero k; ending = ap (λ x. x .finished) m }
+    record { bytes = ap (λ x. encode (x .tree)) m ∙ g .simplifiable .table .back; taken = ap (λ x. x .taken) m ∙ add-zero k; ending = ap (λ x. x .finished) m }
 
 none-of : (x : Option Tree) (b : List ℕ) (at : ℕ) (out : List ℕ) → Rewritten (also (λ u. u ▸ nil) x) b at 0 out → x ≡ none
 unfolding also Rewritten
@@ -167,7 +168,7 @@ module _ (b₀ : List ℕ) (n : ℕ) (work : List ℕ) (long k at m : ℕ) (out 
     pub stage-fewer : recordLength * (at + m) ≤ long
     stage-fewer =
         let t = s .going .simplifiable in
-        omega (arith, next-one .count, kept-step _ _ (next-one .is) .noMore (t .fits) (t .accepted), length-encode (decode (take long work)), ap length (t .back), long-is)
+        omega (arith, next-one .count, kept-step _ _ (next-one .is) .noMore (λ x. t .fits) (t .table .accepted), length-encode (decode (take long work)), ap length (t .table .back), long-is)
 
     front-same : front at (take long work) ≡ front at work
     front-same = take-take (recordLength * at) long work (omega (arith, stage-fewer))

@@ -1,5 +1,4 @@
 -- The invariant: the children left, after those found, come to all. The measure: the children left.
-use mathlib.Core.Path.{refl}
 use borrow.Author.Needs.{needs}
 use Rattle.subtrees.specs.Parts.{treesAt}
 use Rattle.subtrees.specs.Facts.{belowAt}
@@ -8,37 +7,28 @@ use Rattle.subtrees.proofs.below_of.Statement.{statement}
 use Rattle.subtrees.proofs.below_of.Tie as tie
 
 abbrev Inv-loop : tie.InvT-loop
-Inv-loop table i extents marks start found₀ body₀ left₀ p₀ found body left p = Walk table i (belowAt (treesAt table i)) found body left p
+Inv-loop table i extents marks found₀ body₀ left₀ p₀ found body left p = Walk table i (belowAt (treesAt table i)) found body left p
 
 abbrev μ-loop : tie.MeasureT-loop
-μ-loop table i extents marks start found₀ body₀ left₀ p₀ found body left p = left
+μ-loop table i extents marks found₀ body₀ left₀ p₀ found body left p = left
 
-mul-start : tie.Need-mul-start Inv-loop μ-loop
-mul-start c = search needs
+node-at-requires : tie.Need-node-at-requires Inv-loop μ-loop
+node-at-requires c κs = search needs
 
-shared-slice-read-body : tie.Need-shared-slice-read-body Inv-loop μ-loop
-shared-slice-read-body c = search needs
+is-loop-requires : tie.Need-is-loop-requires Inv-loop μ-loop
+is-loop-requires c κs = search needs
 
-sub-child-count : tie.Need-sub-child-count Inv-loop μ-loop
-sub-child-count c = search needs
-
-part-child-count-start : tie.Need-part-child-count-start Inv-loop μ-loop
-part-child-count-start c = search needs
-
-part-child-count-end : tie.Need-part-child-count-end Inv-loop μ-loop
-part-child-count-end c = search needs
-
-child-count-requires : tie.Need-child-count-requires Inv-loop μ-loop
-child-count-requires c κs = search needs
+children-at-requires : tie.Need-children-at-requires Inv-loop μ-loop
+children-at-requires c κs = search needs
 
 add-p : tie.Need-add-p Inv-loop μ-loop
 add-p c = search needs
 
 loop-holds : tie.Need-loop-holds Inv-loop μ-loop
 loop-holds c =
-    let at = c .before .before in
-    let start = at .before .before .before .before in
-    walk-start (start .args .table .now) (start .pre .0) (start .args .i) _ _ (start .pre .1 .0) refl (c .child-count .ensures .0)
+    let read = c .before .before in
+    let start = read .before .before .before .before in
+    walk-start (start .args .table .now) (start .pre .0) (start .args .i) _ _ _ (start .pre .1 .0) (read .node-at .ensures) (c .before .is-loop .ensures) (c .children-at .ensures .0)
 
 mul-m : tie.Need-mul-m Inv-loop μ-loop
 mul-m c = search needs
@@ -106,12 +96,9 @@ below-of-spec =
     (tie.spec
     Inv-loop
     μ-loop
-    mul-start
-    shared-slice-read-body
-    sub-child-count
-    part-child-count-start
-    part-child-count-end
-    child-count-requires
+    node-at-requires
+    is-loop-requires
+    children-at-requires
     add-p
     loop-holds
     mul-m

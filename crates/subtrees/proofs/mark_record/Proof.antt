@@ -1,4 +1,4 @@
--- The facts of the record, by its bytes and what its children come to.
+-- The facts of the record, by its fields and what its children come to.
 use Rattle.subtrees.specs.Laws.Survey.{few-below, known-next}
 use borrow.Author.Needs.{needs}
 use Rattle.subtrees.proofs.mark_record.Statement.{statement}
@@ -7,26 +7,17 @@ use Rattle.subtrees.proofs.mark_record.Tie as tie
 below-of-requires : tie.Need-below-of-requires
 below-of-requires c κs = search needs
 
-mul-start : tie.Need-mul-start
-mul-start c = search needs
+name-at-requires : tie.Need-name-at-requires
+name-at-requires c κs = search needs
 
-add-limit : tie.Need-add-limit
-add-limit c = search needs
+flagless-at-requires : tie.Need-flagless-at-requires
+flagless-at-requires c κs = search needs
 
-shared-slice-read-limit : tie.Need-shared-slice-read-limit
-shared-slice-read-limit c = search needs
+with-symbol-requires : tie.Need-with-symbol-requires
+with-symbol-requires c κs = search needs
 
-add-with-flags : tie.Need-add-with-flags
-add-with-flags c = search needs
-
-shared-slice-read-with-flags : tie.Need-shared-slice-read-with-flags
-shared-slice-read-with-flags c = search needs
-
-with-flags-requires : tie.Need-with-flags-requires
-with-flags-requires c κs = search needs
-
-with-limit-requires : tie.Need-with-limit-requires
-with-limit-requires c κs = search needs
+with-name-requires : tie.Need-with-name-requires
+with-name-requires c κs = search needs
 
 larger-of-requires : tie.Need-larger-of-requires
 larger-of-requires c κs = search needs
@@ -57,11 +48,13 @@ returns c =
     let put = c .before .before in
     let outermost = put .before .before .before in
     let inner = outermost .before in
-    let flags = inner .before in
-    let at = flags .before .before .before in
+    let symbol = inner .before in
+    let flags = symbol .before in
+    let name = flags .before in
+    let at = name .before in
     let start = at .before .before .before .before .before .before in
     let a = start .args in
-    rw (put .put-marks .ensures, flags .with-flags .ensures, inner .with-limit .ensures, outermost .larger-of .ensures)
+    rw (put .put-marks .ensures, symbol .with-symbol .ensures, flags .flagless-at .ensures, inner .with-name .ensures, outermost .larger-of .ensures, name .name-at .ensures)
     (known-next (a .table .now) (start .pre .0) (a .i) (start .pre .1 .0) (a .extents .now) (a .marks .now) (start .pre .1 .1 .1 .0) (start .pre .1 .1 .1 .1) (start .pre .1 .1 .0) _ (at .below-of .ensures))
 
 pub mark-record-spec : {M : Type 1} → statement M
@@ -69,13 +62,10 @@ mark-record-spec =
     tie.close
     (tie.spec
     below-of-requires
-    mul-start
-    add-limit
-    shared-slice-read-limit
-    add-with-flags
-    shared-slice-read-with-flags
-    with-flags-requires
-    with-limit-requires
+    name-at-requires
+    flagless-at-requires
+    with-symbol-requires
+    with-name-requires
     larger-of-requires
     add-extents
     mul-extents

@@ -47,7 +47,7 @@ returns c =
     let start = c .before .before .before .before .before in
     let k = l .inv .3 in
     record {
-      sizes = record { simplifiable = start .pre .0; room = omega (arith, start .pre .1 .0, l .inv .1); each = λ j p. k .sizes j (omega (arith, c .loop-test .left)) p };
+      sizes = record { table = start .pre .0; room = omega (arith, start .pre .1 .0, l .inv .1); each = λ j p. k .sizes j (omega (arith, c .loop-test .left)) p };
       room = omega (arith, start .pre .1 .1, l .inv .2);
       each = λ j p. k .each j (omega (arith, c .loop-test .left)) p;
     }

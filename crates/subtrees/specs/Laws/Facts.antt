@@ -10,14 +10,14 @@ use Rattle.booleans.specs.Laws.{both, is-T, join-and, same-test}
 use Rattle.booleans.specs.Tests.{_and_}
 use Rattle.table.specs.Numbers.{mostLoops, wholeRun}
 use Rattle.table.specs.Questions.{depth, depthIn, limitInRange, listed, listedIn}
-use Rattle.table.specs.Table.{kindByte, loopByte}
+use Rattle.table.specs.Table.{loopByte}
 use Rattle.table.specs.Trees.{Forest, Tree, nil, node, _▸_, around, records, recordsIn, rest}
 use Rattle.table.specs.Laws.Trees.{some-depth}
 use Rattle.evaluate.specs.Closed.{closed, closedIn, stays, symbolFree, symbolFreeIn}
 use Rattle.evaluate.specs.Evaluate.{name, nameIn, outward, seen}
 use Rattle.evaluate.specs.Laws.Monotone.{nameIn-le}
 use Rattle.subtrees.specs.Nodes.{AtMost, Block, Choice, Kind, Limit, Loop, Sequence, Unlimited}
-use Rattle.subtrees.specs.Facts.{belowOf, childIn, noChild, outer, passed, reach, reachIn, symbols, symbolsIn}
+use Rattle.subtrees.specs.Facts.{belowOf, childIn, isLoop, noChild, outer, passed, reach, reachIn, symbols, symbolsIn}
 use Rattle.subtrees.specs.declared.Below.{Below}
 use Rattle.subtrees.specs.Laws.Forests.{Sound}
 
@@ -88,19 +88,6 @@ pub closed-at : (t : Tree) → Sound t → closed t 0 ≡ leb (reach t) 0
 closed-at t s = closed-is t 0 (s .fair .listed) (omega (arith, s .deep))
 
 -- ---- children one after the other
-
-unfoldable pub isLoop : Kind → Bool
-isLoop (Block t) = false
-isLoop Sequence = false
-isLoop Choice = false
-isLoop (Loop n) = true
-
-pub loop-byte : (k : Kind) → eqb (kindByte k) 3 ≡ isLoop k
-unfolding kindByte isLoop
-loop-byte (Block t) = refl
-loop-byte Sequence = refl
-loop-byte Choice = refl
-loop-byte (Loop n) = refl
 
 rest-loop : (k : Kind) → isLoop (rest k) ≡ false
 unfolding isLoop rest

@@ -13,8 +13,8 @@ use Rattle.table.specs.Table.{encode, encodes, forest}
 use Rattle.table.specs.Trees.{Forest, Tree, nil, node, _▸_, _⧺_, records, recordsIn}
 use Rattle.table.specs.Laws.RoundTrip.{Writes, WritesAll, drop-bytes, forest-all}
 use Rattle.table.specs.Laws.NotRefused.{tree-writes}
-use Rattle.booleans.specs.Laws.{both}
-use Rattle.evaluate.specs.Evaluate.{fits, fitsIn, zeros}
+use Rattle.booleans.specs.Laws.{both, join-and}
+use Rattle.evaluate.specs.Evaluate.{Values, fits, fitsIn}
 use Rattle.evaluate.specs.Laws.Evaluator.{Fair, FairIn, fair-below, fair-first, fair-rest}
 use Rattle.subtrees.specs.Nodes.{Node, Kind}
 
@@ -30,13 +30,12 @@ unfolding _⧺_ recordsIn
 records-⧺ nil g = omega arith
 records-⧺ (t ▸ f) g = omega (arith, records-⧺ f g)
 
--- ---- trees that simplifying works on: with some number of loops around it, what checking lets pass
+-- ---- trees of an accepted table: with some number of loops around it, what checking lets pass
 
 pub record Sound (t : Tree) : Type 0 where
   pub around : ℕ
   pub fair : Fair t around
   pub deep : depth t ≤ mostDepth
-  pub fits : T (fits zeros t)
 
 unfoldable pub SoundIn : Forest → Type 0
 SoundIn nil = Unit {0}
@@ -47,16 +46,14 @@ unfolding SoundIn _⧺_
 sound-⧺ nil g p q = q
 sound-⧺ (t ▸ f) g p q = (p .0, sound-⧺ f g (p .1) q)
 
-children-sound : (k : Kind) (f : Forest) (d : ℕ) → FairIn k f d → depthIn f ≤ mostDepth → T (fitsIn zeros f) → SoundIn f
-unfolding SoundIn depth fits
-children-sound k nil d a l h = tt
-children-sound k (t ▸ f) d a l h =
-    let (p, q) = both _ _ h in
-    (record { around = _; fair = fair-first k t f d a; deep = omega arith; fits = p }, children-sound _ f d (fair-rest k t f d a) (omega arith) q)
+children-sound : (k : Kind) (f : Forest) (d : ℕ) → FairIn k f d → depthIn f ≤ mostDepth → SoundIn f
+unfolding SoundIn depth
+children-sound k nil d a l = tt
+children-sound k (t ▸ f) d a l = (record { around = _; fair = fair-first k t f d a; deep = omega arith }, children-sound _ f d (fair-rest k t f d a) (omega arith))
 
 pub below-sound : (n : Node) (f : Forest) → Sound (node n f) → SoundIn f
-unfolding depth fits
-below-sound n f s = children-sound (n .kind) f (s .around) (fair-below n f (s .around) (s .fair)) (omega (arith, s .deep)) (both _ _ (s .fits) .1)
+unfolding depth
+below-sound n f s = children-sound (n .kind) f (s .around) (fair-below n f (s .around) (s .fair)) (omega (arith, s .deep))
 
 -- ---- without the first record, a row of trees has the first one's children in its place
 
@@ -109,6 +106,22 @@ pub from-sound : (i : ℕ) (g : Forest) → SoundIn g → SoundIn (from i g)
 unfolding from
 from-sound zero g h = h
 from-sound (suc i) g h = from-sound i (below g) (below-all g h)
+
+-- question 10 of a row of trees, and of what stands from a later record on
+fits-⧺ : (v : Values) (f g : Forest) → T (fitsIn v f) → T (fitsIn v g) → T (fitsIn v (f ⧺ g))
+unfolding fits _⧺_
+fits-⧺ v nil g p q = q
+fits-⧺ v (t ▸ f) g p q = let (a, c) = both _ _ p in join-and _ _ a (fits-⧺ v f g c q)
+
+below-fits : (v : Values) (g : Forest) → T (fitsIn v g) → T (fitsIn v (below g))
+unfolding fits below
+below-fits v nil h = tt
+below-fits v (node n f ▸ g) h = let (p, q) = both _ _ h in fits-⧺ v f g (both _ _ p .1) q
+
+pub from-fits : (v : Values) (i : ℕ) (g : Forest) → T (fitsIn v g) → T (fitsIn v (from i g))
+unfolding from
+from-fits v zero g h = h
+from-fits v (suc i) g h = from-fits v i (below g) (below-fits v g h)
 
 -- past as many records as the first trees have stand the others
 mutual

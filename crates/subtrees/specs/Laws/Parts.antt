@@ -1,20 +1,25 @@
--- What stands at a record of a table that simplifying works on.
+-- What stands at a record of an accepted table.
 use mathlib.Core.Path.{_≡_, refl, ap, sym, _∙_, subst}
 use mathlib.Core.List.{List, _++_, append-assoc, append-nil}
 use Prim.Native.Nat.{ℕ, _+_, _-_, _*_, _≤_, _<_, suc}
 use native.Mathlib.Numerals.{add-one}
 use native.Mathlib.Omega.{arith}
+use lib.Dec.{T}
 use lib.ListN.{drop, getD, length, length-drop, take}
 use lib.Seq.{take-all, take-at}
-use Rattle.table.specs.Numbers.{recordLength, mostRecords}
+use Rattle.booleans.specs.Laws.{join-and}
+use Rattle.table.specs.Numbers.{recordLength}
 use Rattle.table.specs.Table.{decode, encode, encodes, recordBytes, recordCount, top}
 use Rattle.table.specs.Trees.{Forest, Tree, nil, node, _▸_, _⧺_, records, recordsIn, size}
-use Rattle.table.specs.Laws.RoundTrip.{length-encode, length-encodes}
+use Rattle.table.specs.Laws.RoundTrip.{length-encodes}
+use Rattle.table.specs.Laws.Tables.{count-is, length-is}
 use Rattle.table.specs.Laws.Trees.{some-records}
+use Rattle.evaluate.specs.Evaluate.{fits, fitsIn, zeros}
 use Rattle.subtrees.specs.Nodes.{Node}
+use Rattle.table.specs.Checking.{IsTable}
 use Rattle.subtrees.specs.Parts.{Simplifiable, subtree, treesAt}
 use Rattle.subtrees.specs.Facts.{Extents}
-use Rattle.subtrees.specs.Laws.Forests.{Sound, SoundIn, below, drop-from, encodes-⧺, from, from-add, from-next, from-records, from-row, from-sound, records-⧺, row-back}
+use Rattle.subtrees.specs.Laws.Forests.{Sound, SoundIn, below, drop-from, encodes-⧺, from, from-add, from-fits, from-next, from-records, from-row, from-sound, records-⧺, row-back}
 
 -- the node at record i with its children, and what stands after them
 pub record Here (b : List ℕ) (i : ℕ) : Type 0 where
@@ -39,7 +44,7 @@ pub row-bytes : (n : Node) (f g : Forest) → encodes (node n f ▸ g) ≡ recor
 unfolding encode encodes
 row-bytes n f g = rw (append-assoc, encodes-⧺) refl
 
-module _ (b : List ℕ) (s : Simplifiable b) where
+module _ (b : List ℕ) (s : IsTable b) where
   abbrev root : Forest
   root = decode b ▸ nil
 
@@ -49,20 +54,13 @@ module _ (b : List ℕ) (s : Simplifiable b) where
 
   root-records : recordsIn root ≡ recordCount b
   unfolding recordsIn
-  root-records = omega (arith, length-encode (decode b), ap length (s .back))
+  root-records = omega (arith, count-is b s)
 
   root-sound : SoundIn root
   unfolding SoundIn
   root-sound =
       let a = s .accepted in
-      (record { around = 0; fair = record { listed = a .listed; nested = a .nested; named = a .named; weighed = a .weighed }; deep = a .deep; fits = s .fits }, tt)
-
-  pub length-is : length b ≡ recordLength * recordCount b
-  length-is = omega (arith, length-encode (decode b), ap length (s .back))
-
-  pub few-records : recordCount b ≤ mostRecords
-  unfolding recordsIn
-  few-records = omega (arith, root-records, s .accepted .short)
+      (record { around = 0; fair = record { listed = a .listed; nested = a .nested; named = a .named; weighed = a .weighed }; deep = a .deep }, tt)
 
   at-from : (i : ℕ) → treesAt b i ≡ from i root
   unfolding treesAt
@@ -97,7 +95,7 @@ module _ (b : List ℕ) (s : Simplifiable b) where
 
   -- what stands from record i to the table's end
   pub tail-at : (i : ℕ) → take (recordLength * (recordCount b - i)) (drop (recordLength * i) b) ≡ encodes (treesAt b i)
-  tail-at i = take-all (recordLength * (recordCount b - i)) (drop (recordLength * i) b) (rw length-drop (omega (arith, length-is))) ∙ sym (back-at i)
+  tail-at i = take-all (recordLength * (recordCount b - i)) (drop (recordLength * i) b) (rw length-drop (omega (arith, length-is b s))) ∙ sym (back-at i)
 
   pub next-at : (i : ℕ) (n : Node) (f g : Forest) → treesAt b i ≡ node n f ▸ g → treesAt b (i + 1) ≡ f ⧺ g
   unfolding below
@@ -155,7 +153,7 @@ pub record First (b : List ℕ) (p left : ℕ) (r : Row b p left) : Type 0 where
   pub start : p < recordCount b
   pub inside : p + records tree ≤ recordCount b
 
-module _ (b : List ℕ) (s : Simplifiable b) where
+module _ (b : List ℕ) (s : IsTable b) where
   pub row-last : (p : ℕ) (f g : Forest) → treesAt b p ≡ f ⧺ g → size f ≤ recordCount b - p
   row-last p f g e = omega (arith, records-at b s p, ap recordsIn e, records-⧺ f g, some-each f)
 
@@ -203,7 +201,7 @@ pub record Next (b extents : List ℕ) (p left : ℕ) (r : Row b p left) : Type 
 
 pub next-row : (b extents : List ℕ) → Extents b extents → (p left : ℕ) (r : Row b p left) → 0 < left → Next b extents p left r
 next-row b extents x p left r l =
-    let f = first-row b (x .simplifiable) p left r l in
+    let f = first-row b (x .table) p left r l in
     let e : getD extents p 0 ≡ records (f .tree) = x .each p (f .start) ∙ ap records (f .here) in
     record {
       others = record { trees = f .others .trees; later = f .others .later; row = rw e (f .others .row); many = f .others .many; last = omega (arith, f .others .last) };
@@ -222,10 +220,15 @@ module _ (b extents : List ℕ) (x : Extents b extents) (i : ℕ) (l : i < recor
   node-extent h = x .each i l ∙ ap records (top-at b i (h .here))
 
   pub past-node : (h : Here b i) → (treesAt b (i + getD extents i 0) ≡ h .later) × (i + getD extents i 0 ≤ recordCount b)
-  past-node h = rw (x .each i l ∙ ap records (top-at b i (h .here))) (past-first b (x .simplifiable) i (node (h .own) (h .kids)) (h .later) (h .here))
+  past-node h = rw (x .each i l ∙ ap records (top-at b i (h .here))) (past-first b (x .table) i (node (h .own) (h .kids)) (h .later) (h .here))
 
   pub extent-some : 0 < getD extents i 0
   extent-some = omega (arith, x .each i l, some-records (subtree b i))
 
   pub past-inside : i + getD extents i 0 ≤ recordCount b
-  past-inside = past-node (here-at b (x .simplifiable) i l) .1
+  past-inside = past-node (here-at b (x .table) i l) .1
+
+-- question 10 of a table that simplifying works on is question 10 of what stands at each record
+pub fits-at : (b : List ℕ) → Simplifiable b → (i : ℕ) → T (fitsIn zeros (treesAt b i))
+unfolding fits
+fits-at b s i = rw (at-from b (s .table) i) (from-fits zeros i _ (join-and _ _ (s .fits) tt))

@@ -5,26 +5,27 @@ use mathlib.Core.List.{List}
 use Prim.Native.Nat.{ℕ, _+_, _*_, _-_, _<_, _≤_, max, suc}
 use native.Mathlib.Omega.{arith}
 use lib.Dec.{T, eqb, ltb}
-use lib.ListN.{getD, length, length-set, set}
+use lib.ListN.{drop, getD, length, length-set, set}
 use lib.Seq.{getD-set-other, getD-set-same}
 use borrow.Author.Tests.{ltb-false, ltb-true, ne-eqb}
 use Rattle.booleans.specs.Laws.{both}
 use Rattle.booleans.specs.Tests.{_and_}
 use Rattle.table.specs.Numbers.{mostRecords, recordLength}
-use Rattle.table.specs.Table.{childByte, flag, limitNum, loopByte, recordCount, valueNum}
+use Rattle.table.specs.Table.{childByte, firstNode, flag, flagless, limitNum, loopByte, recordBytes, recordCount, valueNum}
 use Rattle.table.specs.Questions.{limitInRange, listed}
 use Rattle.table.specs.Trees.{Forest, node, _▸_, records, recordsIn}
-use Rattle.table.specs.Laws.Reading.{part-from, partAt}
 use Rattle.evaluate.specs.Closed.{isPlain, plainKind, plainLimit, symbolFree, symbolFreeIn}
 use Rattle.evaluate.specs.Evaluate.{inner, name}
 use Rattle.subtrees.specs.Nodes.{AtMost, Block, Choice, Kind, Limit, Loop, Node, Number, Plain, Sequence, Symbol, Unlimited}
-use Rattle.subtrees.specs.Facts.{Known, MarkedAt, belowAt, belowOf, childIn, marksEach, noChild, reach, reachBelow, symbols, symbolsIn}
-use Rattle.subtrees.specs.Marks.{flagged, limitedName, marked}
-use Rattle.subtrees.specs.Parts.{Simplifiable, subtree, treesAt}
+use Rattle.subtrees.specs.Facts.{Known, MarkedAt, belowAt, belowOf, childIn, isLoop, marksEach, noChild, reach, reachBelow, symbols, symbolsIn}
+use Rattle.subtrees.specs.Marks.{limitedName, marked}
+use Rattle.table.specs.Checking.{IsTable}
+use Rattle.subtrees.specs.Parts.{subtree, treesAt}
 use Rattle.subtrees.specs.declared.Below.{Below}
-use Rattle.subtrees.specs.Laws.Facts.{all-children, isLoop, limit-byte, loop-byte, moreChildren}
-use Rattle.subtrees.specs.Laws.Parts.{First, Here, Row, few-records, first-row, here-at, kids-row, records-at, row-end, top-at}
-use Rattle.subtrees.specs.Laws.Records.{count-at, flags-at, kind-at, limit-at}
+use Rattle.subtrees.specs.Laws.Facts.{all-children, limit-byte, moreChildren}
+use Rattle.table.specs.Laws.Tables.{few-records}
+use Rattle.subtrees.specs.Laws.Parts.{First, Here, Row, first-row, here-at, kids-row, records-at, row-end, top-at}
+use Rattle.subtrees.specs.Laws.Records.{count-at, node-at}
 
 first-records : (n : Node) (f g : Forest) → recordsIn (node n f ▸ g) ≡ suc (recordsIn f + recordsIn g)
 unfolding records recordsIn
@@ -39,14 +40,14 @@ pub record Walk (b : List ℕ) (i : ℕ) (all found : Below) (body : Bool) (left
   pub few : found .records + recordsIn (row .trees) ≤ mostRecords
   pub near : i < p
 
-module _ (b : List ℕ) (s : Simplifiable b) where
-  pub walk-start : (i c : ℕ) (body : Bool) → i < recordCount b → body ≡ eqb (getD b (recordLength * i) 0) 3 → c ≡ childByte (partAt b i)
+module _ (b : List ℕ) (s : IsTable b) where
+  pub walk-start : (i c : ℕ) (body : Bool) (n : Node) → i < recordCount b → n ≡ firstNode (drop (recordLength * i) b) → body ≡ isLoop (n .kind) → c ≡ childByte (drop (recordLength * i) b)
       → Walk b i (belowAt (treesAt b i)) noChild body c (i + 1)
   unfolding belowAt
-  walk-start i c body l e n =
+  walk-start i c body n l r e q =
       let h = here-at b s i l in
-      let loop : body ≡ isLoop (h .own .kind) = e ∙ ap (λ x. eqb x 3) (kind-at b i h) ∙ loop-byte (h .own .kind) in
-      rw (n ∙ ap childByte (part-from b (recordLength * i)) ∙ count-at b i h, loop) (record {
+      let loop : body ≡ isLoop (h .own .kind) = e ∙ ap (λ m. isLoop (m .kind)) (r ∙ node-at b i h) in
+      rw (q ∙ count-at b i h, loop) (record {
         row = kids-row b s i h;
         sum = all-children (h .own .kind) (h .kids) ∙ sym (ap belowAt (h .here));
         few = few-kids i h;
@@ -120,10 +121,16 @@ both-flags (Plain a) (Symbol b) = refl
 both-flags (Symbol a) (Plain b) = refl
 both-flags (Symbol a) (Symbol b) = refl
 
--- a symbol in the record, or below it
-symbols-of : (n : Node) (f : Forest) → flagged (flag (valueNum (n .kind)) + 2 * flag (limitNum (n .limit))) (symbolsIn f) ≡ symbols (node n f)
+-- a record with no flag
+flagless-is : (b : List ℕ) (i : ℕ) (h : Here b i) → flagless (drop (recordLength * i) b) ≡ (plainKind (h .own .kind) and plainLimit (h .own .limit))
+unfolding flagless recordBytes
+flagless-is b i h =
+    rw (h .bytes, plain-value (h .own .kind), plain-most (h .own .limit)) (sym (both-flags (valueNum (h .own .kind)) (limitNum (h .own .limit))))
+
+-- a symbol of the node, or below it
+symbols-of : (n : Node) (f : Forest) → cond (plainKind (n .kind) and plainLimit (n .limit)) (symbolsIn f) 1 ≡ symbols (node n f)
 unfolding symbols symbolsIn symbolFree
-symbols-of n f = rw (plain-value (n .kind), plain-most (n .limit), both-flags (valueNum (n .kind)) (limitNum (n .limit))) (go (eqb (flag (valueNum (n .kind)) + 2 * flag (limitNum (n .limit))) 0) (symbolFreeIn f))
+symbols-of n f = go (plainKind (n .kind) and plainLimit (n .limit)) (symbolFreeIn f)
   where
     go : (x y : Bool) → _≡_ {A = ℕ} (cond x (cond y 0 1) 1) (cond (x and y) 0 1)
     go true y = unfold _and_ in refl
@@ -183,7 +190,7 @@ module _ (marks : List ℕ) (i y k r u : ℕ) (l : marksEach * i + marksEach ≤
     below = marked-other (marksEach * j + 3) (λ e. omega arith) (λ e. omega arith) (λ e. omega arith) (λ e. omega arith) ∙ m .below;
   }
 
-module _ (b : List ℕ) (s : Simplifiable b) (i : ℕ) (l : i < recordCount b) where
+module _ (b : List ℕ) (s : IsTable b) (i : ℕ) (l : i < recordCount b) where
   h : Here b i
   h = here-at b s i l
 
@@ -198,14 +205,15 @@ module _ (b : List ℕ) (s : Simplifiable b) (i : ℕ) (l : i < recordCount b) w
   unfolding listed
   ranged = let (p, q) = both _ _ (h .sound .fair .listed) in both _ _ (both _ _ p .0) .1
 
-  -- what is kept of the record, by its bytes and what its children come to
+  -- what is kept of the record, by its node and what its children come to
   abbrev pub newExtents : List ℕ → Below → List ℕ
   newExtents extents c = set extents i (c .records + 1)
 
   abbrev pub newMarks : List ℕ → Below → List ℕ
   newMarks marks c =
-      marked marks i (flagged (getD b (recordLength * i + 1) 0) (c .symbols)) (limitedName (getD b (recordLength * i + 3) 0) (c .named))
-      (max (getD b (recordLength * i + 3) 0) (c .reach)) (c .reach)
+      let r = drop (recordLength * i) b in
+      let k = loopByte (firstNode r .limit) in
+      marked marks i (cond (flagless r) (c .symbols) 1) (limitedName k (c .named)) (max k (c .reach)) (c .reach)
 
   fresh-extent : (extents : List ℕ) → recordCount b ≤ length extents → (c : Below) → c ≡ belowAt (treesAt b i) → getD (newExtents extents c) i 0 ≡ records (subtree b i)
   unfolding records
@@ -216,9 +224,9 @@ module _ (b : List ℕ) (s : Simplifiable b) (i : ℕ) (l : i < recordCount b) w
   fresh-marks marks space c e =
       let long : marksEach * i + marksEach ≤ length marks = omega arith in
       record {
-        symbols = marked-symbols marks i _ _ _ _ long ∙ rw (e ∙ come, at-here, flags-at b i h) (symbols-of (h .own) (h .kids));
-        named = marked-named marks i _ _ _ _ long ∙ rw (e ∙ come, at-here, limit-at b i h) (name-of (h .own .limit) _ ranged);
-        reach = marked-reach marks i _ _ _ _ long ∙ rw (e ∙ come, at-here, limit-at b i h) refl;
+        symbols = marked-symbols marks i _ _ _ _ long ∙ rw (e ∙ come, at-here, flagless-is b i h) (symbols-of (h .own) (h .kids));
+        named = marked-named marks i _ _ _ _ long ∙ rw (e ∙ come, at-here, node-at b i h) (name-of (h .own .limit) _ ranged);
+        reach = marked-reach marks i _ _ _ _ long ∙ rw (e ∙ come, at-here, node-at b i h) refl;
         below = marked-below marks i _ _ _ _ long ∙ rw (e ∙ come, at-here) refl;
       }
 

@@ -14,7 +14,7 @@ use Rattle.table.specs.Trees.{Forest, nil, _▸_, size, records}
 use Rattle.table.specs.Questions.{arity, limitInRange, kindInRange, listed, listedIn, Accepted}
 use Rattle.table.specs.Bytes.{AreBytes}
 use Rattle.table.specs.Table.{numFrom, kindFrom, limitFrom, firstNode, childByte, field, firstOnes, afterOnes, forest, formTrees, each, top, decode, encode, recordCount}
-use Rattle.table.specs.Checking.{kindListed, limitListed, limitCount, recordListed, recordInRange, question1, question2, question3, question4, question5, question6, question7, questions, refusal}
+use Rattle.table.specs.Checking.{IsTable, kindListed, limitListed, limitCount, recordListed, recordInRange, question1, question2, question3, question4, question5, question6, question7, questions, refusal}
 use Rattle.table.specs.Laws.RoundTrip.{size-first, size-after, length-encode}
 use Rattle.table.specs.Laws.Canonical.{bytes-drop, encode-decode}
 use Rattle.table.specs.Laws.Asking.{Yes, all-yes, numbered}
@@ -86,10 +86,6 @@ top-listed (t ▸ f) e h = both _ _ h .0
 pub decode-listed : (b : List ℕ) → size (forest (recordCount b) b) ≡ 1 → T (listedIn (forest (recordCount b) b)) → T (listed (decode b))
 unfolding decode
 decode-listed b e h = top-listed _ e h
-
-pub record IsTable (b : List ℕ) : Type 0 where
-  pub accepted : Accepted (decode b)
-  pub back : encode (decode b) ≡ b
 
 pub is-table : (b : List ℕ) → AreBytes b → refusal b ≡ 0 → IsTable b
 unfolding refusal questions question1 question2 question3 question4 question5 question6 question7 numbered Yes

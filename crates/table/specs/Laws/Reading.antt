@@ -13,7 +13,7 @@ use Rattle.booleans.specs.Tests.{_and_}
 use Rattle.table.specs.Nodes.{Symbol, Number, Loop, AtMost}
 use Rattle.table.specs.Bytes.{fromBytes}
 use Rattle.table.specs.Numbers.{recordLength, mostChildren}
-use Rattle.table.specs.Table.{field, numFrom, kindFrom, limitFrom, recordCount, each, formTrees, childByte}
+use Rattle.table.specs.Table.{childByte, each, field, firstNode, formTrees, kindFrom, limitFrom, loopByte, numFrom, recordCount}
 
 -- ---- fields
 
@@ -58,6 +58,16 @@ pub is-limit : (k : ℕ) (m : Number) → (k ≡ 0 → ⊥) → AtMost k m ≡ l
 unfolding limitFrom
 is-limit zero m h = absurd (h refl)
 is-limit (suc k) m h = refl
+
+limit-name : (k : ℕ) (m : Number) → loopByte (limitFrom k m) ≡ k
+unfolding loopByte limitFrom
+limit-name zero m = refl
+limit-name (suc k) m = refl
+
+-- the loop that the first record's limit names is its byte 3
+pub name-byte : (b : List ℕ) → loopByte (firstNode b .limit) ≡ getD b 3 0
+unfolding firstNode
+name-byte b = limit-name (getD b 3 0) _
 
 -- ---- parts
 

@@ -1,0 +1,3 @@
+-- Laws of rule 8, and of rule 9.
+pub mod Sharing
+pub mod Exit

@@ -1,0 +1,68 @@
+-- What rules 8 and 9 test of a tree, and what rule 8 writes.
+use mathlib.Core.Path.{_≡_}
+use mathlib.Core.Bool.{Bool, cond, false, true}
+use mathlib.Core.List.{List, [], _∷_, _++_}
+use Prim.Native.Nat.{ℕ, _+_, _*_, _≤_}
+use lib.Dec.{T, eqb}
+use lib.ListN.{length}
+use Rattle.booleans.specs.Tests.{_and_}
+use Rattle.evaluate.specs.Closed.{isUnlimited}
+use Rattle.simplify.specs.Rules.{children, firstOf, firsts, headOf, isPair, limitOf, secondOf, shares}
+use Rattle.simplify.specs.Same.{same, sameKind}
+use Rattle.table.specs.Numbers.{recordLength}
+use Rattle.table.specs.Table.{encodes, firstOnes, recordBytes}
+use Rattle.table.specs.Trees.{Forest, Tree, nil, node, _▸_, _⧺_, records, recordsIn, size}
+use Rattle.subtrees.specs.Parts.{treesAt}
+use Rattle.rules8and9.specs.Nodes.{Choice, Loop, Plain, Sequence, Unlimited}
+use Rattle.writing.specs.Records.{front, nodeOf}
+
+-- ---- rule 9: an unlimited loop of plain bound 0
+
+unfoldable pub idle : Tree → Bool
+idle (node n f) = sameKind (n .kind) (Loop (Plain 0)) and isUnlimited (n .limit)
+
+-- ---- rule 8
+
+-- the same numbers in the same order
+unfoldable pub sameBytes : List ℕ → List ℕ → Bool
+sameBytes [] [] = true
+sameBytes [] (y ∷ c) = false
+sameBytes (x ∷ b) [] = false
+sameBytes (x ∷ b) (y ∷ c) = eqb x y and sameBytes b c
+
+-- an unlimited sequence of two whose second child is x
+unfoldable pub sharing : Tree → Tree → Bool
+sharing x t = isPair t and same (secondOf t) x
+
+-- the record of the first child's second child of the first tree, which stands at record i, where rule 8 fits it, or 0
+unfoldable pub sharedAt : ℕ → Forest → ℕ
+sharedAt i nil = 0
+sharedAt i (node n f ▸ g) = cond (sameKind (n .kind) Choice and shares f) (i + 2 + records (firstOf (headOf f))) 0
+
+unfoldable pub pairs : Forest → Bool
+pairs nil = true
+pairs (t ▸ f) = isPair t and pairs f
+
+-- n pairs stand in a row, the first of them at record p
+pub record PairsAt (b : List ℕ) (p n : ℕ) : Type 0 where
+  pub row : Forest
+  pub later : Forest
+  pub stand : treesAt b p ≡ row ⧺ later
+  pub count : size row ≡ n
+  pub pairs : T (pairs row)
+
+-- their first children
+abbrev pub firstsAt : List ℕ → ℕ → ℕ → Forest
+firstsAt b p n = firsts (firstOnes n (treesAt b p))
+
+-- a buffer has room for a row of trees from record `at` on
+abbrev pub RoomFor : ℕ → Forest → List ℕ → Type 0
+RoomFor at f out = recordLength * (at + recordsIn f) ≤ length out
+
+-- the row is written there, after what stood before it, and ends at record r
+abbrev pub Appended : ℕ → List ℕ → Forest → ℕ → List ℕ → Type 0
+Appended at before f r out = (r ≡ at + recordsIn f) × (front r out ≡ front at before ++ encodes f)
+
+-- the records of a sequence of two with the tree's limit and of an unlimited choice of as many children as it has
+abbrev pub topBytes : Tree → List ℕ
+topBytes t = recordBytes (nodeOf Sequence (limitOf t)) 2 ++ recordBytes (nodeOf Choice Unlimited) (size (children t))

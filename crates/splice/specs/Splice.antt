@@ -1,0 +1,46 @@
+-- Grafting as the program does it: one record of the host after the other is copied, or the sent table put in its place.
+use mathlib.Core.Bool.{cond}
+use mathlib.Core.List.{List, [], _++_}
+use Prim.Native.Nat.{ℕ, zero, suc, _+_, _*_}
+use lib.ListN.{drop, take}
+use Rattle.table.specs.Numbers.{recordLength}
+use Rattle.table.specs.Table.{firstNode, recordBytes}
+use Rattle.table.specs.Trees.{Forest, Tree, nil, node, _▸_}
+use Rattle.writing.specs.Records.{nodeOf}
+use Rattle.splice.specs.Nodes.{Block, Limit, Loop, Plain, Unlimited}
+use Rattle.splice.specs.Graft.{isSymbol}
+
+-- 1 where the first record of b is a block with symbol s, else 0
+unfoldable pub occursFirst : (s : ℕ) → List ℕ → ℕ
+occursFirst s b = cond (isSymbol s (firstNode b .kind)) 1 0
+
+-- how many of b's first n records are such
+unfoldable pub occurrencesIn : (s n : ℕ) → List ℕ → ℕ
+occurrencesIn s zero b = 0
+occurrencesIn s (suc n) b = occursFirst s b + occurrencesIn s n (drop recordLength b)
+
+-- what stands in place of a block with this limit: the loop's record, the renamed sent table, the exit's record
+unfoldable pub placeBytes : (body : List ℕ) → Limit → List ℕ
+placeBytes body l = recordBytes (nodeOf (Loop (Plain 1)) l) 2 ++ body ++ recordBytes (nodeOf (Block (Plain 0)) Unlimited) 0
+
+-- the first record of b, or what stands in its place
+unfoldable pub spliceFirst : (s : ℕ) (body b : List ℕ) → List ℕ
+spliceFirst s body b = cond (isSymbol s (firstNode b .kind)) (placeBytes body (firstNode b .limit)) (take recordLength b)
+
+-- b's first n records so
+unfoldable pub splice : (s : ℕ) (body : List ℕ) (n : ℕ) → List ℕ → List ℕ
+splice s body zero b = []
+splice s body (suc n) b = spliceFirst s body b ++ splice s body n (drop recordLength b)
+
+-- how many records that makes, with a sent table of m records
+unfoldable pub spliceRecords : (s m n : ℕ) → List ℕ → ℕ
+spliceRecords s m n b = n + occurrencesIn s n b * suc m
+
+-- how many blocks of a tree have symbol s
+unfoldable mutual
+  pub occurrences : ℕ → Tree → ℕ
+  occurrences s (node n f) = cond (isSymbol s (n .kind)) 1 0 + occurrencesOf s f
+
+  pub occurrencesOf : ℕ → Forest → ℕ
+  occurrencesOf s nil = 0
+  occurrencesOf s (t ▸ f) = occurrences s t + occurrencesOf s f

@@ -1,0 +1,51 @@
+-- A record's bytes from its fields, and bytes copied into a buffer, one at a time.
+use mathlib.Core.Path.{_≡_, refl, ap, ap₂, _∙_}
+use mathlib.Core.List.{List, [], _∷_, _++_}
+use Prim.Native.Nat.{ℕ, _+_, _*_, _<_, _≤_}
+use native.Mathlib.Numerals.{add-one}
+use native.Mathlib.Omega.{arith}
+use lib.ListN.{getD, length, set, take}
+use lib.Seq.{length-paste, paste, paste-suc, paste-zero, take-paste}
+use Rattle.table.specs.Numbers.{recordLength}
+use Rattle.table.specs.Bytes.{toBytes}
+use Rattle.table.specs.Table.{flag, kindByte, limitNum, loopByte, raw, recordBytes, valueNum}
+use Rattle.table.specs.declared.Node.{Node}
+use Rattle.writing.specs.Records.{front}
+
+-- ---- a record's bytes
+
+pub record-parts : (n : Node) (c : ℕ) {b f g k v m : ℕ} → b ≡ kindByte (n .kind) → f ≡ flag (valueNum (n .kind)) → g ≡ flag (limitNum (n .limit)) → k ≡ loopByte (n .limit)
+    → v ≡ raw (valueNum (n .kind)) → m ≡ raw (limitNum (n .limit)) → (b ∷ (f + 2 * g) ∷ c ∷ k ∷ []) ++ toBytes 4 m ++ toBytes 8 v ≡ recordBytes n c
+unfolding recordBytes
+record-parts n c eb ef eg ek ev em = rw (eb, ef, eg, ek, ev, em) refl
+
+-- ---- bytes copied
+
+-- the first k bytes of s stand in d from byte `over` on, and no other byte of d is changed
+pub record Copied (s d : List ℕ) (over : ℕ) (out : List ℕ) (k : ℕ) : Type 0 where
+  pub from : k ≤ length s
+  pub room : over + k ≤ length d
+  pub long : length out ≡ length d
+  pub is : out ≡ paste d over s k
+
+pub copy-none : (s d : List ℕ) (over : ℕ) → over ≤ length d → Copied s d over d 0
+copy-none s d over l = record { from = omega arith; room = omega arith; long = refl; is = paste-zero d over s }
+
+pub copy-next : (s d : List ℕ) (over : ℕ) (out : List ℕ) (k x : ℕ) → x ≡ getD s k 0 → k < length s → over + k < length d → Copied s d over out k
+    → Copied s d over (set out (over + k) x) (k + 1)
+copy-next s d over out k x e l m c =
+    let z : set out (over + k) x ≡ paste d over s (k + 1) =
+    rw add-one (ap₂ (λ (o : List ℕ) (y : ℕ). set o (over + k) y) (c .is) e ∙ paste-suc d over s k 0 m l) in
+    record {
+      from = omega arith;
+      room = omega arith;
+      long = ap length z ∙ length-paste d over s (k + 1) (omega arith) (omega arith);
+      is = z;
+    }
+
+-- records copied
+pub copied-records : (s d : List ℕ) (at : ℕ) (out : List ℕ) (n k : ℕ) → k ≡ recordLength * n → Copied s d (recordLength * at) out k
+    → front (at + n) out ≡ front at d ++ take (recordLength * n) s
+copied-records s d at out n k e c =
+    let m : recordLength * (at + n) ≡ recordLength * at + recordLength * n = omega arith in
+    rw (m, c .is, e) (take-paste d (recordLength * at) s (recordLength * n) (omega (arith, c .room)) (omega (arith, c .from)))

@@ -1,0 +1,170 @@
+// Records written to a buffer: copied from a table, or made of a node and its number of children.
+ghost use mathlib.Core.Path.{_≡_};
+ghost use mathlib.Core.List.{_++_};
+ghost use Prim.Native.Nat.{_*_, _+_, _-_, _≤_};
+ghost use lib.ListN.{length, take};
+ghost use Rattle.table.specs.Numbers.{recordLength};
+ghost use Rattle.table.specs.Table.{flag, kindByte, limitNum, loopByte, raw, recordBytes, recordCount, valueNum};
+ghost use Rattle.writing.specs.Over.{over};
+ghost use Rattle.writing.specs.Records.{front, slice};
+use table::Kind;
+use table::Limit;
+use table::Node;
+use table::Number;
+use table::RECORD_LENGTH;
+
+// ---- Bytes
+
+// Writes the first n bytes of a table over the front of a buffer.
+pub fn write_bytes(table: &[u8], n: usize, out: &mut [u8])
+    requires { ⌜ (n ≤ length (now table)) × (n ≤ length (now out)) ⌝ }
+    ensures { λ _. ⌜ now (out .exit) ≡ over (take n (now (table .entry))) (now (out .entry)) ⌝ }
+{
+    let mut i = 0;
+    while i < n {
+        out[i] = table[i];
+        i += 1;
+    }
+}
+
+// ---- Records of a table
+
+// Copies n records from record i on to the buffer's record `at` and on; answers the record after them.
+pub fn copy_records(table: &[u8], i: usize, n: usize, out: &mut [u8], at: usize) -> usize
+    requires { ⌜ (recordLength * (i + n) ≤ length (now table)) × (recordLength * (at + n) ≤ length (now out)) ⌝ }
+    ensures { λ r. ⌜ (r ≡ at + n) × (front r (now (out .exit)) ≡ front at (now (out .entry)) ++ slice (now (table .entry)) i n) ⌝ }
+{
+    let start = RECORD_LENGTH * i;
+    let end = RECORD_LENGTH * n;
+    let over = RECORD_LENGTH * at;
+    let mut k = 0;
+    while k < end {
+        out[over + k] = table[start + k];
+        k += 1;
+    }
+    at + n
+}
+
+// Copies the records from record i to the table's end to the buffer's record `at` and on; answers the record after them.
+pub fn copy_rest(table: &[u8], i: usize, out: &mut [u8], at: usize) -> usize
+    requires { ⌜ (i ≤ recordCount (now table)) × (recordLength * (at + (recordCount (now table) - i)) ≤ length (now out)) ⌝ }
+    ensures { λ r. ⌜ r ≡ at + (recordCount (now (table .entry)) - i) ⌝ }
+    ensures { λ r. ⌜ front r (now (out .exit)) ≡ front at (now (out .entry)) ++ slice (now (table .entry)) i (recordCount (now (table .entry)) - i) ⌝ }
+{
+    copy_records(table, i, table.len() / RECORD_LENGTH - i, out, at)
+}
+
+// ---- The record of a node
+
+// A number's flag, and its field.
+pub fn flag_of(number: Number) -> u8
+    ensures { λ r. ⌜ (r ≡ flag number) × (r ≤ 1) ⌝ }
+{
+    match number {
+        Number::Plain(_) => 0,
+        Number::Symbol(_) => 1,
+    }
+}
+
+pub fn raw_of(number: Number) -> u64
+    ensures { λ r. ⌜ r ≡ raw number ⌝ }
+{
+    match number {
+        Number::Plain(n) => n,
+        Number::Symbol(n) => n,
+    }
+}
+
+pub fn kind_byte(kind: Kind) -> u8
+    ensures { λ r. ⌜ r ≡ kindByte kind ⌝ }
+{
+    match kind {
+        Kind::Block(_) => 0,
+        Kind::Sequence => 1,
+        Kind::Choice => 2,
+        Kind::Loop(_) => 3,
+    }
+}
+
+// A block's time, a loop's bound.
+pub fn value_of(kind: Kind) -> Number
+    ensures { λ r. ⌜ r ≡ valueNum kind ⌝ }
+{
+    match kind {
+        Kind::Block(value) => value,
+        Kind::Sequence => Number::Plain(0),
+        Kind::Choice => Number::Plain(0),
+        Kind::Loop(value) => value,
+    }
+}
+
+fn loop_byte(limit: Limit) -> u8
+    ensures { λ r. ⌜ r ≡ loopByte limit ⌝ }
+{
+    match limit {
+        Limit::Unlimited => 0,
+        Limit::AtMost(name, _) => name,
+    }
+}
+
+fn most_of(limit: Limit) -> Number
+    ensures { λ r. ⌜ r ≡ limitNum limit ⌝ }
+{
+    match limit {
+        Limit::Unlimited => Number::Plain(0),
+        Limit::AtMost(_, most) => most,
+    }
+}
+
+// A record's bytes.
+fn record_of(node: Node, count: u8) -> [u8; RECORD_LENGTH]
+    ensures { λ r. ⌜ r ≡ recordBytes node count ⌝ }
+{
+    let kind = node.kind;
+    let limit = node.limit;
+    let value = value_of(kind);
+    let most = most_of(limit);
+    let v = raw_of(value);
+    let m = raw_of(most);
+    [
+        kind_byte(kind),
+        flag_of(value) + 2 * flag_of(most),
+        count,
+        loop_byte(limit),
+        (m % 256) as u8,
+        (m / 256 % 256) as u8,
+        (m / 256 / 256 % 256) as u8,
+        (m / 256 / 256 / 256 % 256) as u8,
+        (v % 256) as u8,
+        (v / 256 % 256) as u8,
+        (v / 256 / 256 % 256) as u8,
+        (v / 256 / 256 / 256 % 256) as u8,
+        (v / 256 / 256 / 256 / 256 % 256) as u8,
+        (v / 256 / 256 / 256 / 256 / 256 % 256) as u8,
+        (v / 256 / 256 / 256 / 256 / 256 / 256 % 256) as u8,
+        (v / 256 / 256 / 256 / 256 / 256 / 256 / 256 % 256) as u8,
+    ]
+}
+
+// Puts a record's bytes at the buffer's record `at`; answers the record after it.
+fn put_record(out: &mut [u8], at: usize, bytes: [u8; RECORD_LENGTH]) -> usize
+    requires { ⌜ recordLength * (at + 1) ≤ length (now out) ⌝ }
+    ensures { λ r. ⌜ (r ≡ at + 1) × (front r (now (out .exit)) ≡ front at (now (out .entry)) ++ bytes) ⌝ }
+{
+    let over = RECORD_LENGTH * at;
+    let mut k = 0;
+    while k < RECORD_LENGTH {
+        out[over + k] = bytes[k];
+        k += 1;
+    }
+    at + 1
+}
+
+// Puts the record of a node with so many children at the buffer's record `at`; answers the record after it. Every record that is not copied is
+// written here.
+pub fn put_node(out: &mut [u8], at: usize, node: Node, count: u8) -> usize
+    requires { ⌜ recordLength * (at + 1) ≤ length (now out) ⌝ }
+    ensures { λ r. ⌜ (r ≡ at + 1) × (front r (now (out .exit)) ≡ front at (now (out .entry)) ++ recordBytes node count) ⌝ }
+{
+    put_record(out, at, record_of(node, count))
+}
