@@ -1,4 +1,4 @@
-// Sequence and choice in place (document 01, "Evaluation"): the other list is most often short, and then most pairs stay as they are.
+// Sequence and choice in place (document 01, "Evaluation"): the other list is most often short, and then the list so far is changed where it stands.
 ghost use mathlib.Core.Path.{_≡_};
 ghost use Prim.Native.Nat.{_*_, _+_, _-_, _<_, _^_, _≤_};
 ghost use lib.ListN.{length};

@@ -4,12 +4,13 @@ ghost use Prim.Native.Nat.{_<_};
 ghost use Rattle.booleans.specs.Tests.{_and_};
 ghost use Rattle.table.specs.Checking.{IsTable};
 ghost use Rattle.table.specs.Table.{recordCount};
-ghost use Rattle.evaluate.specs.Closed.{isUnlimited, plainKind};
+ghost use Rattle.evaluate.specs.Closed.{isPlain, isUnlimited, plainKind};
 ghost use Rattle.simplify.specs.Rules.{bare, isBlock, isSum};
 ghost use Rattle.simplify.specs.Same.{sameKind};
 ghost use Rattle.subtrees.specs.Parts.{subtree};
 use table::Kind;
 use table::Limit;
+use table::Number;
 
 pub fn is_block(kind: Kind) -> bool
     ensures { λ r. ⌜ r ≡ isBlock kind ⌝ }
@@ -52,11 +53,20 @@ pub fn same_kind(a: Kind, b: Kind) -> bool
         & (writing::raw_of(x) == writing::raw_of(y))
 }
 
+fn is_plain(number: Number) -> bool
+    ensures { λ r. ⌜ r ≡ isPlain number ⌝ }
+{
+    match number {
+        Number::Plain(_) => true,
+        Number::Symbol(_) => false,
+    }
+}
+
 fn is_plain_block(kind: Kind) -> bool
     ensures { λ r. ⌜ r ≡ (isBlock kind and plainKind kind) ⌝ }
 {
     match kind {
-        Kind::Block(time) => subtrees::is_plain(time),
+        Kind::Block(time) => is_plain(time),
         Kind::Sequence => false,
         Kind::Choice => false,
         Kind::Loop(_) => false,

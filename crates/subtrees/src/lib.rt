@@ -7,11 +7,9 @@ ghost use Rattle.table.specs.Numbers.{mostRecords};
 ghost use Rattle.table.specs.Table.{recordCount};
 ghost use Rattle.table.specs.Checking.{IsTable};
 ghost use Rattle.subtrees.specs.Parts.{treesAt};
-ghost use Rattle.evaluate.specs.Closed.{isPlain};
 ghost use Rattle.subtrees.specs.Facts.{Known, Surveyed, belowAt, childIn, isLoop, marksEach, outer};
 ghost use Rattle.subtrees.specs.Marks.{limitedName, marked};
 use table::Kind;
-use table::Number;
 use table::RECORD_LENGTH;
 use table::WHOLE_RUN;
 
@@ -44,16 +42,7 @@ impl Below {
     };
 }
 
-// ---- Tests of a node
-
-pub fn is_plain(number: Number) -> bool
-    ensures { λ r. ⌜ r ≡ isPlain number ⌝ }
-{
-    match number {
-        Number::Plain(_) => true,
-        Number::Symbol(_) => false,
-    }
-}
+// ---- Children
 
 fn is_loop(kind: Kind) -> bool
     ensures { λ r. ⌜ r ≡ isLoop kind ⌝ }
@@ -65,8 +54,6 @@ fn is_loop(kind: Kind) -> bool
         Kind::Loop(_) => true,
     }
 }
-
-// ---- Children
 
 fn larger_of(a: u8, b: u8) -> u8
     ensures { λ r. ⌜ r ≡ max a b ⌝ }

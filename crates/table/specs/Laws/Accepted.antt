@@ -11,9 +11,9 @@ use Rattle.booleans.specs.Tests.{_and_}
 use Rattle.booleans.specs.Laws.{join-and, &&-both, or-false, both}
 use Rattle.table.specs.Numbers.{recordLength, mostRecords, mostChildren, wholeRun, mostLoops}
 use Rattle.table.specs.Trees.{Forest, nil, _▸_, size, records}
-use Rattle.table.specs.Questions.{arity, limitInRange, kindInRange, listed, listedIn, Accepted}
+use Rattle.table.specs.Questions.{arity, limitInRange, kindInRange, listed, listedIn}
 use Rattle.table.specs.Bytes.{AreBytes}
-use Rattle.table.specs.Table.{numFrom, kindFrom, limitFrom, firstNode, childByte, field, firstOnes, afterOnes, forest, formTrees, each, top, decode, encode, recordCount}
+use Rattle.table.specs.Table.{numFrom, kindFrom, limitFrom, firstNode, childByte, field, firstOnes, afterOnes, forest, formTrees, each, top, decode, recordCount}
 use Rattle.table.specs.Checking.{IsTable, kindListed, limitListed, limitCount, recordListed, recordInRange, question1, question2, question3, question4, question5, question6, question7, questions, refusal}
 use Rattle.table.specs.Laws.RoundTrip.{size-first, size-after, length-encode}
 use Rattle.table.specs.Laws.Canonical.{bytes-drop, encode-decode}

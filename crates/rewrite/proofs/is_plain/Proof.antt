@@ -1,7 +1,7 @@
 use borrow.Author.Needs.{needs}
 use Rattle.evaluate.specs.Closed.{isPlain}
-use Rattle.subtrees.proofs.is_plain.Statement.{statement}
-use Rattle.subtrees.proofs.is_plain.Tie as tie
+use Rattle.rewrite.proofs.is_plain.Statement.{statement}
+use Rattle.rewrite.proofs.is_plain.Tie as tie
 
 enum-told : tie.Need-enum-told
 enum-told c = search needs
