@@ -116,8 +116,8 @@ fn repeat_in(value: u64, named: u8, records: usize, out: &mut Pairs) -> Valued
     requires { ⌜ Roomy (now out) ⌝ }
     ensures { λ r. ⌜ Shows r (now (out .exit)) (checked (ever value) named records) ⌝ }
 {
-    lists::constant_in(out, value);
-    check_top(out, 1, named, records)
+    let len = List::constant(value).store(out);
+    check_top(out, len, named, records)
 }
 
 // A loop over its body: the first sum for ever where the body names this very loop, else groups, which may double the pairs.

@@ -5,6 +5,7 @@ ghost use lib.ListN.{length};
 ghost use Rattle.lists.specs.Operations.{groupFrom, groupPairs, turnOf};
 ghost use Rattle.lists.specs.Reading.{Groupable, Is, listIn, mostPairs, pairsOf};
 ghost use Rattle.grouping.specs.Steps.{Turns};
+use lists::List;
 use lists::Numbers;
 use lists::Turn;
 
@@ -80,7 +81,7 @@ pub fn group_onto(a: &Numbers, al: usize, n: u64, out: &mut Numbers) -> usize
     ensures { λ r. ⌜ Is (listIn (now (out .exit)) r) (groupPairs n (pairsOf (listIn (now (a .entry)) al))) ⌝ }
 {
     if n == 0 {
-        return lists::zero_in(out);
+        return List::zero().store(out);
     }
     group_from(a, al, n, out)
 }

@@ -76,9 +76,19 @@ impl List {
         ensures { λ r. ⌜ Is r (ever v) ⌝ }
     {
         let mut r = List::zero();
-        constant_in(&mut r.pairs, v);
+        put_pair(&mut r.pairs, 0, v, 0);
         r.len = 1;
         r
+    }
+
+    // The list in a lent array, and how many pairs it has: only these are copied.
+    pub fn store(self, out: &mut Numbers) -> usize
+        requires { ⌜ Proper self ⌝ ∗ ⌜ length (now out) ≡ 2 * mostPairs ⌝ }
+        ensures { λ r. ⌜ Is (listIn (now (out .exit)) r) (pairsOf self) ⌝ }
+    {
+        let n = self.len;
+        copy_onto(&self.pairs, n, out);
+        n
     }
 }
 
@@ -105,14 +115,6 @@ pub fn put_pair(out: &mut Numbers, k: usize, v: u64, c: u64)
 {
     out[2 * k] = v;
     out[2 * k + 1] = c;
-}
-
-// The list that repeats one value: one pair.
-pub fn constant_in(out: &mut Numbers, v: u64)
-    requires { ⌜ length (now out) ≡ 2 * mostPairs ⌝ }
-    ensures { λ _. ⌜ Is (listIn (now (out .exit)) 1) (ever v) ⌝ }
-{
-    put_pair(out, 0, v, 0);
 }
 
 // The same list in another array: as much is copied as the list has pairs.
@@ -277,24 +279,13 @@ fn lasts(v: u64, left: u64) -> usize
     some_of(left)
 }
 
-// The zero list, from the list type's constant: as much is copied as it has pairs.
-pub fn zero_in(out: &mut Numbers) -> usize
-    requires { ⌜ length (now out) ≡ 2 * mostPairs ⌝ }
-    ensures { λ r. ⌜ Is (listIn (now (out .exit)) r) (ever 0) ⌝ }
-{
-    let zero = List::zero();
-    let n = zero.len;
-    copy_onto(&zero.pairs, n, out);
-    n
-}
-
 // Limit, in place: the first m members, and 0 after. Nothing remains of a limit of 0.
 pub fn cap_in(ps: &mut Numbers, len: usize, m: u64) -> usize
     requires { ⌜ Cappable (listIn (now ps) len) ⌝ }
     ensures { λ r. ⌜ Is (listIn (now (ps .exit)) r) (capPairs m (pairsOf (listIn (now (ps .entry)) len))) ⌝ }
 {
     if m == 0 {
-        return zero_in(ps);
+        return List::zero().store(ps);
     }
     cap_from(ps, len, m)
 }

@@ -5,11 +5,17 @@ use borrow.Author.Needs.{needs}
 use Rattle.lists.proofs.cap_in.Statement.{statement}
 use Rattle.lists.proofs.cap_in.Tie as tie
 
-zero-in-requires : tie.Need-zero-in-requires
-zero-in-requires c κs = search needs
+zero-requires : tie.Need-zero-requires
+zero-requires c κs = search needs
+
+store-requires : tie.Need-store-requires
+store-requires c κs = search needs
 
 returns : tie.Need-returns
-returns c = let t = c .before .before in rw (cap-none _ (pairsOf (listIn (t .before .args .ps .now) (t .before .args .len))) (t .if1 .taken)) (c .zero-in .ensures)
+returns c =
+    let zero = c .before .before in
+    let t = zero .before in
+    rw (cap-none _ (pairsOf (listIn (t .before .args .ps .now) (t .before .args .len))) (t .if1 .taken), ← zero .zero .ensures .pairs) (c .store .ensures)
 
 cap-from-requires : tie.Need-cap-from-requires
 cap-from-requires c κs = search needs
@@ -18,4 +24,4 @@ returns-2 : tie.Need-returns-2
 returns-2 c = search needs
 
 pub cap-in-spec : {M : Type 1} → statement M
-cap-in-spec = tie.close (tie.spec zero-in-requires returns cap-from-requires returns-2)
+cap-in-spec = tie.close (tie.spec zero-requires store-requires returns cap-from-requires returns-2)
