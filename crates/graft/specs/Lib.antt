@@ -1,5 +1,4 @@
 -- Definitions, in the order of reading.
-mod Nodes
 pub mod Answers
 pub mod Promises
 pub mod Making

@@ -13,7 +13,9 @@ use Rattle.table.specs.Numbers.{recordLength}
 use Rattle.table.specs.Table.{encodes, firstOnes, recordBytes}
 use Rattle.table.specs.Trees.{Forest, Tree, nil, node, _▸_, _⧺_, records, recordsIn, size}
 use Rattle.subtrees.specs.Parts.{treesAt}
-use Rattle.rules8and9.specs.Nodes.{Choice, Loop, Plain, Sequence, Unlimited}
+use Rattle.table.specs.declared.Number.the-variants.{Plain}
+use Rattle.table.specs.declared.Limit.the-variants.{Unlimited}
+use Rattle.table.specs.declared.Kind.the-variants.{Sequence, Choice, Loop}
 use Rattle.writing.specs.Records.{front, nodeOf}
 
 -- ---- rule 9: an unlimited loop of plain bound 0

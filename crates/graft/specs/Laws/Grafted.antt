@@ -5,7 +5,12 @@ use Prim.Native.Nat.{ℕ, suc, min, _≤_}
 use native.Mathlib.Omega.{arith}
 use lib.Dec.{T, eqb, leb, le→leb, ltb→lt}
 use borrow.Author.Tests.{eq-eqb, ne-eqb}
-use Rattle.graft.specs.Nodes.{Number, Plain, Symbol, Limit, Unlimited, AtMost, Kind, Block, Sequence, Choice, Loop}
+use Rattle.table.specs.declared.Number.{Number}
+use Rattle.table.specs.declared.Number.the-variants.{Plain, Symbol}
+use Rattle.table.specs.declared.Limit.{Limit}
+use Rattle.table.specs.declared.Limit.the-variants.{Unlimited, AtMost}
+use Rattle.table.specs.declared.Kind.{Kind}
+use Rattle.table.specs.declared.Kind.the-variants.{Block, Sequence, Choice, Loop}
 use Rattle.booleans.specs.Tests.{_and_}
 use Rattle.booleans.specs.Laws.{both, join-and, by-cond, or-else, is-T, T-is}
 use Rattle.table.specs.Numbers.{firstTimeSymbol, mostTime, wholeRun}

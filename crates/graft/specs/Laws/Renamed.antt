@@ -5,7 +5,10 @@ use Prim.Native.Nat.{ℕ, suc, min, _-_, _≤_, _^_}
 use native.Mathlib.Omega.{arith}
 use lib.Dec.{T, eqb, leb, ltb, leb→le, le→leb, lt→ltb}
 use borrow.Author.Tests.{leb-true, leb-false, eqb-true, le-leb, lt-leb}
-use Rattle.graft.specs.Nodes.{Limit, Unlimited, AtMost, Kind, Block, Sequence, Choice, Loop}
+use Rattle.table.specs.declared.Limit.{Limit}
+use Rattle.table.specs.declared.Limit.the-variants.{Unlimited, AtMost}
+use Rattle.table.specs.declared.Kind.{Kind}
+use Rattle.table.specs.declared.Kind.the-variants.{Block, Sequence, Choice, Loop}
 use Rattle.booleans.specs.Tests.{_and_}
 use Rattle.booleans.specs.Laws.{both, join-and, or-false, or-left}
 use Rattle.table.specs.Numbers.{wholeRun, mostLoops, mostTime, mostWeight}

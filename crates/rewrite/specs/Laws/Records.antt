@@ -19,7 +19,7 @@ use Rattle.subtrees.specs.Parts.{subtree, treesAt}
 use Rattle.subtrees.specs.Laws.Forests.{Sound}
 use Rattle.subtrees.specs.Laws.Parts.{Here, bytes-at, here-at, kids-row, next-row, records-at, row-end, tail-at, top-at}
 use Rattle.subtrees.specs.Laws.Records.{node-at}
-use Rattle.rewrite.specs.Nodes.{Node}
+use Rattle.table.specs.declared.Node.{Node}
 use Rattle.writing.specs.Records.{front, slice}
 use Rattle.rewrite.specs.Wrote.{Wrote, ruleAt}
 

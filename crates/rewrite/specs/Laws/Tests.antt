@@ -17,7 +17,10 @@ use Rattle.simplify.specs.Same.{sameKind, sameNumber}
 use Rattle.subtrees.specs.Parts.{subtree}
 use Rattle.subtrees.specs.Laws.Parts.{Here, top-at}
 use Rattle.subtrees.specs.Laws.Records.{node-at}
-use Rattle.rewrite.specs.Nodes.{Block, Choice, Kind, Loop, Node, Plain, Sequence, Symbol}
+use Rattle.table.specs.declared.Number.the-variants.{Plain, Symbol}
+use Rattle.table.specs.declared.Kind.{Kind}
+use Rattle.table.specs.declared.Kind.the-variants.{Block, Sequence, Choice, Loop}
+use Rattle.table.specs.declared.Node.{Node}
 
 -- ---- the same kind, by its byte, flag and field
 

@@ -25,7 +25,9 @@ use Rattle.table.specs.Checking.{IsTable}
 use Rattle.subtrees.specs.Parts.{subtree, treesAt}
 use Rattle.subtrees.specs.Laws.Parts.{Here, here-at, top-at}
 use Rattle.subtrees.specs.Laws.Records.{node-at}
-use Rattle.rules8and9.specs.Nodes.{Loop, Node, Plain}
+use Rattle.table.specs.declared.Number.the-variants.{Plain}
+use Rattle.table.specs.declared.Kind.the-variants.{Loop}
+use Rattle.table.specs.declared.Node.{Node}
 use Rattle.rules8and9.specs.Sharing.{idle}
 use Rattle.writing.specs.Records.{front, slice}
 use Rattle.rewrite.specs.Wrote.{Wrote, ruleAt}

@@ -28,7 +28,10 @@ use Rattle.subtrees.specs.Laws.Facts.{closed-at}
 use Rattle.table.specs.Laws.Tables.{length-is}
 use Rattle.subtrees.specs.Laws.Parts.{Here, Next, Row, here-at, kids-row, next-row, node-extent, past-inside, past-node, records-at, row-end, row-last, tail-at, top-at}
 use Rattle.subtrees.specs.Laws.Records.{count-at, node-at}
-use Rattle.rules8and9.specs.Nodes.{Choice, Limit, Node, Sequence, Unlimited}
+use Rattle.table.specs.declared.Limit.{Limit}
+use Rattle.table.specs.declared.Limit.the-variants.{Unlimited}
+use Rattle.table.specs.declared.Kind.the-variants.{Sequence, Choice}
+use Rattle.table.specs.declared.Node.{Node}
 use Rattle.rules8and9.specs.Sharing.{Appended, PairsAt, RoomFor, firstsAt, pairs, sameBytes, sharedAt, sharing, topBytes}
 use Rattle.writing.specs.Records.{front, nodeOf, slice}
 use Rattle.rewrite.specs.Wrote.{Wrote, ruleAt}

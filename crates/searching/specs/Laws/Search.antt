@@ -27,7 +27,11 @@ use Rattle.subtrees.specs.Laws.Parts.{Here, here-at, records-at}
 use Rattle.subtrees.specs.Laws.Records.{node-at}
 use Rattle.writing.specs.Records.{front}
 use Rattle.rewrite.specs.Wrote.{Wrote, ruleAt}
-use Rattle.searching.specs.Nodes.{Block, Choice, Kind, Limit, Loop, Node, Number, Sequence}
+use Rattle.table.specs.declared.Number.{Number}
+use Rattle.table.specs.declared.Limit.{Limit}
+use Rattle.table.specs.declared.Kind.{Kind}
+use Rattle.table.specs.declared.Kind.the-variants.{Block, Sequence, Choice, Loop}
+use Rattle.table.specs.declared.Node.{Node}
 use Rattle.searching.specs.Rewritten.{Rewritten, laterRule}
 
 -- ---- a step in a row of trees

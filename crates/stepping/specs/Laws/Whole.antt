@@ -32,7 +32,9 @@ use Rattle.writing.specs.Records.{front, nodeOf}
 use Rattle.rewrite.specs.Wrote.{Wrote}
 use Rattle.searching.specs.Rewritten.{Rewritten}
 use Rattle.stepping.specs.Steps.{stepped}
-use Rattle.stepping.specs.Nodes.{Block, Plain, Unlimited}
+use Rattle.table.specs.declared.Number.the-variants.{Plain}
+use Rattle.table.specs.declared.Limit.the-variants.{Unlimited}
+use Rattle.table.specs.declared.Kind.the-variants.{Block}
 
 unfit : (t : Tree) (out : List ℕ) → (symbolFree t and not (bare t)) ≡ false → Wrote (also (λ u. u ▸ nil) (rule1 t)) 0 out
 unfolding rule1 when also Wrote
