@@ -111,7 +111,8 @@ pub fn figure(table: &[u8], values: &[u64]) -> Quote
     let mut list = [0; LIST_ROOM];
     let found = evaluate::evaluate(table, values, &mut list);
     if found.fits {
-        Quote::Figure(list[0])
+        let first = list[0];
+        Quote::Figure(first)
     } else {
         Quote::Refused(10)
     }

@@ -39,8 +39,8 @@ evaluate-requires c κs =
     let bytes : AreBytes (known .before .args .table .now) = λ i. omega (arith, known .shared-slice-known .given i) in
     (accepted-short _ bytes (sym (e₁ .before .refusal-of .ensures) ∙ e₁ .if1 .left), search needs)
 
-array-read-t12 : tie.Need-array-read-t12
-array-read-t12 c = search needs
+array-read-first : tie.Need-array-read-first
+array-read-first c = search needs
 
 returns-3 : tie.Need-returns-3
 returns-3 c =
@@ -67,4 +67,4 @@ returns-4 c =
 pub figure-spec : {M : Type 1} → statement M
 figure-spec =
     tie.close
-    (tie.spec refusal-of-requires returns values-refusal-requires returns-2 evaluate-requires array-read-t12 returns-3 returns-4)
+    (tie.spec refusal-of-requires returns values-refusal-requires returns-2 evaluate-requires array-read-first returns-3 returns-4)
