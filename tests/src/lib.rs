@@ -10,6 +10,7 @@
 //! - `fits`: where the rules of simplifying fit, for small tables.
 //! - `members`, `runs`: lists member by member, and the dearest run, both for small trees.
 //! - `ffi`: the library's functions, declared and wrapped.
+//! - `notation`: trees as docs/FORMAT.md writes them on a line.
 //! - `tables`, `cases`: hand-written tables, and document 01's cases.
 //! - `damage`, `faults`, `noise`: tables that are wrong in some way.
 //! - `compare`: one table, both readers, and what is lent to any call.
@@ -31,6 +32,7 @@ pub mod grafter;
 pub mod grafts;
 pub mod members;
 pub mod noise;
+pub mod notation;
 pub mod programs;
 pub mod quotes;
 pub mod reader;

@@ -1,0 +1,483 @@
+//! docs/FORMAT.md against the library: every example on the page is put to the calls and programs that
+//! it names and must answer what the page says, and so must both trees of every rule.
+
+use std::ffi::OsStr;
+use std::process::Command;
+use volefleece_tests::compare::shown;
+use volefleece_tests::ffi;
+use volefleece_tests::notation;
+use volefleece_tests::programs::{Folder, NONE, TREE, VALUES};
+use volefleece_tests::reader;
+use volefleece_tests::simplifier;
+
+const PAGE: &str = include_str!("../../docs/FORMAT.md");
+
+const DESK: &str = "desk";
+const SALES: &str = "sales";
+const SIMPLE: &str = "simple.tab";
+
+/// What is wrong with the page.
+type Wrong = String;
+
+// The page.
+
+/// A fenced block, under the last heading before it.
+#[derive(Clone)]
+struct Example {
+    heading: &'static str,
+    /// Without remarks and blank ends.
+    lines: Vec<String>,
+}
+
+/// The page holds no other blocks.
+fn examples() -> Vec<Example> {
+    let mut examples = Vec::new();
+    let mut heading = "";
+    let mut lines = PAGE.lines();
+    while let Some(line) = lines.next() {
+        if line.starts_with('#') {
+            heading = line.trim_start_matches('#').trim();
+        } else if let Some(fence) = line.trim_start().strip_prefix("```") {
+            assert_eq!(fence, "example", "under {heading}");
+            let block = lines.by_ref().take_while(|line| *line != "```");
+            let lines = block.map(without_remark).collect();
+            examples.push(Example { heading, lines });
+        }
+    }
+    examples
+}
+
+fn without_remark(line: &str) -> String {
+    line.split(';').next().unwrap_or(line).trim().to_string()
+}
+
+// Examples.
+
+/// What an example may lend, by the names that it may have.
+const LENT: [&str; 6] = ["table", "host", TREE, "sent", VALUES, SIMPLE];
+
+#[derive(Default)]
+struct Lent {
+    /// The table, or a graft's host.
+    table: Vec<u8>,
+    sent: Vec<u8>,
+    values_file: Vec<u8>,
+    /// What the last run of `sales` wrote.
+    simple: Option<Vec<u8>>,
+}
+
+/// What a line of an example is.
+enum Line<'t> {
+    /// The name of bytes, and their tree where it is given.
+    Name(&'t str, &'t str),
+    /// Some of those bytes.
+    Bytes(&'t str),
+    /// A shell's command that writes files.
+    Command(&'t str),
+    /// A call and its answer.
+    Call(&'t str, &'t str),
+}
+
+fn read(line: &str) -> Line<'_> {
+    if let Some(command) = line.strip_prefix("$ ") {
+        return Line::Command(command);
+    }
+    match line.split_once(':') {
+        None => Line::Bytes(line),
+        Some((name, tree)) if LENT.contains(&name) => Line::Name(name, tree.trim()),
+        Some((call, answer)) => Line::Call(call, answer.trim()),
+    }
+}
+
+fn run(example: &Example) -> Result<(), Wrong> {
+    let mut lent = Lent::default();
+    // What no call has been lent yet: bytes are on the page for a call.
+    let mut unused = Vec::new();
+    let mut lines = example.lines.iter().map(|line| read(line)).peekable();
+    while let Some(line) = lines.next() {
+        match line {
+            Line::Name(name, tree) => {
+                let mut written = Vec::new();
+                while let Some(&Line::Bytes(line)) = lines.peek() {
+                    written.push(line);
+                    lines.next();
+                }
+                if unused.contains(&name) {
+                    return Err(format!("no call has the first {name}"));
+                }
+                unused.push(name);
+                lend(&mut lent, name, bytes(tree, &written)?)?;
+            }
+            Line::Bytes(line) => return Err(format!("bytes without a name: {line}")),
+            Line::Command(command) => obey(&mut lent, command),
+            Line::Call(call, said) => {
+                unused.clear();
+                put(&mut lent, call, said).map_err(|wrong| format!("{call}: {said}: {wrong}"))?;
+            }
+        }
+    }
+    unused.retain(|name| *name != SIMPLE);
+    match unused.pop() {
+        None => Ok(()),
+        Some(name) => Err(format!("no call has the last {name}")),
+    }
+}
+
+fn lend(lent: &mut Lent, name: &str, bytes: Vec<u8>) -> Result<(), Wrong> {
+    match name {
+        SIMPLE if lent.simple.as_ref() == Some(&bytes) => {}
+        SIMPLE => return Err(format!("{SIMPLE} is {:?}", lent.simple)),
+        VALUES => lent.values_file = bytes,
+        "sent" => lent.sent = bytes,
+        _ => lent.table = bytes,
+    }
+    Ok(())
+}
+
+/// Runs the command where the desk program would run, and lends what it has written.
+fn obey(lent: &mut Lent, command: &str) {
+    let folder = Folder::new(DESK);
+    let mut shell = Command::new("sh");
+    shell.args(["-c", command]).current_dir(folder.path(""));
+    assert!(shell.status().expect("a shell").success(), "{command}");
+    lent.table = folder.read(TREE).unwrap_or_default();
+    lent.values_file = folder.read(VALUES).unwrap_or_default();
+}
+
+/// Bytes given as a tree, as lines of bytes, or as both.
+fn bytes(tree: &str, lines: &[&str]) -> Result<Vec<u8>, Wrong> {
+    let mut bytes = Vec::new();
+    for line in lines {
+        bytes.extend(hexadecimal(line)?);
+    }
+    if tree.is_empty() {
+        return Ok(bytes);
+    }
+    let table = notation::tree(tree)?.encode();
+    if lines.is_empty() || table == bytes {
+        Ok(table)
+    } else {
+        Err(format!("{tree} is {}not {}", shown(&table), shown(&bytes)))
+    }
+}
+
+/// `00 ff` or `8 x 00 ff`.
+fn hexadecimal(line: &str) -> Result<Vec<u8>, Wrong> {
+    let (times, digits) = match line.split_once(" x ") {
+        Some((times, digits)) => (number(times)?, digits),
+        None => (1, line),
+    };
+    let byte = |word: &str| match word.len() {
+        2 => u8::from_str_radix(word, 16).map_err(|_| format!("{word} is no byte: {line}")),
+        _ => Err(format!("{word} is no byte: {line}")),
+    };
+    let bytes: Result<Vec<u8>, Wrong> = digits.split_whitespace().map(byte).collect();
+    Ok(bytes?.repeat(times as usize))
+}
+
+fn number(word: &str) -> Result<u64, Wrong> {
+    word.parse().map_err(|_| format!("{word} is no number"))
+}
+
+// Calls.
+
+/// What a call is lent besides tables.
+struct Options {
+    values: Vec<u64>,
+    room: Option<usize>,
+    allowance: Option<u64>,
+}
+
+/// `value 0 is 40`, `31 values`, `room 511`, `allowance 1`.
+fn options<'t>(words: impl Iterator<Item = &'t str>) -> Result<Options, Wrong> {
+    let mut options = Options {
+        values: vec![0; 32],
+        room: None,
+        allowance: None,
+    };
+    for option in words {
+        match option.split(' ').collect::<Vec<_>>()[..] {
+            ["value", symbol, "is", value] => {
+                options.values[number(symbol)? as usize] = number(value)?;
+            }
+            [count, "values"] => options.values.resize(number(count)? as usize, 0),
+            ["room", room] => options.room = Some(number(room)? as usize),
+            ["allowance", allowance] => options.allowance = Some(number(allowance)?),
+            _ => return Err(format!("{option} is no option")),
+        }
+    }
+    Ok(options)
+}
+
+/// Makes the call, which must answer what is said.
+fn put(lent: &mut Lent, call: &str, said: &str) -> Result<(), Wrong> {
+    let mut words = call.split(", ");
+    let name = words.next().unwrap_or(call);
+    let options = options(words)?;
+    match name {
+        "check" => same(said, check(lent)),
+        "figure" => same(said, figure(lent, &options)),
+        "list" => same(said, list(lent, &options)),
+        "simplify" => simplify(lent, &options, said),
+        DESK => same(said, desk(lent)),
+        SALES => same(said, sales(lent, &options)),
+        _ => match name.strip_prefix("graft ") {
+            Some(symbol) => graft(lent, number(symbol)?, &options, said),
+            None => Err(format!("{name} is no call")),
+        },
+    }
+}
+
+fn same(said: &str, answer: String) -> Result<(), Wrong> {
+    if said == answer {
+        Ok(())
+    } else {
+        Err(format!("the answer is {answer}"))
+    }
+}
+
+fn refused(question: u64) -> String {
+    format!("refused {question}")
+}
+
+fn check(lent: &Lent) -> String {
+    match ffi::check(&lent.table) {
+        ffi::Checked {
+            refused: 0,
+            records,
+        } => format!("accepted {records}"),
+        answer => refused(answer.refused),
+    }
+}
+
+fn figure(lent: &Lent, options: &Options) -> String {
+    match ffi::figure(&lent.table, &options.values) {
+        ffi::Figure { refused: 0, figure } => figure.to_string(),
+        answer => refused(answer.refused),
+    }
+}
+
+fn list(lent: &Lent, options: &Options) -> String {
+    let mut out = vec![0; options.room.unwrap_or(512)];
+    let answer = ffi::list(&lent.table, &options.values, &mut out);
+    if answer.refused != 0 {
+        return refused(answer.refused);
+    }
+    let pairs = out.chunks(2).take(answer.pairs as usize);
+    let pairs = pairs.map(|pair| format!("{} {}", pair[0], pair[1]));
+    pairs.collect::<Vec<_>>().join(", ")
+}
+
+/// Said is a refusal, or `steps 1 spent TREE`.
+fn simplify(lent: &Lent, options: &Options, said: &str) -> Result<(), Wrong> {
+    let mut out = vec![0; options.room.unwrap_or(8_192)];
+    let allowance = options.allowance.unwrap_or(u64::MAX);
+    let answer = ffi::simplify(&lent.table, allowance, &mut out);
+    if answer.refused != 0 {
+        return same(said, refused(answer.refused));
+    }
+    let ending = ["spent", "finished"][answer.finished as usize];
+    let start = format!("steps {} {ending} ", answer.steps);
+    let tree = said.strip_prefix(&start).ok_or(start)?;
+    same_table(tree, &out[..answer.length as usize])
+}
+
+/// Said is a refusal, or the written tree.
+fn graft(lent: &Lent, symbol: u64, options: &Options, said: &str) -> Result<(), Wrong> {
+    let mut out = vec![0; options.room.unwrap_or(8_192)];
+    let answer = ffi::graft(&lent.table, &lent.sent, symbol, &mut out);
+    if answer.refused != 0 {
+        return same(said, refused(answer.refused));
+    }
+    same_table(said, &out[..answer.length as usize])
+}
+
+fn same_table(tree: &str, written: &[u8]) -> Result<(), Wrong> {
+    if notation::tree(tree)?.encode() == written {
+        Ok(())
+    } else {
+        Err(format!("written was {}", shown(written)))
+    }
+}
+
+// Programs.
+
+fn desk(lent: &Lent) -> String {
+    let folder = Folder::with_tree(DESK, &lent.table);
+    folder.write(VALUES, &lent.values_file);
+    line(&folder, &NONE)
+}
+
+fn sales(lent: &mut Lent, options: &Options) -> String {
+    let folder = Folder::with_tree(SALES, &lent.table);
+    let arguments: Vec<String> = options.allowance.iter().map(u64::to_string).collect();
+    let line = line(&folder, &arguments);
+    lent.simple = folder.read(SIMPLE);
+    line
+}
+
+/// The one line that the program prints there.
+fn line<A: AsRef<OsStr>>(folder: &Folder, arguments: &[A]) -> String {
+    let written = folder.run(arguments);
+    assert_eq!(written.error, "");
+    let line = written.output.strip_suffix('\n');
+    line.expect("a line").to_string()
+}
+
+#[test]
+fn every_example_answers_so() {
+    for example in examples() {
+        if let Err(wrong) = run(&example) {
+            panic!("under {}: {wrong}", example.heading);
+        }
+    }
+}
+
+/// Each answer matters: with a digit more the example is wrong.
+#[test]
+fn a_wrong_answer_shows() {
+    let mut changed = 0;
+    for example in examples() {
+        for at in 0..example.lines.len() {
+            if let Line::Call(call, said) = read(&example.lines[at]) {
+                let mut wrong = example.clone();
+                wrong.lines[at] = format!("{call}: {said}0");
+                assert!(run(&wrong).is_err(), "{call}: {said}0");
+                changed += 1;
+            }
+        }
+    }
+    assert!(changed >= 60, "{changed}");
+}
+
+#[test]
+fn every_question_has_an_example() {
+    let examples = examples();
+    for question in 1..=12 {
+        let start = format!("{question}. ");
+        let refusal = format!(": {}", refused(question));
+        let shows_it = examples.iter().any(|Example { heading, lines }| {
+            heading.starts_with(&start) && lines.iter().any(|line| line.ends_with(&refusal))
+        });
+        assert!(shows_it, "question {question}");
+    }
+}
+
+// Rules.
+
+/// The numbered rules, each on one line.
+fn rules() -> Vec<String> {
+    let section = PAGE.split("### The nine rules\n").nth(1);
+    let section = section.and_then(|text| text.split("\n#").next());
+    let mut rules = Vec::new();
+    for line in section.expect("the rules").lines() {
+        if line.starts_with(|first: char| first.is_ascii_digit()) {
+            rules.push(line.to_string());
+        } else if let Some(rule) = rules.last_mut() {
+            *rule = format!("{rule} {}", line.trim());
+        }
+    }
+    rules
+}
+
+#[derive(Debug)]
+enum Fate {
+    /// One step makes this of it.
+    Becomes(Vec<u8>),
+    /// No rule fits.
+    Stays,
+}
+
+/// Every table of a rule that becomes another or stays. Other tables there are none.
+fn fates(rule: &str) -> Vec<(Vec<u8>, Fate)> {
+    let encode = |text| match notation::tree(text) {
+        Ok(tree) => tree.encode(),
+        Err(wrong) => panic!("{rule}: {wrong}"),
+    };
+    // Every second part stands between backticks.
+    let parts: Vec<&str> = rule.split('`').collect();
+    let mut fates = Vec::new();
+    let mut at = 1;
+    while at < parts.len() {
+        let before = encode(parts[at]);
+        if parts[at + 1].trim() == "becomes" {
+            fates.push((before, Fate::Becomes(encode(parts[at + 2]))));
+            at += 4;
+        } else {
+            assert!(parts[at + 1].starts_with(" stays"), "{rule}");
+            fates.push((before, Fate::Stays));
+            at += 2;
+        }
+    }
+    fates
+}
+
+/// What the simplifying call makes of the table with that allowance, and in how many steps.
+fn steps(table: &[u8], allowance: u64) -> (u64, Vec<u8>) {
+    let mut out = vec![0; table.len()];
+    let answer = ffi::simplify(table, allowance, &mut out);
+    assert_eq!(answer.refused, 0, "{}", shown(table));
+    out.truncate(answer.length as usize);
+    (answer.steps, out)
+}
+
+/// The rule of the table's first step, by the second simplifier.
+fn first_rule(table: &[u8]) -> Option<usize> {
+    let tree = reader::check(table);
+    simplifier::step(&mut tree.expect("an accepted table"))
+}
+
+#[test]
+fn every_rule_takes_one_step() {
+    let rules = rules();
+    assert_eq!(rules.len(), 9);
+    for (rule, text) in (1..).zip(&rules) {
+        assert!(text.starts_with(&format!("{rule}. ")), "{text}");
+        let mut fitted = 0;
+        for (before, fate) in fates(text) {
+            println!("{text}\n{}{fate:?}", shown(&before));
+            match fate {
+                Fate::Becomes(after) => {
+                    assert_eq!(steps(&before, 1), (1, after));
+                    assert_eq!(first_rule(&before), Some(rule));
+                    fitted += 1;
+                }
+                Fate::Stays => assert_eq!(steps(&before, u64::MAX), (0, before)),
+            }
+        }
+        assert!(fitted > 0, "{text}");
+    }
+}
+
+// The notation.
+
+#[test]
+fn what_is_no_tree_is_told() {
+    let wrong = [
+        "",
+        "7 8",
+        "()",
+        "(7",
+        "7)",
+        "C7",
+        "C(7, 8)",
+        "(7 | 8)",
+        "X",
+        "Y16",
+        "-7",
+        "loop",
+        "loop 3 7",
+        "loop 3 of",
+        "7/1",
+        "7/1@",
+        "7/1@256",
+        "7/1@1/2@2",
+        "{7/1@1}/2@2",
+        "{7",
+        "exit 7",
+        "7 exit 8",
+    ];
+    for text in wrong {
+        assert!(notation::tree(text).is_err(), "{text}");
+    }
+}
