@@ -9,9 +9,10 @@ ghost use mathlib.Core.Path.{_≡_};
 ghost use Prim.Native.Nat.{_≤_};
 ghost use lib.ListN.{length};
 ghost use Rattle.table.specs.Table.{encode};
+ghost use Rattle.quoting.specs.Answers.{checkedRefusal};
 ghost use Rattle.subtrees.specs.Parts.{Simplifiable};
 ghost use Rattle.writing.specs.Over.{over};
-ghost use Rattle.simplifying.specs.Demand.{Asked, Demand3};
+ghost use Rattle.simplifying.specs.Demand.{Asked, Demand3, quotedNumbers, simplifiedNumbers};
 ghost use Rattle.simplifying.specs.Answers.{endingOf, made, madeAnswer, simplifiedLength, simplifyAnswer, simplifyWrites};
 
 // No rule fits what was written, or the allowance is used and a rule fits.
@@ -112,7 +113,7 @@ pub fn both_desks(
     reception: &[u64],
     sales: &[u64],
 ) -> BothDesks
-    ensures demand { λ r. ⌜ Demand3 (now (table .entry)) allowance (now (reception .entry)) (now (sales .entry)) (now (out .exit)) (r .checked) (r .simplified) (r .reception) (r .sales) ⌝ }
+    ensures demand { λ r. ⌜ Demand3 (now (table .entry)) allowance (now (reception .entry)) (now (sales .entry)) (now (out .exit)) (checkedRefusal (r .checked)) (simplifiedNumbers (r .simplified)) (quotedNumbers (r .reception)) (quotedNumbers (r .sales)) ⌝ }
     ensures answers { λ r. ⌜ Asked (now (table .entry)) allowance (now (reception .entry)) (now (sales .entry)) (now (out .entry)) (now (out .exit)) (r .checked) (r .simplified) (r .reception) (r .sales) ⌝ }
 {
     let checked = quoting::check(table);

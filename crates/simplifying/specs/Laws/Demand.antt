@@ -30,7 +30,7 @@ use Rattle.writing.specs.Over.{over}
 use Rattle.quoting.specs.Answers.{checkAnswer, checkedRefusal, figureAnswer, quotedFigure, quotedRefusal}
 use Rattle.simplifying.specs.Answers.{endingOf, finishedNumber, made, madeAnswer, simplifiedFinished, simplifiedLength, simplifiedRefusal, simplifiedSteps, simplifyAnswer, simplifyRefusal, simplifyWrites}
 use Rattle.quoting.specs.Promises.{Promises}
-use Rattle.simplifying.specs.Demand.{Asked, Demand3, Sold, soldBytes}
+use Rattle.simplifying.specs.Demand.{Asked, Demand3, FigureNumbers, SimplifyNumbers, Sold, quotedNumbers, simplifiedNumbers, soldBytes}
 use Rattle.writing.specs.Laws.Over.{long-over, take-over}
 use Rattle.quoting.specs.Laws.Figures.{figure-is, figured}
 use Rattle.quoting.specs.Laws.Values.{values-carry}
@@ -40,8 +40,13 @@ unfolding endingOf finishedNumber
 spent-not true e = absurd (omega arith)
 spent-not false e = refl
 
+-- the claim where the figure call's answers are its own, of simplifying's answer with its buffer and of checking's number
+abbrev pub Claimed : (b : List ℕ) (n : ℕ) (v w : List ℕ) → Simplified → (buffer : List ℕ) (checked : ℕ) → Type 0
+Claimed b n v w answer buffer checked =
+    Demand3 b n v w buffer checked (simplifiedNumbers answer) (quotedNumbers (figureAnswer b v)) (quotedNumbers (figureAnswer (soldBytes (simplifiedNumbers answer) buffer) w))
+
 module _ (b : List ℕ) (n : ℕ) (v w : List ℕ) (h : AreBytes b) (e : refusal b ≡ 0) where
-  sold : T (fits zeros (decode b)) → Sold b n v w (encode (steps n (decode b) .tree)) (steps n (decode b) .taken) (finishedNumber (endingOf (steps n (decode b) .finished))) (figureAnswer b v) (figureAnswer (encode (steps n (decode b) .tree)) w)
+  sold : T (fits zeros (decode b)) → Sold b n v w (encode (steps n (decode b) .tree)) (steps n (decode b) .taken) (finishedNumber (endingOf (steps n (decode b) .finished))) (quotedNumbers (figureAnswer b v)) (quotedNumbers (figureAnswer (encode (steps n (decode b) .tree)) w))
   unfolding quotedRefusal quotedFigure
   sold f =
       let t = decode b in
@@ -93,53 +98,44 @@ module _ (b : List ℕ) (n : ℕ) (v w : List ℕ) (h : AreBytes b) (e : refusal
       go true false q = refl
       go false y q = absurd (unfold firstNo in omega (arith, q))
 
-  accepted : (out : List ℕ) (k : ℕ)
-      → Demand3 b n v w (over (simplifyWrites b n out) out) (Checked.Accepted k) (simplifyAnswer b n out)
-      (figureAnswer b v) (figureAnswer (soldBytes (simplifyAnswer b n out) (over (simplifyWrites b n out) out)) w)
+  accepted : (out : List ℕ) → Claimed b n v w (simplifyAnswer b n out) (over (simplifyWrites b n out) out) 0
   unfolding simplifyAnswer madeAnswer simplifyWrites made simplifiedRefusal simplifiedLength simplifiedSteps simplifiedFinished
-  accepted out k =
+  accepted out =
       let m = steps n (decode b) in
-      by-refusals (λ a y. Demand3 b n v w (over y out) (Checked.Accepted k) a (figureAnswer b v) (figureAnswer (soldBytes a (over y out)) w)) (simplifyRefusal b out) _ Simplified.Refused _ _
+      by-refusals (λ a y. Claimed b n v w a (over y out) 0) (simplifyRefusal b out) _ Simplified.Refused _ _
       (λ z. record {
         inside = λ c s. long-over (encode (m .tree)) out;
         sold = λ c s.
-            subst (λ x. Sold b n v w x (m .taken) (finishedNumber (endingOf (m .finished))) (figureAnswer b v) (figureAnswer x w)) (sym (take-over (encode (m .tree)) out)) (sold (accepted-fits out z));
+            subst (λ x. Sold b n v w x (m .taken) (finishedNumber (endingOf (m .finished))) (quotedNumbers (figureAnswer b v)) (quotedNumbers (figureAnswer x w))) (sym (take-over (encode (m .tree)) out)) (sold (accepted-fits out z));
         tooLarge = λ c s. absurd (omega (arith, s));
       })
       (λ z. record { inside = λ c s. absurd (z s); sold = λ c s. absurd (z s); tooLarge = λ c s. too-large (ten-large out s) })
 
--- a table that is not accepted
-not-accepted : (b : List ℕ) (n : ℕ) (v w buffer : List ℕ) (q : ℕ) (answer : Simplified) (reception sales : Quote) → (q ≡ 0 → ⊥) → Demand3 b n v w buffer (Checked.Refused q) answer reception sales
-unfolding checkedRefusal
-not-accepted b n v w buffer q answer reception sales z = record { inside = λ c s. absurd (z c); sold = λ c s. absurd (z c); tooLarge = λ c s. absurd (z c) }
-
 -- for every table, every allowance, every output buffer and whatever values the two desks hold
-pub demand3 : (b : List ℕ) → AreBytes b → (n : ℕ) (v w out : List ℕ)
-    → let answer = simplifyAnswer b n out in
-    let buffer = over (simplifyWrites b n out) out in
-    Demand3 b n v w buffer (checkAnswer b) answer (figureAnswer b v) (figureAnswer (soldBytes answer buffer) w)
-unfolding checkAnswer byRefusal
+pub demand3 : (b : List ℕ) → AreBytes b → (n : ℕ) (v w out : List ℕ) → Claimed b n v w (simplifyAnswer b n out) (over (simplifyWrites b n out) out) (checkedRefusal (checkAnswer b))
+unfolding checkAnswer byRefusal checkedRefusal
 demand3 b h n v w out = go (refusal b) refl
   where
-    buffer : List ℕ
-    buffer = over (simplifyWrites b n out) out
+    go : (q : ℕ) → refusal b ≡ q → Claimed b n v w (simplifyAnswer b n out) (over (simplifyWrites b n out) out) (checkedRefusal (byRefusal q (Checked.Accepted (recordCount b)) Checked.Refused))
+    go zero e = accepted b n v w h e out
+    -- a table that is not accepted
+    go (suc q) e = record { inside = λ c s. absurd (omega (arith, c)); sold = λ c s. absurd (omega (arith, c)); tooLarge = λ c s. absurd (omega (arith, c)) }
 
-    sales : Quote
-    sales = figureAnswer (soldBytes (simplifyAnswer b n out) buffer) w
+-- and so of any numbers that are the four calls' own
+pub numbers-claimed : (b : List ℕ) → AreBytes b → (n : ℕ) (v w out : List ℕ) {buffer : List ℕ} {checked : ℕ} {answer : SimplifyNumbers} {reception sales : FigureNumbers}
+    → checked ≡ checkedRefusal (checkAnswer b) → answer ≡ simplifiedNumbers (simplifyAnswer b n out) → buffer ≡ over (simplifyWrites b n out) out
+    → reception ≡ quotedNumbers (figureAnswer b v) → sales ≡ quotedNumbers (figureAnswer (soldBytes answer buffer) w) → Demand3 b n v w buffer checked answer reception sales
+numbers-claimed b h n v w out c a o r s = rw (s, r, o, a, c) (demand3 b h n v w out)
 
-    go : (q : ℕ) → refusal b ≡ q → Demand3 b n v w buffer (byRefusal q (Checked.Accepted (recordCount b)) Checked.Refused) (simplifyAnswer b n out) (figureAnswer b v) sales
-    go zero e = accepted b n v w h e out (recordCount b)
-    go (suc q) e = not-accepted b n v w buffer (suc q) _ _ sales (λ z. omega (arith, z))
-
--- and so of the four calls, where sales are lent the first k bytes of the buffer
+-- and of the four calls, where sales are lent the first k bytes of the buffer
 pub both-asked : (b : List ℕ) (n : ℕ) (v w out buffer : List ℕ) (checked : Checked) (answer : Simplified) (reception sales : Quote) (k : ℕ) → AreBytes b
     → checked ≡ checkAnswer b → answer ≡ simplifyAnswer b n out → buffer ≡ over (simplifyWrites b n out) out → reception ≡ figureAnswer b v
     → k ≡ simplifiedLength answer → sales ≡ figureAnswer (take (k - 0) (drop 0 buffer)) w → Promises b v reception → Promises (take (k - 0) (drop 0 buffer)) w sales
-    → Demand3 b n v w buffer checked answer reception sales × Asked b n v w out buffer checked answer reception sales
+    → Demand3 b n v w buffer (checkedRefusal checked) (simplifiedNumbers answer) (quotedNumbers reception) (quotedNumbers sales) × Asked b n v w out buffer checked answer reception sales
 both-asked b n v w out buffer checked answer reception sales k h c a o r e s p q =
-    let part : take (k - 0) (drop 0 buffer) ≡ soldBytes answer buffer = part-to buffer k ∙ ap (λ x. take x buffer) e in
-    let lent : sales ≡ figureAnswer (soldBytes answer buffer) w = s ∙ ap (λ x. figureAnswer x w) part in (
-      rw (lent, r, o, a, c) (demand3 b h n v w out),
+    let part : take (k - 0) (drop 0 buffer) ≡ soldBytes (simplifiedNumbers answer) buffer = part-to buffer k ∙ ap (λ x. take x buffer) e in
+    let lent : sales ≡ figureAnswer (soldBytes (simplifiedNumbers answer) buffer) w = s ∙ ap (λ x. figureAnswer x w) part in (
+      numbers-claimed b h n v w out (ap checkedRefusal c) (ap simplifiedNumbers a) o (ap quotedNumbers r) (ap quotedNumbers lent),
       record { checks = c; simplifies = a; writes = o; quotes = r; sells = lent; promised = p; promisedSales = subst (λ x. Promises x w sales) part q },
     )
 
