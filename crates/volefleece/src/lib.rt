@@ -9,7 +9,7 @@ ghost use mathlib.Core.Path.{_≡_};
 ghost use lib.ListN.{take};
 ghost use Rattle.quoting.specs.Answers.{checkAnswer, checkedRefusal, checkedRecords};
 ghost use Rattle.quoting.specs.Answers.{figureAnswer, quotedRefusal, quotedFigure};
-ghost use Rattle.quoting.specs.Promises.{Promised};
+ghost use Rattle.quoting.specs.Promises.{Listing, Promised};
 ghost use Rattle.evaluate.specs.Evaluate.{valuesOf};
 ghost use Rattle.table.specs.Table.{decode};
 ghost use Rattle.writing.specs.Over.{over};
@@ -76,6 +76,7 @@ pub struct VfListAnswer {
 pub extern "C" fn vf_list(table: &[u8], values: &[u64], out: &mut [u64]) -> VfListAnswer
     ensures answer { λ r. ⌜ (r .refused ≡ listedRefusal (listAnswer (now (table .entry)) (now (values .entry)) (now (out .entry)))) × (r .pairs ≡ listedPairs (listAnswer (now (table .entry)) (now (values .entry)) (now (out .entry)))) ⌝ }
     ensures written { λ r. ⌜ now (out .exit) ≡ over (listWrites (now (table .entry)) (now (values .entry)) (now (out .entry))) (now (out .entry)) ⌝ }
+    ensures promise { λ r. ⌜ (r .refused ≡ 0 → Listing (valuesOf (now (values .entry))) (decode (now (table .entry))) (r .pairs) (now (out .exit))) ⌝ }
 {
     let answer = quoting::list(table, values, out);
     match answer {
