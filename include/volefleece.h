@@ -8,6 +8,10 @@
 /* Each pointer lends as many elements as the length after it says, and out overlaps nothing else that is lent. A call wants less
    than 1 MiB of stack. */
 
+/* What each call answers is proved of these structs' numbers: its contract is in crates/volefleece/src/lib.rt. Demand 3 is the contract
+   of vf_both_desks there, which is not exported: it is about the numbers of four calls, vf_check and vf_simplify of a table, vf_figure
+   lent that table, and vf_figure lent what vf_simplify wrote, in the length that it answered, both unchanged since. */
+
 #ifdef __cplusplus
 extern "C" {
 #endif

@@ -1,2 +1,5 @@
--- Definitions.
-pub mod Simplified
+-- Definitions, in the order of reading.
+pub mod Numbers
+pub mod BothDesks
+-- What is proved of them.
+pub mod Laws

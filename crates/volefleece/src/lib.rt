@@ -7,17 +7,18 @@ use simplifying::Ending;
 use simplifying::Simplified;
 ghost use mathlib.Core.Path.{_≡_};
 ghost use lib.ListN.{take};
-ghost use Rattle.quoting.specs.Answers.{checkAnswer, checkedRefusal, checkedRecords};
-ghost use Rattle.quoting.specs.Answers.{figureAnswer, quotedRefusal, quotedFigure};
-ghost use Rattle.quoting.specs.Promises.{Listing, Promised};
+ghost use Rattle.quoting.specs.Answers.{checkAnswer, figureAnswer};
+ghost use Rattle.quoting.specs.Promises.{Listing};
 ghost use Rattle.evaluate.specs.Evaluate.{valuesOf};
 ghost use Rattle.table.specs.Table.{decode};
 ghost use Rattle.writing.specs.Over.{over};
 ghost use Rattle.quoting.specs.Answers.{listAnswer, listedRefusal, listedPairs, listWrites};
 ghost use Rattle.simplifying.specs.Answers.{finishedNumber, simplifyAnswer, simplifyWrites};
+ghost use Rattle.simplifying.specs.Demand.{Demand3};
 ghost use Rattle.graft.specs.Answers.{graftAnswer, graftWrites, graftedLength, graftedRefusal};
 ghost use Rattle.graft.specs.Promises.{GraftPromised};
-ghost use Rattle.volefleece.specs.Simplified.{Numbers};
+ghost use Rattle.volefleece.specs.Numbers.{CheckedAs, FigurePromised, QuotedAs, SimplifiedAs};
+ghost use Rattle.volefleece.specs.BothDesks.{AskedInC, quotedBy, simplifiedBy};
 
 #[repr(C)]
 pub struct VfChecked {
@@ -27,7 +28,7 @@ pub struct VfChecked {
 
 #[no_mangle]
 pub extern "C" fn vf_check(table: &[u8]) -> VfChecked
-    ensures { λ r. ⌜ (r .refused ≡ checkedRefusal (checkAnswer (now (table .entry)))) × (r .records ≡ checkedRecords (checkAnswer (now (table .entry)))) ⌝ }
+    ensures { λ r. ⌜ CheckedAs r (checkAnswer (now (table .entry))) ⌝ }
 {
     let answer = quoting::check(table);
     match answer {
@@ -50,8 +51,8 @@ pub struct VfFigureAnswer {
 
 #[no_mangle]
 pub extern "C" fn vf_figure(table: &[u8], values: &[u64]) -> VfFigureAnswer
-    ensures promise { λ r. ⌜ (r .refused ≡ 0 → Promised (valuesOf (now (values .entry))) (decode (now (table .entry))) (r .figure)) ⌝ }
-    ensures answer { λ r. ⌜ (r .refused ≡ quotedRefusal (figureAnswer (now (table .entry)) (now (values .entry)))) × (r .figure ≡ quotedFigure (figureAnswer (now (table .entry)) (now (values .entry)))) ⌝ }
+    ensures promise { λ r. ⌜ FigurePromised (now (table .entry)) (now (values .entry)) r ⌝ }
+    ensures answer { λ r. ⌜ QuotedAs r (figureAnswer (now (table .entry)) (now (values .entry))) ⌝ }
 {
     let answer = quoting::figure(table, values);
     match answer {
@@ -111,7 +112,7 @@ fn number_of(ending: Ending) -> u64
 
 #[no_mangle]
 pub extern "C" fn vf_simplify(table: &[u8], allowance: u64, out: &mut [u8]) -> VfSimplified
-    ensures answer { λ r. ⌜ Numbers r (simplifyAnswer (now (table .entry)) allowance (now (out .entry))) ⌝ }
+    ensures answer { λ r. ⌜ SimplifiedAs r (simplifyAnswer (now (table .entry)) allowance (now (out .entry))) ⌝ }
     ensures written { λ r. ⌜ now (out .exit) ≡ over (simplifyWrites (now (table .entry)) allowance (now (out .entry))) (now (out .entry)) ⌝ }
 {
     let answer = simplifying::simplify(table, allowance, out);
@@ -153,5 +154,40 @@ pub extern "C" fn vf_graft(host: &[u8], sent: &[u8], symbol: u64, out: &mut [u8]
             refused: question,
             length: 0,
         },
+    }
+}
+
+// ---- The calls together
+
+// What checking, simplifying and the figure call answer both desks.
+pub struct VfBothDesks {
+    pub checked: VfChecked,
+    pub simplified: VfSimplified,
+    pub reception: VfFigureAnswer,
+    pub sales: VfFigureAnswer,
+}
+
+// Demand 3 of the numbers that C gets: what a C program may conclude where it makes these four calls. It is not exported, since such a program makes
+// them itself; its contract is the claim.
+pub fn vf_both_desks(
+    table: &[u8],
+    allowance: u64,
+    out: &mut [u8],
+    reception: &[u64],
+    sales: &[u64],
+) -> VfBothDesks
+    ensures demand { λ r. ⌜ Demand3 (now (table .entry)) allowance (now (reception .entry)) (now (sales .entry)) (now (out .exit)) (r .checked .refused) (simplifiedBy (r .simplified)) (quotedBy (r .reception)) (quotedBy (r .sales)) ⌝ }
+    ensures answers { λ r. ⌜ AskedInC (now (table .entry)) allowance (now (reception .entry)) (now (sales .entry)) (now (out .entry)) (now (out .exit)) r ⌝ }
+{
+    let checked = vf_check(table);
+    let simplified = vf_simplify(table, allowance, out);
+    let n = simplified.length as usize;
+    let quoted = vf_figure(table, reception);
+    let sold = vf_figure(&out[0..n], sales);
+    VfBothDesks {
+        checked: checked,
+        simplified: simplified,
+        reception: quoted,
+        sales: sold,
     }
 }

@@ -1,0 +1,31 @@
+-- That the numbers of a struct, which C gets, are those of an answer, and what a figure among them promises.
+use mathlib.Core.Path.{_≡_}
+use mathlib.Core.List.{List}
+use Prim.Native.Nat.{ℕ}
+use Rattle.table.specs.Table.{decode}
+use Rattle.evaluate.specs.Evaluate.{valuesOf}
+use Rattle.quoting.specs.Answers.{checkedRecords, checkedRefusal, quotedFigure, quotedRefusal}
+use Rattle.quoting.specs.Promises.{Promised}
+use Rattle.quoting.specs.declared.Checked.{Checked}
+use Rattle.quoting.specs.declared.Quote.{Quote}
+use Rattle.simplifying.specs.Answers.{simplifiedFinished, simplifiedLength, simplifiedRefusal, simplifiedSteps}
+use Rattle.simplifying.specs.declared.Simplified.{Simplified}
+use Rattle.volefleece.specs.declared.VfChecked.{VfChecked}
+use Rattle.volefleece.specs.declared.VfFigureAnswer.{VfFigureAnswer}
+use Rattle.volefleece.specs.declared.VfSimplified.{VfSimplified}
+
+abbrev pub CheckedAs : VfChecked → Checked → Type 0
+CheckedAs r answer = (r .refused ≡ checkedRefusal answer) × (r .records ≡ checkedRecords answer)
+
+abbrev pub QuotedAs : VfFigureAnswer → Quote → Type 0
+QuotedAs r answer = (r .refused ≡ quotedRefusal answer) × (r .figure ≡ quotedFigure answer)
+
+-- demand 2's promise of a figure
+abbrev pub FigurePromised : (table values : List ℕ) → VfFigureAnswer → Type 0
+FigurePromised b vs r = r .refused ≡ 0 → Promised (valuesOf vs) (decode b) (r .figure)
+
+pub record SimplifiedAs (r : VfSimplified) (answer : Simplified) : Type 0 where
+  pub refused : r .refused ≡ simplifiedRefusal answer
+  pub length : r .length ≡ simplifiedLength answer
+  pub steps : r .steps ≡ simplifiedSteps answer
+  pub finished : r .finished ≡ simplifiedFinished answer
