@@ -8,8 +8,10 @@ pub mod Weight
 pub mod Settled
 pub mod ListPairs
 pub mod Ranges
+pub mod Admits
 pub mod Covered
 pub mod Reached
+pub mod CaseI
 pub mod Found
 pub mod Children
 pub mod Evaluator

@@ -6,5 +6,6 @@ pub mod Runs
 pub mod ListPairs
 pub mod Evaluator
 pub mod Shown
--- What is proved of them.
+-- Examples, and what is proved of them.
+pub mod Cases
 pub mod Laws

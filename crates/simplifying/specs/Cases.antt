@@ -10,6 +10,7 @@ use Rattle.table.specs.Numbers.{mostRecords}
 use Rattle.table.specs.Notation.{_/_at_, allHold, block, both, either, loop, sequence, symbol}
 use Rattle.table.specs.Table.{encode}
 use Rattle.table.specs.Trees.{Tree, nil, _▸_}
+use Rattle.evaluate.specs.Cases.{caseC, caseE, caseH, caseI, limitedZero, term}
 use Rattle.evaluate.specs.Closed.{stays, closed, isPlain, plainKind, plainLimit, symbolFree, isUnlimited}
 use Rattle.simplify.specs.Same.{sameNumber, sameLimit, sameKind, same}
 use Rattle.simplify.specs.Rules.{isBlock, isSum, limitOf, children, relimit, leaf, bare, timeOfKind, timeOf, when, rule1, gives, anyGives, giveWay, rule2, alone, rule3, rule4, isZero, anyZero, without, rule5, bares, others, total, largest, rule6, atFirst, rule7, isPair, headOf, tailOf, firstOf, secondOf, allPairs, firsts, shares, sharedOut, rule8, exit, rule9}
@@ -40,21 +41,6 @@ becomes t u n =
     let out : List ℕ = replicate (length (encode t)) 0 in
     hasWritten (length (encode u)) n (simplifyAnswer (encode t) mostRecords out) and sameNumbers (simplifyWrites (encode t) mostRecords out) (encode u)
 
--- ---- the cases
-
--- document 003's example 4.5, with the inner loop's limit on loop k
-caseE : ℕ → Tree
-caseE k =
-    loop 3 (both (block 5) (loop 3 (sequence (block 5 ▸ either (block 10 / 1 at k) (block 0) ▸ block 15 ▸ nil)) (block 5))) (block 5)
-
--- the term that case H's two alternatives share
-term : Tree
-term = either (block 10 / 1 at 1) (block 0)
-
--- case I with this first child of the inner loop's body
-caseI : Tree → Tree
-caseI a = loop 3 (loop 3 (both a (either (block 10 / 1 at 2) (block 0))) (block 0)) (block 0)
-
 pub starred : List Bool
 starred =
     -- A
@@ -62,9 +48,9 @@ starred =
     -- B
     ∷ quotes (loop 0 (block 9) (block 4)) 4
     -- C
-    ∷ quotes (loop 3 (either (block 10 / 1 at 1) (block 5)) (block 0)) 20
+    ∷ quotes (caseC 1) 20
     -- D
-    ∷ quotes (loop 3 (either (block 10 / 0 at 1) (block 5)) (block 0)) 15
+    ∷ quotes (caseC 0) 15
     -- E
     ∷ quotes (caseE 2) 225
     -- F
@@ -73,10 +59,10 @@ starred =
     ∷ lists (either (block 30 / 1 at 2) (block 20)) (run 30 1 (ever 20))
     ∷ lists (loop 3 (either (block 30 / 1 at 2) (block 20)) (block 0)) (run 70 1 (ever 60))
     -- H, and what it would be, were the limited term shared out
-    ∷ quotes (loop 2 (either (both (block 5) term) (both (block 4) term)) (block 0)) 29
+    ∷ quotes caseH 29
     ∷ quotes (loop 2 (both (either (block 5) (block 4)) term) (block 0)) 20
     -- I, and what it would be without the limited 0
-    ∷ quotes (caseI (either (block 0 / 1 at 1) (block 4))) 66
+    ∷ quotes (caseI limitedZero) 66
     ∷ quotes (caseI (block 4)) 46
     -- J
     ∷ becomes (sequence (block 5 ▸ symbol 16 ▸ block 4 ▸ nil)) (both (block 9) (symbol 16)) 1
@@ -85,5 +71,5 @@ starred =
     ∷ []
 
 pub starred-hold : allHold starred ≡ true
-unfolding starred caseE term caseI computed sameNumbers isFinished hasWritten becomes stays closed isPlain plainKind plainLimit symbolFree sameNumber sameLimit sameKind same isUnlimited isBlock isSum limitOf children relimit leaf bare timeOfKind timeOf when rule1 gives anyGives giveWay rule2 alone rule3 rule4 isZero anyZero without rule5 bares others total largest rule6 atFirst rule7 isPair headOf tailOf firstOf secondOf allPairs firsts shares sharedOut rule8 exit rule9 orElse also rule inside step isNone onward steps simplifyRefusal endingOf made madeAnswer simplifyAnswer simplifyWrites
+unfolding starred caseC caseE term caseH caseI limitedZero computed sameNumbers isFinished hasWritten becomes stays closed isPlain plainKind plainLimit symbolFree sameNumber sameLimit sameKind same isUnlimited isBlock isSum limitOf children relimit leaf bare timeOfKind timeOf when rule1 gives anyGives giveWay rule2 alone rule3 rule4 isZero anyZero without rule5 bares others total largest rule6 atFirst rule7 isPair headOf tailOf firstOf secondOf allPairs firsts shares sharedOut rule8 exit rule9 orElse also rule inside step isNone onward steps simplifyRefusal endingOf made madeAnswer simplifyAnswer simplifyWrites
 starred-hold = refl
