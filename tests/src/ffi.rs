@@ -1,5 +1,5 @@
 //! The library's exported functions. Nothing checks these declarations against its source, so they
-//! stay few and plain; the tests use the safe wrappers alone.
+//! stay few and plain; the tests use the safe wrappers, and `raw` only for what no slice can lend.
 
 mod figure;
 mod graft;
@@ -8,6 +8,14 @@ mod simplify;
 pub use figure::{figure, list, Figure, Listed};
 pub use graft::{graft, Grafted};
 pub use simplify::{simplify, Simplified};
+
+/// The functions themselves.
+pub mod raw {
+    pub use super::figure::{vf_figure, vf_list};
+    pub use super::graft::vf_graft;
+    pub use super::simplify::vf_simplify;
+    pub use super::vf_check;
+}
 
 /// The answer of `vf_check`.
 #[repr(C)]
@@ -36,7 +44,7 @@ impl Checked {
 }
 
 extern "C" {
-    fn vf_check(table: *const u8, table_len: usize) -> Checked;
+    pub fn vf_check(table: *const u8, table_len: usize) -> Checked;
 }
 
 /// Puts questions 1 to 7 to a table.

@@ -18,9 +18,11 @@
 //! - `simplifications`: one table with an allowance and a buffer, both simplifiers.
 //! - `grafts`: two tables with a symbol and a buffer, both grafters.
 //! - `programs`: the programs as processes, and their files.
+//! - `commands`: the repository's commands as processes, the real ones and copies beside stand-ins.
 //! - `rng`: a small deterministic generator of random numbers.
 
 pub mod cases;
+pub mod commands;
 pub mod compare;
 pub mod damage;
 pub mod evaluator;

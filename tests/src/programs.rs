@@ -114,7 +114,8 @@ pub fn sample(house: &str, file: &str) -> Vec<u8> {
     fs::read(path).expect("a sample")
 }
 
-fn project() -> PathBuf {
+/// The repository's folder.
+pub fn project() -> PathBuf {
     Path::new(env!("CARGO_MANIFEST_DIR")).join("..")
 }
 

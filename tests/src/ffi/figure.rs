@@ -21,14 +21,14 @@ pub struct Listed {
 }
 
 extern "C" {
-    fn vf_figure(
+    pub fn vf_figure(
         table: *const u8,
         table_len: usize,
         values: *const u64,
         values_len: usize,
     ) -> Figure;
 
-    fn vf_list(
+    pub fn vf_list(
         table: *const u8,
         table_len: usize,
         values: *const u64,

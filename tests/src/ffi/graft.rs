@@ -11,7 +11,7 @@ pub struct Grafted {
 }
 
 extern "C" {
-    fn vf_graft(
+    pub fn vf_graft(
         host: *const u8,
         host_len: usize,
         sent: *const u8,

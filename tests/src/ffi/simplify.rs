@@ -15,7 +15,7 @@ pub struct Simplified {
 }
 
 extern "C" {
-    fn vf_simplify(
+    pub fn vf_simplify(
         table: *const u8,
         table_len: usize,
         allowance: u64,

@@ -1,0 +1,96 @@
+//! What callers may lend: null pointers to nothing, and the same bytes to many threads.
+
+use std::ptr::{null, null_mut};
+use std::thread;
+
+use volefleece_tests::ffi::{self, raw};
+use volefleece_tests::programs::{sample, TREE, VALUES};
+use volefleece_tests::tables::*;
+
+const ZEROS: [u64; 32] = [0; 32];
+
+/// A null pointer in the place of the table, of the values and of the buffer, alone and together.
+#[test]
+fn null_with_length_0_lends_nothing() {
+    let (no_table, no_values) = ((null(), 0), (null(), 0));
+    let table = block(7);
+    let one = (table.as_ptr(), table.len());
+    let zeros = (ZEROS.as_ptr(), ZEROS.len());
+
+    // SAFETY: null pointers are lent with length 0, the others with their slices' lengths.
+    unsafe {
+        assert_eq!(raw::vf_check(no_table.0, no_table.1).refused, 1);
+
+        for ((table, table_len), (values, values_len), refused) in [
+            (no_table, no_values, 1),
+            (no_table, zeros, 1),
+            (one, no_values, 9),
+            (one, zeros, 0),
+        ] {
+            let answer = raw::vf_figure(table, table_len, values, values_len);
+            assert_eq!(answer.refused, refused);
+            let mut list = [5; 512];
+            let room = (list.as_mut_ptr(), list.len());
+            for ((out, out_len), room_refused) in [((null_mut(), 0), 8), (room, refused)] {
+                let answer = raw::vf_list(table, table_len, values, values_len, out, out_len);
+                assert_eq!(answer.refused, if refused == 1 { 1 } else { room_refused });
+            }
+        }
+    }
+}
+
+#[test]
+fn null_with_length_0_lends_nothing_to_write_to() {
+    let no_table = (null(), 0);
+    let table = block(7);
+    let one = (table.as_ptr(), table.len());
+    let mut buffer = [5; 8192];
+    let room = (buffer.as_mut_ptr(), buffer.len());
+
+    // SAFETY: as above.
+    unsafe {
+        for (out, out_len, refused) in [(null_mut(), 0, 8), (room.0, room.1, 0)] {
+            let simplify = |(table, len)| raw::vf_simplify(table, len, 5, out, out_len).refused;
+            assert_eq!(simplify(no_table), 1);
+            assert_eq!(simplify(one), refused);
+            let graft = |(host, host_len), (sent, sent_len)| {
+                raw::vf_graft(host, host_len, sent, sent_len, 20, out, out_len).refused
+            };
+            assert_eq!(graft(no_table, no_table), 1);
+            assert_eq!(graft(no_table, one), 1);
+            assert_eq!(graft(one, no_table), 1);
+            assert_eq!(graft(one, one), refused);
+        }
+    }
+}
+
+/// Eight threads read the same tables and values, each with a buffer of its own.
+#[test]
+fn threads_may_call_at_once() {
+    let tree = sample("workshop", TREE);
+    let file = sample("workshop", VALUES);
+    let mut numbers = [0; 32];
+    for (number, &bytes) in numbers.iter_mut().zip(file.as_chunks().0) {
+        *number = u64::from_le_bytes(bytes);
+    }
+    let sent = block(90_000);
+    let call_all = || {
+        let mut list = [0; 512];
+        let (mut simple, mut whole) = ([0; 8192], [0; 8192]);
+        let answers = (
+            ffi::check(&tree),
+            ffi::figure(&tree, &numbers),
+            ffi::list(&tree, &numbers, &mut list),
+            ffi::simplify(&tree, u64::MAX, &mut simple),
+            ffi::graft(&tree, &sent, 16, &mut whole),
+        );
+        (answers, list, simple, whole)
+    };
+    let alone = call_all();
+    assert_eq!(alone.0 .1.figure, 210_910);
+    thread::scope(|threads| {
+        for _ in 0..8 {
+            threads.spawn(|| (0..200).for_each(|_| assert!(call_all() == alone)));
+        }
+    });
+}

@@ -1,0 +1,67 @@
+//! The programs in the README: they compile as it says, link with the archive and print what it says.
+
+use std::path::Path;
+use std::process::Command;
+use std::{env, fs};
+
+use volefleece_tests::commands::{file, Ended};
+use volefleece_tests::programs::Folder;
+
+/// The indented lines after the one that begins so, without their indent.
+fn block(start: &str) -> String {
+    let readme = fs::read_to_string(file("README.md")).expect("read");
+    let lines = readme.lines().skip_while(|line| !line.starts_with(start));
+    let block: Vec<&str> = lines
+        .skip(2)
+        .take_while(|line| line.is_empty() || line.starts_with("    "))
+        .map(|line| line.get(4..).unwrap_or_default())
+        .collect();
+    assert!(block.len() > 1, "nothing follows {start}");
+    format!("{}\n", block.join("\n").trim_end())
+}
+
+/// The folder with the archive, as build.rs finds it.
+fn archive_folder() -> std::path::PathBuf {
+    env::var_os("VOLEFLEECE_LIB_DIR").map_or_else(|| file("target/staticlib"), Into::into)
+}
+
+/// Compiles a program without a warning, and compares what it prints with the README.
+#[track_caller]
+fn compiles_and_prints(compile: &mut Command, program: &Path) {
+    let compiled = Ended::of(compile);
+    assert_eq!(compiled.status, Some(0), "{}", compiled.error);
+    assert_eq!(compiled.error, "");
+    let ran = Ended::of(&mut Command::new(program));
+    assert_eq!(ran.output, block("Both print"));
+    assert_eq!(ran.status, Some(0));
+}
+
+#[test]
+fn the_program_in_c() {
+    let folder = Folder::new("desk");
+    folder.write("main.c", block("From C, all five calls:").as_bytes());
+    let program = folder.path("program");
+    let mut compile = Command::new("cc");
+    compile
+        .args(["-std=c99", "-pedantic", "-Wall", "-Wextra", "-O2", "-I"])
+        .args([file("include"), folder.path("main.c")])
+        .arg(archive_folder().join("libvolefleece.a"))
+        .arg("-o")
+        .arg(&program);
+    compiles_and_prints(&mut compile, &program);
+}
+
+#[test]
+fn the_program_in_rust() {
+    let folder = Folder::new("desk");
+    folder.write("main.rs", block("From Rust, in edition 2024").as_bytes());
+    let program = folder.path("program");
+    let mut compile = Command::new(env::var_os("RUSTC").unwrap_or("rustc".into()));
+    compile
+        .args(["--edition", "2024", "-l", "static=volefleece", "-L"])
+        .arg(format!("native={}", archive_folder().display()))
+        .arg(folder.path("main.rs"))
+        .arg("-o")
+        .arg(&program);
+    compiles_and_prints(&mut compile, &program);
+}

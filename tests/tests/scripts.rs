@@ -1,0 +1,687 @@
+//! The commands `./quote`, `./simplify`, `./install`, `./bench` and `./test`: their arguments, lines and exit statuses, what they build and when,
+//! and what is installed. Where the real programs are not built from the sources yet, a command builds them first, by `rt`.
+
+use std::ffi::OsStr;
+use std::fs::{self, File};
+use std::io;
+use std::os::fd::OwnedFd;
+use std::os::unix::ffi::OsStrExt;
+use std::os::unix::fs::{symlink, MetadataExt};
+use std::os::unix::net::UnixDatagram;
+use std::path::Path;
+use std::process::Command;
+use std::{env, thread};
+
+use volefleece_tests::commands::*;
+use volefleece_tests::programs::{sample, Folder, TREE};
+use volefleece_tests::tables::*;
+
+const HOUSE: &str = "figure 210910";
+const SIMPLIFIED: &str = "simplified 192 steps 7 finished";
+
+/// A folder that holds other folders.
+fn room() -> Folder {
+    Folder::new("desk")
+}
+
+/// Makes a folder whose figure is the number.
+fn put_house(path: &Path, figure: u64) {
+    fs::create_dir(path).expect("a new folder");
+    fs::write(path.join(TREE), block(figure)).expect("written");
+}
+
+/// A command of the repository, in the room.
+fn real(name: &str, room: &Folder) -> Command {
+    let mut command = command(file(name));
+    command.current_dir(room.path("."));
+    command
+}
+
+fn run<A: AsRef<OsStr>>(name: &str, room: &Folder, arguments: &[A]) -> Ended {
+    Ended::of(real(name, room).args(arguments))
+}
+
+/// A command of the repository on a folder of the room, run by that shell.
+fn by(shell: &Path, name: &str, room: &Folder, folder: &OsStr) -> Command {
+    let mut command = command(shell);
+    command.arg(file(name)).arg(folder);
+    command.current_dir(room.path("."));
+    command
+}
+
+/// As `by`, with descriptors closed.
+fn by_closed(shell: &Path, name: &str, room: &Folder, closed: &str) -> Command {
+    let mut command = command("sh");
+    command.args(["-c", &format!("exec \"$@\" {closed}"), "sh"]);
+    command.arg(shell).arg(file(name)).arg("h");
+    command.current_dir(room.path("."));
+    command
+}
+
+// Answers.
+
+#[test]
+fn the_samples() {
+    let room = room();
+    let none: [&str; 0] = [];
+    run("quote", &room, &none).expect(0, HOUSE);
+    run("simplify", &room, &none).expect(0, SIMPLIFIED);
+    let simple = fs::read(file("target/workshop/simple.tab")).expect("written");
+    assert_eq!(simple, sample("house", TREE));
+}
+
+#[test]
+fn an_answer_ends_with_0_and_a_refusal_with_1() {
+    let room = room();
+    put_house(&room.path("h"), 7);
+    run("quote", &room, &["h"]).expect(0, "figure 7");
+    run("simplify", &room, &["h"]).expect(0, "simplified 16 steps 0 finished");
+    room.write("h/tree.tab", &sample("workshop", TREE));
+    run("simplify", &room, &["h", "3"]).expect(0, "simplified 288 steps 3 spent");
+    room.write("h/tree.tab", &block(7)[..15]);
+    run("quote", &room, &["h"]).expect(1, "refused 1");
+    run("simplify", &room, &["h"]).expect(1, "refused 1");
+}
+
+#[test]
+fn a_message_ends_with_2() {
+    let room = room();
+    put_house(&room.path("h"), 7);
+    for allowance in ["x", "-1", "18446744073709551616", "1 2"] {
+        run("simplify", &room, &["h", allowance]).expect_message("a number of steps");
+    }
+    assert!(!room.path("h/simple.tab").exists());
+    fs::create_dir_all(room.path("unreadable/tree.tab")).expect("made");
+    for name in ["quote", "simplify"] {
+        run(name, &room, &["unreadable"]).expect_message("tree.tab: ");
+    }
+    fs::create_dir(room.path("h/simple.tab")).expect("made");
+    run("simplify", &room, &["h"]).expect_message("simple.tab");
+}
+
+// Arguments.
+
+#[test]
+fn arguments_are_counted() {
+    let copy = Repository::new("echo figure 1");
+    for (name, arguments) in [
+        ("quote", &["samples/house", "more"][..]),
+        ("simplify", &["samples/house", "1", "more"]),
+        ("install", &[]),
+        ("install", &["prefix", "more"]),
+        ("bench", &["more"]),
+        ("test", &["more"]),
+    ] {
+        let ended = Ended::of(
+            copy.command(name)
+                .current_dir(copy.path("."))
+                .args(arguments),
+        );
+        ended.expect_message(&format!("usage: ./{name}"));
+    }
+    assert!(copy.calls().is_empty());
+    assert!(!copy.path("prefix").exists());
+}
+
+#[test]
+fn empty_arguments_are_told() {
+    let copy = Repository::new("echo figure 1");
+    for (name, arguments) in [
+        ("quote", &[""][..]),
+        ("simplify", &[""]),
+        ("simplify", &["samples/house", ""]),
+        ("simplify", &["", "1"]),
+        ("install", &[""]),
+    ] {
+        let ended = Ended::of(
+            copy.command(name)
+                .current_dir(copy.path("."))
+                .args(arguments),
+        );
+        ended.expect_message("an argument is empty");
+    }
+    assert!(copy.calls().is_empty());
+}
+
+#[test]
+fn usage_is_told() {
+    let copy = Repository::new("echo figure 1");
+    for name in ["quote", "simplify", "install", "bench", "test"] {
+        let ended = Ended::of(copy.command(name).arg("--help"));
+        assert_eq!((ended.status, &*ended.error), (Some(0), ""));
+        assert!(ended.output.starts_with(&format!("usage: ./{name}")));
+    }
+    assert!(copy.calls().is_empty());
+}
+
+// Folders.
+
+#[test]
+fn cdpath_leads_nowhere() {
+    let room = room();
+    fs::create_dir(room.path("elsewhere")).expect("made");
+    put_house(&room.path("h"), 1);
+    put_house(&room.path("elsewhere/h"), 2);
+    for shell in shells() {
+        let run = |name| {
+            let mut command = by(&shell, name, &room, OsStr::new("h"));
+            Ended::of(command.env("CDPATH", room.path("elsewhere")))
+        };
+        run("quote").expect(0, "figure 1");
+        run("simplify").expect(0, "simplified 16 steps 0 finished");
+        fs::remove_file(room.path("h/simple.tab")).expect("written here");
+        assert!(!room.path("elsewhere/h/simple.tab").exists());
+    }
+}
+
+/// Whatever CDPATH, a link or a folder's name say.
+#[test]
+fn a_command_finds_its_own_folder() {
+    let room = room();
+    fs::create_dir(room.path("-P")).expect("made");
+    fs::create_dir_all(room.path("elsewhere/-P")).expect("made");
+    symlink(file("quote"), room.path("-P/link")).expect("linked");
+    symlink("-P/link", room.path("link")).expect("linked");
+    let run = |shell: &Path, name: &str, folder| {
+        let mut command = command(shell);
+        command.args(["--", name]).current_dir(folder);
+        Ended::of(command.env("CDPATH", room.path("elsewhere")))
+    };
+    for shell in shells() {
+        run(&shell, "link", room.path(".")).expect(0, HOUSE);
+        run(&shell, "-P/link", room.path(".")).expect(0, HOUSE);
+        run(&shell, "link", room.path("-P")).expect(0, HOUSE);
+        run(&shell, "quote", file(".")).expect(0, HOUSE);
+    }
+    let path = env::var_os("PATH").expect("PATH");
+    let folders = [room.path("-P")].into_iter().chain(env::split_paths(&path));
+    let path = env::join_paths(folders).expect("a PATH");
+    Ended::of(command("sh").args(["-c", "link"]).env("PATH", path)).expect(0, HOUSE);
+}
+
+#[test]
+fn folders_of_any_name() {
+    let room = room();
+    put_house(&room.path("old"), 99);
+    let names: [&[u8]; 14] = [
+        b"-",
+        b"-P",
+        b"-L",
+        b"--",
+        b"-e",
+        b"a b",
+        b" ",
+        b"ends\n",
+        b"two\nlines",
+        b"*",
+        b"$HOME",
+        b"\\c",
+        "t\u{fc}r".as_bytes(),
+        b"not text \xff",
+    ];
+    for (figure, name) in (1..).zip(names.map(OsStr::from_bytes)) {
+        put_house(&room.path(".").join(name), figure);
+        for shell in shells() {
+            let run = |command| {
+                let mut command = by(&shell, command, &room, name);
+                Ended::of(command.env("OLDPWD", room.path("old")))
+            };
+            run("quote").expect(0, &format!("figure {figure}"));
+            run("simplify").expect(0, "simplified 16 steps 0 finished");
+            let simple = room.path(".").join(name).join("simple.tab");
+            fs::remove_file(simple).expect("written there");
+        }
+    }
+    put_house(&room.path("--help"), 50);
+    run("quote", &room, &["./--help"]).expect(0, "figure 50");
+    let path = room.path("-P").canonicalize().expect("a folder");
+    run("quote", &room, &[path]).expect(0, "figure 2");
+}
+
+#[test]
+fn a_folder_that_is_not_there_is_told() {
+    let room = room();
+    room.write("file", b"");
+    for name in ["quote", "simplify"] {
+        for missing in ["missing", "-", "-x", "missing/../here", "file"] {
+            run(name, &room, &[missing]).expect_message(&format!("{missing}: no such folder"));
+        }
+    }
+}
+
+// Standard output.
+
+/// Closed, full, and a pipe that nobody reads.
+#[test]
+fn a_line_that_cannot_be_written_is_told() {
+    const TOLD: &str = "standard output cannot be written";
+    let room = room();
+    put_house(&room.path("h"), 7);
+    for shell in shells() {
+        for name in ["quote", "simplify"] {
+            Ended::of(&mut by_closed(&shell, name, &room, ">&-")).expect_message(TOLD);
+            let mut command = by(&shell, name, &room, OsStr::new("h"));
+            let full = File::options().write(true).open("/dev/full");
+            Ended::of(command.stdout(full.expect("opened"))).expect_message(TOLD);
+            let (reader, writer) = io::pipe().expect("a pipe");
+            drop(reader);
+            Ended::of(command.stdout(writer)).expect_message(TOLD);
+        }
+    }
+}
+
+/// A socket keeps what each write wrote apart.
+#[test]
+fn the_line_is_one_write() {
+    let room = room();
+    put_house(&room.path("h"), 7);
+    for shell in shells() {
+        for (name, line) in [
+            ("quote", "figure 7\n"),
+            ("simplify", "simplified 16 steps 0 finished\n"),
+        ] {
+            let (ours, theirs) = UnixDatagram::pair().expect("sockets");
+            let mut command = by(&shell, name, &room, OsStr::new("h"));
+            let ended = Ended::of(command.stdout(OwnedFd::from(theirs)));
+            assert_eq!(ended.status, Some(0));
+            ours.set_nonblocking(true).expect("set");
+            let mut written = [0; 100];
+            let length = ours.recv(&mut written).expect("a write");
+            assert_eq!(&written[..length], line.as_bytes());
+            assert!(ours.recv(&mut written).is_err(), "a second write");
+        }
+    }
+}
+
+/// Without standard input and standard error a program opens its files as usual.
+#[test]
+fn other_descriptors_may_be_closed() {
+    let room = room();
+    put_house(&room.path("h"), 7);
+    for shell in shells() {
+        for (name, line) in [
+            ("quote", "figure 7"),
+            ("simplify", "simplified 16 steps 0 finished"),
+        ] {
+            Ended::of(&mut by_closed(&shell, name, &room, "<&- 2>&-")).expect(0, line);
+        }
+    }
+}
+
+#[test]
+fn a_program_that_does_not_answer_is_told() {
+    for program in [
+        "kill -9 $$",
+        "kill -SEGV $$",
+        "echo figure 1; kill -9 $$",
+        "echo figure 1; exit 1",
+        "printf 'figure 1'",
+        "echo figure 1; echo figure 2",
+        "echo sorry",
+        "exit 3",
+        "printf '\\n'",
+    ] {
+        let copy = Repository::new(program);
+        for name in ["quote", "simplify"] {
+            let message = copy.run(name).error;
+            assert_eq!(
+                message.lines().last().map(|line| line.starts_with(name)),
+                Some(true)
+            );
+            copy.run(name).expect_message("");
+        }
+    }
+    let copy = Repository::new("echo 'tree.tab: why' >&2");
+    copy.run("quote").expect_message("tree.tab: why\n");
+}
+
+// Building.
+
+#[test]
+fn what_is_built_needs_no_rt() {
+    let room = room();
+    let none: [&str; 0] = [];
+    run("quote", &room, &none).expect(0, HOUSE);
+    run("simplify", &room, &none).expect(0, SIMPLIFIED);
+    put_tools(&room.path("tools"));
+    let mut quote = real("quote", &room);
+    let ended = Ended::of(quote.env("PATH", room.path("tools")));
+    ended.expect(0, HOUSE);
+    assert_eq!(ended.error, "");
+    let mut simplify = real("simplify", &room);
+    Ended::of(simplify.env("PATH", room.path("tools"))).expect(0, SIMPLIFIED);
+}
+
+#[test]
+fn what_is_not_built_needs_rt() {
+    let copy = Repository::new("echo figure 1");
+    let without = |name| {
+        let mut command = copy.command_with(name, &["tools"]);
+        Ended::of(command.args((name == "install").then_some(copy.path("prefix"))))
+    };
+    for name in ["quote", "simplify", "install"] {
+        without(name).expect_message("rt must be on PATH");
+    }
+    copy.run("quote").expect(0, "figure 1");
+    without("quote").expect(0, "figure 1");
+    put(&copy.path("crates/desk/src/main.rt"), "second");
+    without("quote").expect_message("rt must be on PATH");
+    assert!(!copy.path("prefix").exists());
+}
+
+/// By contents: `rt` is called where a source or the program is another, and not where only times are.
+#[test]
+fn changes_are_built_once() {
+    let copy = Repository::new("echo figure 1");
+    let mut calls = 0;
+    let mut built = |changed: bool| {
+        copy.run("quote").expect(0, "figure 1");
+        calls += usize::from(changed);
+        assert_eq!(copy.calls(), vec!["check desk"; calls]);
+    };
+    let source = copy.path("crates/desk/src/main.rt");
+    built(true);
+    built(false);
+    let written = File::options().append(true).open(&source).expect("opened");
+    let time = written
+        .metadata()
+        .expect("known")
+        .modified()
+        .expect("a time");
+    put(&source, "other");
+    written.set_modified(time).expect("set");
+    built(true);
+    built(false);
+    put(&source, "other");
+    built(false);
+    put(&copy.path("crates/desk/specs/New.antt"), "");
+    built(true);
+    fs::rename(
+        copy.path("crates/desk/specs"),
+        copy.path("crates/desk/proofs"),
+    )
+    .expect("renamed");
+    built(true);
+    put(&copy.path("crates.txt"), "desk: table\n");
+    built(true);
+    put(&copy.path("KIT"), "another kit\n");
+    built(true);
+    put_script(&copy.path("target/bin/desk"), "echo figure 2");
+    built(true);
+    fs::remove_dir_all(copy.path("target")).expect("removed");
+    built(true);
+    built(false);
+}
+
+#[test]
+fn a_failed_build_is_told_and_tried_again() {
+    let copy = Repository::new("echo figure 1");
+    put(&copy.path("broken"), "");
+    for calls in 1..3 {
+        copy.run("quote").expect_message("rt check desk failed");
+        assert_eq!(copy.calls().len(), calls);
+    }
+    fs::remove_file(copy.path("broken")).expect("removed");
+    copy.run("quote").expect(0, "figure 1");
+}
+
+/// What changes while it is built is not taken for built.
+#[test]
+fn a_change_during_a_build_is_built() {
+    let copy = Repository::new("echo figure 1");
+    put_script(
+        &copy.path("while-building"),
+        "echo more >>crates/desk/src/main.rt",
+    );
+    copy.run("quote").expect(0, "figure 1");
+    put_script(&copy.path("while-building"), ":");
+    for _ in 0..2 {
+        copy.run("quote").expect(0, "figure 1");
+        assert_eq!(copy.calls().len(), 2);
+    }
+}
+
+#[test]
+fn commands_build_one_at_a_time() {
+    let copy = Repository::new("echo figure 1");
+    put_script(&copy.path("while-building"), "sleep 0.3");
+    thread::scope(|threads| {
+        for name in ["quote", "quote", "simplify", "simplify", "quote"] {
+            let copy = &copy;
+            threads.spawn(move || copy.run(name).expect(0, "figure 1"));
+        }
+    });
+    let mut calls = copy.calls();
+    calls.sort();
+    calls.dedup();
+    assert_eq!(calls, ["check desk", "check sales"]);
+}
+
+// The gate.
+
+#[test]
+fn the_gate_ends_with_the_count() {
+    let copy = Repository::new("echo figure 1");
+    let ended = copy.run("test");
+    assert_eq!(ended.status, Some(0), "{ended:?}");
+    assert_eq!(ended.output, "proved\ntests ran\n3 passed, 0 failed\n");
+    assert_eq!(
+        copy.calls(),
+        [
+            "version",
+            "fmt --check",
+            "ci",
+            "staticlib volefleece",
+            "cargo test --release --offline"
+        ]
+    );
+}
+
+#[test]
+fn the_gate_keeps_the_count_back() {
+    let copy = Repository::new("echo figure 1");
+    put_script(&copy.path("stand-ins/cargo"), "exit 101");
+    let ended = copy.run("test");
+    assert_ne!(ended.status, Some(0));
+    assert_eq!(ended.output, "proved\n");
+
+    put(&copy.path("ci"), "proved\n2 passed, 1 failed\n");
+    let ended = copy.run("test");
+    assert_eq!(ended.status, Some(1));
+    assert!(ended
+        .output
+        .ends_with("2 passed, 1 failed\nrt ci failed (exit 1)\n"));
+
+    put(&copy.path("crates/stray/src/lib.rt"), "");
+    let ended = copy.run("test");
+    assert_eq!(ended.status, Some(1));
+    assert_eq!(ended.error, "crates/stray is missing from crates.txt\n");
+}
+
+#[test]
+fn the_gate_wants_the_kit_that_the_proofs_are_of() {
+    let copy = Repository::new("echo figure 1");
+    put(&copy.path("version"), "another kit\n");
+    copy.run("test").expect_message("rt version: another kit\n");
+    assert_eq!(copy.calls(), ["version"]);
+    let ended = Ended::of(&mut copy.command_with("test", &["tools"]));
+    ended.expect_message("rt on PATH");
+}
+
+#[test]
+fn the_benchmarks_are_of_what_is_built() {
+    let copy = Repository::new("echo figure 1");
+    let benched = "cargo bench --offline --bench quotes";
+    assert_eq!(copy.run("bench").output, "tests ran\n");
+    assert_eq!(
+        copy.calls(),
+        ["staticlib volefleece", "check desk", benched]
+    );
+    assert_eq!(copy.run("bench").status, Some(0));
+    assert_eq!(copy.calls()[3..], [benched]);
+}
+
+// Installing.
+
+const INSTALLED: [(&str, u32); 8] = [
+    ("libexec/volefleece/desk", 0o755),
+    ("libexec/volefleece/sales", 0o755),
+    ("libexec/volefleece/commands.sh", 0o644),
+    ("bin/volefleece-quote", 0o755),
+    ("bin/volefleece-simplify", 0o755),
+    ("include/volefleece.h", 0o644),
+    ("lib/libvolefleece.a", 0o644),
+    ("lib/pkgconfig/volefleece.pc", 0o644),
+];
+
+/// How many files a folder and those in it have.
+fn count_files(folder: &Path) -> usize {
+    fs::read_dir(folder)
+        .expect("a folder")
+        .map(|entry| entry.expect("an entry").path())
+        .map(|path| if path.is_dir() { count_files(&path) } else { 1 })
+        .sum()
+}
+
+/// All files are in place with their modes, and the command named each.
+#[track_caller]
+fn expect_installed(ended: &Ended, prefix: &Path) {
+    assert_eq!(ended.status, Some(0), "{ended:?}");
+    let named: Vec<String> = INSTALLED
+        .iter()
+        .map(|(name, _)| format!("{}/{name}", prefix.display()))
+        .collect();
+    assert_eq!(ended.output.lines().collect::<Vec<_>>(), named);
+    for (name, mode) in INSTALLED {
+        let metadata = fs::metadata(prefix.join(name)).expect("installed");
+        assert_eq!(metadata.mode() & 0o777, mode, "{name}");
+    }
+    assert_eq!(count_files(prefix), INSTALLED.len());
+}
+
+/// An installed command in another folder, with a bare environment.
+fn installed(prefix: &Path, name: &str, tools: &Path, arguments: &[&str]) -> Ended {
+    Ended::of(
+        command(prefix.join("bin").join(name))
+            .env_clear()
+            .env("PATH", tools)
+            .current_dir(tools.parent().expect("a folder"))
+            .args(arguments),
+    )
+}
+
+#[test]
+fn an_installed_desk_needs_no_kit() {
+    let room = room();
+    let prefix = room.path("a prefix");
+    expect_installed(&run("install", &room, &[&prefix]), &prefix);
+    let tools = room.path("tools");
+    fs::create_dir(&tools).expect("made");
+    symlink(find("readlink").expect("a tool"), tools.join("readlink")).expect("linked");
+    fs::create_dir(room.path("h")).expect("made");
+    room.write("h/tree.tab", &sample("workshop", TREE));
+    room.write("h/values.tab", &sample("workshop", "values.tab"));
+
+    let quote = |arguments: &[&str]| installed(&prefix, "volefleece-quote", &tools, arguments);
+    let simplify =
+        |arguments: &[&str]| installed(&prefix, "volefleece-simplify", &tools, arguments);
+    quote(&["h"]).expect(0, HOUSE);
+    simplify(&["h"]).expect(0, SIMPLIFIED);
+    simplify(&["h", "3"]).expect(0, "simplified 288 steps 3 spent");
+    simplify(&["h", "x"]).expect_message("a number of steps");
+    quote(&["prefix"]).expect_message("prefix: no such folder");
+    quote(&["a prefix"]).expect(1, "refused 1");
+    quote(&[""]).expect_message("an argument is empty");
+    quote(&[]).expect_message("usage: volefleece-quote DIR\n");
+    simplify(&[]).expect_message("usage: volefleece-simplify DIR [ALLOWANCE]\n");
+    simplify(&["h", "1", "2"]).expect_message("usage: volefleece-simplify DIR [ALLOWANCE]\n");
+    assert_eq!(quote(&["--help"]).status, Some(0));
+
+    fs::rename(&prefix, room.path("moved")).expect("moved");
+    symlink(room.path("moved/bin/volefleece-quote"), room.path("link")).expect("linked");
+    Ended::of(command(room.path("link")).arg(room.path("h"))).expect(0, HOUSE);
+}
+
+/// What is there is replaced whole and not written to, and a name may be relative.
+#[test]
+fn installing_again_replaces_files_whole() {
+    let copy = Repository::new("echo figure 1");
+    let here = copy.path(".").canonicalize().expect("a folder");
+    let install = |prefix: &str| Ended::of(copy.command("install").arg(prefix).current_dir(&here));
+    for name in ["-P/x y", "plain", "slash/"] {
+        let prefix = here.join(name.trim_end_matches('/'));
+        expect_installed(&install(name), &prefix);
+        for (file, _) in INSTALLED {
+            fs::remove_file(prefix.join(file)).expect("removed");
+            symlink(copy.path("precious"), prefix.join(file)).expect("linked");
+        }
+        put(&copy.path("precious"), "precious");
+        expect_installed(&install(name), &prefix);
+        let precious = fs::read(copy.path("precious")).expect("read");
+        assert_eq!(precious, b"precious");
+        fs::remove_dir_all(prefix.join("include")).expect("removed");
+        fs::create_dir_all(prefix.join("include/volefleece.h")).expect("made");
+        let told = install(name);
+        assert_eq!(told.status, Some(2));
+        assert!(told.error.contains("volefleece.h is a folder"));
+    }
+    for name in ["a\nb", "a\"b", "a$b", "a\\b", "a#b"] {
+        install(name).expect_message("a file for pkg-config cannot name this folder");
+    }
+    install("precious").expect_message("cannot be made");
+}
+
+#[test]
+fn destdir_is_no_part_of_the_prefix() {
+    let copy = Repository::new("echo figure 1");
+    let mut install = copy.command("install");
+    let ended = Ended::of(install.arg("/usr").env("DESTDIR", copy.path("dest")));
+    expect_installed(&ended, &copy.path("dest/usr"));
+    let named = fs::read_to_string(copy.path("dest/usr/lib/pkgconfig/volefleece.pc"));
+    assert!(named.expect("read").starts_with("prefix=/usr\n"));
+}
+
+/// The value of a variable or a field of a file for pkg-config.
+fn field(text: &str, start: &str) -> String {
+    let mut lines = text.lines();
+    let value = lines.find_map(|line| line.strip_prefix(start));
+    value
+        .unwrap_or_else(|| panic!("{start} in {text}"))
+        .to_string()
+}
+
+#[test]
+fn pkg_config_finds_the_library() {
+    let room = room();
+    let prefix = room.path("with space");
+    expect_installed(&run("install", &room, &[&prefix]), &prefix);
+    let folder = prefix.join("lib/pkgconfig");
+    let text = fs::read_to_string(folder.join("volefleece.pc")).expect("read");
+    assert_eq!(field(&text, "prefix="), prefix.display().to_string());
+    assert_eq!(field(&text, "includedir="), "${prefix}/include");
+    assert_eq!(field(&text, "libdir="), "${prefix}/lib");
+    assert_eq!(field(&text, "Name: "), "volefleece");
+    assert_eq!(field(&text, "Version: ").split('.').count(), 3);
+    assert_eq!(field(&text, "Cflags: "), "-I\"${includedir}\"");
+    assert_eq!(field(&text, "Libs: "), "-L\"${libdir}\" -lvolefleece");
+
+    let Some(tool) = find("pkg-config") else {
+        return;
+    };
+    let mut asked = command(tool);
+    asked.args(["--cflags", "--libs", "volefleece"]);
+    let flags = Ended::of(asked.env("PKG_CONFIG_PATH", &folder)).output;
+    room.write(
+        "main.c",
+        b"#include <volefleece.h>\nint main(void) { return (int)vf_check(0, 0).refused; }\n",
+    );
+    let compile = format!("exec cc main.c -o main {flags}");
+    let compiled = Ended::of(
+        command("sh")
+            .args(["-c", &compile])
+            .current_dir(room.path(".")),
+    );
+    assert_eq!(compiled.status, Some(0), "{compiled:?}");
+    let ran = Ended::of(&mut command(room.path("main")));
+    assert_eq!(ran.status, Some(1));
+}
