@@ -154,10 +154,15 @@ fn claims_lists_what_the_other_calls_cite() {
 }
 
 #[test]
-fn claims_adds_the_lines_up() {
-    let sum: usize = listed("### For the three demands\n").values().sum();
+fn claims_and_readme_add_the_lines_up() {
+    let files = listed("### For the three demands\n");
+    let sum: usize = files.values().sum();
     let said = format!("{sum} lines in all");
     assert!(read("docs/CLAIMS.md").contains(&said), "{said}");
+    let said = format!("{sum} lines in {} files", files.len());
+    let readme = read("README.md");
+    let words: Vec<_> = readme.split_whitespace().collect();
+    assert!(words.join(" ").contains(&said), "{said}");
 }
 
 /// The files of definitions of every crate, below crates/; `Lib` and `Laws` list modules, and `Nodes` gathers declared names.
