@@ -1,0 +1,4 @@
+-- Definitions.
+pub mod Texts
+-- What is proved of them.
+pub mod Laws
