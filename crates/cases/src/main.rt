@@ -1,25 +1,37 @@
 // Runs document 01's cases that are not starred, L, M and N, and prints what the library answers. data/ holds their tables; an absent one is empty.
-use libc::STDOUT_FILENO;
 use quoting::Checked;
 use quoting::HOW_MANY_VALUES;
 use quoting::Quote;
 use table::MOST_RECORDS;
 use table::RECORD_LENGTH;
+ghost use Prim.Native.Nat.{_+_, _≤_};
+ghost use lib.ListN.{length};
+ghost use Rattle.text.specs.Texts.{mostDigits};
 
 // One record more than a table may have.
 const ROOM: usize = RECORD_LENGTH * (MOST_RECORDS + 1);
 
-fn say(name: &[u8], word: &[u8], number: u64) {
-    io::write_all(STDOUT_FILENO, name);
-    io::write_all(STDOUT_FILENO, word);
-    io::print_decimal(STDOUT_FILENO, number);
-    io::write_all(STDOUT_FILENO, b"\n");
+// The longest name, word and number, with the line's end.
+const LONGEST_LINE: usize = 64;
+
+fn say(name: &[u8], word: &[u8], number: u64)
+    requires { ⌜ length (now name) + length (now word) + mostDigits + 1 ≤ 64 ⌝ }
+{
+    let mut line = [0u8; LONGEST_LINE];
+    let named = text::put_word(&mut line, 0, name);
+    let n = text::put_line(&mut line, named, word, number);
+    text::say(&line[..n]);
 }
 
 // The figure of a case's table, with every symbol 0.
-fn quote(path: &[u8]) {
+fn quote(path: &[u8])
+    requires { ⌜ length (now path) ≤ 32 ⌝ }
+{
     let mut table = [0u8; ROOM];
     let file = files::load(path, &mut table);
+    if !file.readable {
+        return;
+    }
     let len = file.len;
     let answer = quoting::figure(&table[..len], &[0; HOW_MANY_VALUES]);
     match answer {
@@ -28,9 +40,14 @@ fn quote(path: &[u8]) {
     }
 }
 
-fn check(path: &[u8]) {
+fn check(path: &[u8])
+    requires { ⌜ length (now path) ≤ 32 ⌝ }
+{
     let mut table = [0u8; ROOM];
     let file = files::load(path, &mut table);
+    if !file.readable {
+        return;
+    }
     let len = file.len;
     let answer = quoting::check(&table[..len]);
     match answer {

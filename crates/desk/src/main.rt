@@ -1,16 +1,9 @@
 // The desk program: quotes tree.tab with values.tab, both in the folder that it runs in, on one line.
 use deskfiles::VALUE_LENGTH;
-use libc::STDOUT_FILENO;
 use quoting::HOW_MANY_VALUES;
 use quoting::Quote;
 use table::MOST_RECORDS;
 use table::RECORD_LENGTH;
-
-fn say(word: &[u8], number: u64) {
-    io::write_all(STDOUT_FILENO, word);
-    io::print_decimal(STDOUT_FILENO, number);
-    io::write_all(STDOUT_FILENO, b"\n");
-}
 
 fn main() {
     // Each buffer is longer than the longest file that is accepted, so that a longer file shows.
@@ -28,7 +21,7 @@ fn main() {
     let values_len = v.len;
     let quote = deskfiles::quote_files(&tree[..tree_len], &values[..values_len]);
     match quote {
-        Quote::Figure(figure) => say(b"figure ", figure),
-        Quote::Refused(number) => say(b"refused ", number),
+        Quote::Figure(figure) => text::say_number(b"figure ", figure),
+        Quote::Refused(number) => text::say_number(b"refused ", number),
     }
 }
