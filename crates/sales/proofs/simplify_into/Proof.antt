@@ -1,5 +1,5 @@
 use borrow.Author.Needs.{needs}
-use Rattle.sales.specs.Buffers.{within-counts, answer-within}
+use Rattle.sales.specs.Laws.Buffers.{within-counts, answer-within}
 use Rattle.sales.proofs.simplify_into.Statement.{statement}
 use Rattle.sales.proofs.simplify_into.Tie as tie
 

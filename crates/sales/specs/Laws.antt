@@ -1,0 +1,2 @@
+-- Laws of the definitions of the same name.
+pub mod Buffers
