@@ -1,15 +1,20 @@
 // The sales desk's program: simplifies tree.tab to simple.tab, both in the folder that it runs in, and says so on one line. Its one argument is the allowance of steps; without it there is none.
 use arguments::Allowance;
 use libc::STDERR_FILENO;
-use libc::STDOUT_FILENO;
 use simplifying::Ending;
 use simplifying::Simplified;
 use table::MOST_RECORDS;
 use table::RECORD_LENGTH;
+ghost use Prim.Native.Nat.{_+_, _≤_};
+ghost use lib.ListN.{length, take};
 ghost use Rattle.io.specs.Counts.{Counts};
+ghost use Rattle.sales.specs.Lines.{Line};
 
 // One record more than a table may have, so that a longer file shows.
 const ROOM: usize = RECORD_LENGTH * (MOST_RECORDS + 1);
+
+// The file that is written.
+const SIMPLE: [u8; 10] = *b"simple.tab";
 
 // Linux passes no longer argument.
 const LONGEST_ARGUMENT: usize = 131_072;
@@ -28,36 +33,47 @@ fn allowance() -> Allowance {
     arguments::allowance_of(&argument[..len])
 }
 
-fn put(text: &[u8]) {
-    io::write_all(STDOUT_FILENO, text);
+// The bytes before a line's ending are at most 58: two words of 11 and 7, and two numbers of 20 digits. The longest ending has 10.
+const LONGEST_LINE: usize = 68;
+
+// Puts the line of a written table into the buffer; answers its length.
+fn put_line(line: &mut [u8], len: u64, steps: u64, ending: &[u8]) -> usize
+    requires { ⌜ 58 + length (now ending) ≤ length (now line) ⌝ }
+    ensures { λ r. ⌜ Counts r (now (line .exit)) ⌝ }
+    ensures { λ r. ⌜ Line len steps (now (ending .entry)) (take r (now (line .exit))) ⌝ }
+{
+    let at = text::put_word(line, 0, b"simplified ");
+    let at = text::put_number(line, at, len);
+    let at = text::put_word(line, at, b" steps ");
+    let at = text::put_number(line, at, steps);
+    text::put_word(line, at, ending)
 }
 
-fn say(word: &[u8], number: u64) {
-    put(word);
-    io::print_decimal(STDOUT_FILENO, number);
-}
-
-fn say_ending(ending: Ending) {
-    match ending {
-        Ending::Finished => put(b" finished\n"),
-        Ending::Spent => put(b" spent\n"),
-    }
+fn say(len: u64, steps: u64, ending: &[u8])
+    requires { ⌜ length (now ending) ≤ 10 ⌝ }
+{
+    let mut line = [0u8; LONGEST_LINE];
+    let n = put_line(&mut line, len, steps, ending);
+    text::say(&line[..n]);
 }
 
 // Saves the front of the buffer, and says so once it is saved.
 fn deliver(simple: &[u8], len: usize, steps: u64, ending: Ending)
     requires { ⌜ Counts len (now simple) ⌝ }
 {
-    if files::save(b"simple.tab", &simple[..len]) {
-        say(b"simplified ", len as u64);
-        say(b" steps ", steps);
-        say_ending(ending);
+    if files::save(&SIMPLE, &simple[..len]) {
+        match ending {
+            Ending::Finished => say(len as u64, steps, b" finished\n"),
+            Ending::Spent => say(len as u64, steps, b" spent\n"),
+        }
     }
 }
 
+// Removes an older simple.tab, which is not this tree's, and says so once it is gone: a sister house would quote from it.
 fn refuse(number: u64) {
-    say(b"refused ", number);
-    put(b"\n");
+    if files::remove(&SIMPLE) {
+        text::say_number(b"refused ", number);
+    }
 }
 
 // Simplifies the tree into the lent buffer, and delivers what was written there.
