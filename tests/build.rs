@@ -1,9 +1,14 @@
-//! Links `libvolefleece.a`, from `../target/staticlib` or from the folder in `VOLEFLEECE_LIB_DIR`.
+//! Links `libvolefleece.a`, from `../target/staticlib` or from the folder in `VOLEFLEECE_LIB_DIR`, and builds the library
+//! that tests load into the programs.
 
 use std::env;
 use std::path::PathBuf;
+use std::process::Command;
 
 const LIB_DIR: &str = "VOLEFLEECE_LIB_DIR";
+
+/// What the programs' calls of the C library go through where a test wants one to fail.
+const CALLS: &str = "preload/calls.rs";
 
 fn main() {
     let dir = lib_dir();
@@ -17,14 +22,35 @@ fn main() {
     );
     println!("cargo:rustc-link-search=native={}", dir.display());
     println!("cargo:rustc-link-lib=static=volefleece");
+    build_calls();
+}
+
+fn build_calls() {
+    let library = set_by_cargo("OUT_DIR").join("libcalls.so");
+    let status = Command::new(set_by_cargo("RUSTC"))
+        .args([
+            "--edition",
+            "2021",
+            "--crate-type",
+            "cdylib",
+            "-O",
+            CALLS,
+            "-o",
+        ])
+        .arg(&library)
+        .status();
+    assert!(status.is_ok_and(|status| status.success()), "rustc {CALLS}");
+    println!("cargo:rerun-if-changed={CALLS}");
+    println!("cargo:rustc-env=VOLEFLEECE_CALLS={}", library.display());
 }
 
 fn lib_dir() -> PathBuf {
     match env::var_os(LIB_DIR) {
         Some(dir) => PathBuf::from(dir),
-        None => {
-            let package = env::var_os("CARGO_MANIFEST_DIR").expect("cargo sets this");
-            PathBuf::from(package).join("../target/staticlib")
-        }
+        None => set_by_cargo("CARGO_MANIFEST_DIR").join("../target/staticlib"),
     }
+}
+
+fn set_by_cargo(variable: &str) -> PathBuf {
+    PathBuf::from(env::var_os(variable).expect("cargo sets this"))
 }

@@ -55,32 +55,90 @@ impl Folder {
         path.is_file().then(|| fs::read(path).expect("read"))
     }
 
+    /// The names of what is in the folder, in order.
+    pub fn names(&self) -> Vec<String> {
+        let entries = fs::read_dir(&self.path).expect("a folder");
+        let names = entries.map(|entry| entry.expect("an entry").file_name());
+        let mut names: Vec<String> = names
+            .map(|name| name.into_string().expect("text"))
+            .collect();
+        names.sort();
+        names
+    }
+
+    /// The program, to be started in the folder.
+    pub fn command(&self) -> Command {
+        self.started(&self.program)
+    }
+
+    /// The program, to be started by a shell after this, as `umask 27;`, and with this behind it, as `>&-`.
+    pub fn command_in_shell(&self, before: &str, behind: &str) -> Command {
+        let mut command = self.started("sh".as_ref());
+        let script = format!("{before} exec \"$0\" \"$@\" {behind}");
+        command.arg("-c").arg(script).arg(&self.program);
+        command
+    }
+
+    /// The program, one of whose calls fails, as `preload/calls.rs` has it.
+    pub fn command_failing(&self, call: &str) -> Command {
+        let mut command = self.preloaded();
+        command.env("CALLS_FAIL", call);
+        command
+    }
+
+    /// The program, none of whose calls moves more bytes.
+    pub fn command_moving(&self, most: usize) -> Command {
+        let mut command = self.preloaded();
+        command.env("CALLS_MOST", most.to_string());
+        command
+    }
+
+    fn preloaded(&self) -> Command {
+        let mut command = self.command();
+        command.env("LD_PRELOAD", env!("VOLEFLEECE_CALLS"));
+        command
+    }
+
+    fn started(&self, program: &Path) -> Command {
+        let mut command = Command::new(program);
+        command.current_dir(&self.path).stdin(Stdio::null());
+        command
+    }
+
     pub fn run<A: AsRef<OsStr>>(&self, arguments: &[A]) -> Written {
-        let output = Command::new(&self.program)
-            .args(arguments)
-            .current_dir(&self.path)
-            .stdin(Stdio::null())
-            .output()
-            .expect("the program starts");
-        assert!(output.status.success(), "{}", output.status);
-        let text = |bytes| String::from_utf8(bytes).expect("text");
-        Written {
-            output: text(output.stdout),
-            error: text(output.stderr),
-        }
+        written(self.command().args(arguments))
     }
 
     /// It says why it does nothing, on standard error alone.
     #[track_caller]
     pub fn expect_complaint<A: AsRef<OsStr>>(&self, arguments: &[A], start: &str) {
-        let written = self.run(arguments);
-        assert_eq!(written.output, "");
-        assert!(
-            written.error.starts_with(start) && written.error.ends_with('\n'),
-            "{}",
-            written.error
-        );
+        complains(self.command().args(arguments), start);
     }
+}
+
+/// Runs it to its end.
+#[track_caller]
+pub fn written(command: &mut Command) -> Written {
+    let output = command.output().expect("the program starts");
+    assert!(output.status.success(), "{}", output.status);
+    let text = |bytes| String::from_utf8(bytes).expect("text");
+    Written {
+        output: text(output.stdout),
+        error: text(output.stderr),
+    }
+}
+
+/// It writes one message, which starts so, on standard error, and nothing to standard output.
+#[track_caller]
+pub fn complains(command: &mut Command, start: &str) {
+    let written = written(command);
+    assert_eq!(written.output, "");
+    assert!(
+        written.error.starts_with(start) && written.error.ends_with('\n'),
+        "{start:?}, {:?}",
+        written.error
+    );
+    assert_eq!(written.error.lines().count(), 1, "{:?}", written.error);
 }
 
 impl Drop for Folder {

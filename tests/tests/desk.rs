@@ -5,7 +5,9 @@ use volefleece_tests::cases::{self, cases};
 use volefleece_tests::compare::shown;
 use volefleece_tests::evaluator;
 use volefleece_tests::faults;
-use volefleece_tests::programs::{sample, values_file, Folder, NONE, TREE, VALUES};
+use volefleece_tests::programs::{
+    complains, sample, values_file, written, Folder, NONE, TREE, VALUES,
+};
 use volefleece_tests::reader;
 use volefleece_tests::rng::Rng;
 use volefleece_tests::tables::*;
@@ -185,6 +187,27 @@ fn values_that_cannot_be_read_are_told() {
     let folder = Folder::new(DESK);
     folder.put_folder(VALUES);
     folder.expect_complaint(&NONE, "values.tab: ");
+}
+
+/// A read that fails at the start, or at the file's end, whatever the next one would give.
+#[test]
+fn a_failed_read_is_told() {
+    let folder = with_files(&block(7), &[0; 256]);
+    for (call, file) in [(1, TREE), (2, TREE), (3, VALUES), (4, VALUES)] {
+        let mut command = folder.command_failing(&format!("read {call} 5"));
+        complains(&mut command, &format!("{file}: "));
+    }
+}
+
+#[test]
+fn files_may_come_in_parts() {
+    let (tree, values) = (sample("house", TREE), sample("house", VALUES));
+    let folder = with_files(&tree, &values);
+    for most in [1, 7, 100] {
+        let written = written(&mut folder.command_moving(most));
+        assert_eq!(written.error, "");
+        assert_eq!(written.output, "figure 210910\n");
+    }
 }
 
 // Absent values.

@@ -28,13 +28,12 @@ fn with_tree(table: &[u8]) -> Folder {
 #[track_caller]
 fn expect<A: AsRef<OsStr>>(folder: &Folder, arguments: &[A], allowance: u64) {
     let tree = folder.read(TREE);
-    let before = folder.read(SIMPLE);
     let table = tree.clone().unwrap_or_default();
     let answer = simplify(&table, allowance, table.len());
     let written = folder.run(arguments);
     assert_eq!(written.error, "", "{}", shown(&table));
     assert_eq!(written.output, line(&answer), "{}", shown(&table));
-    let simple = answer.map_or(before, |made| Some(made.bytes));
+    let simple = answer.ok().map(|made| made.bytes);
     assert_eq!(folder.read(SIMPLE), simple, "{}", shown(&table));
     assert_eq!(folder.read(TREE), tree);
 }
@@ -174,19 +173,6 @@ fn a_tree_that_cannot_be_read_is_told() {
 }
 
 #[test]
-fn a_simple_tree_that_cannot_be_written_is_told() {
-    let folder = with_tree(&five_steps());
-    folder.put_folder(SIMPLE);
-    folder.expect_complaint(&NONE, "simple.tab: ");
-
-    for place in ["/dev/full", "missing/simple.tab"] {
-        let folder = with_tree(&five_steps());
-        symlink(place, folder.path(SIMPLE)).expect("a new link");
-        folder.expect_complaint(&NONE, "simple.tab: ");
-    }
-}
-
-#[test]
 fn a_simple_tree_takes_the_place_of_an_old_one() {
     for length in [0, 1, 16, 48, 100_000] {
         let folder = with_tree(&five_steps());
@@ -208,7 +194,7 @@ fn the_tree_may_be_the_simple_tree() {
 
 // Refusals.
 
-/// It is refused so, with every allowance, and no file is written.
+/// It is refused so, with every allowance, and there is no simple tree then.
 #[track_caller]
 fn refused(question: u64, table: &[u8]) {
     assert_eq!(simplify(table, 0, table.len()), Err(question));
@@ -221,13 +207,13 @@ fn refused(question: u64, table: &[u8]) {
             let written = folder.run(arguments);
             assert_eq!(written.output, format!("refused {question}\n"));
             assert_eq!(written.error, "");
-            assert_eq!(folder.read(SIMPLE).as_deref(), old);
+            assert_eq!(folder.names(), [TREE]);
         }
     }
 }
 
 #[test]
-fn refusals_write_no_file() {
+fn refusals_leave_no_file() {
     refused(1, &[]);
     refused(1, &block(7)[..15]);
     refused(1, &[&block(7)[..], &[0]].concat());
