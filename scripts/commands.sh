@@ -2,7 +2,6 @@
 # sets `programs`, the folder of the programs.
 newline='
 '
-unset CDPATH
 # A program without standard error would take the first file that it opens for it.
 true >&2 || exec 2>/dev/null
 

@@ -293,18 +293,14 @@ fn the_line_is_one_write() {
     }
 }
 
-/// Without standard input and standard error a program opens its files as usual.
+/// A program would open its files as the descriptors that it does not have.
 #[test]
-fn other_descriptors_may_be_closed() {
-    let room = room();
-    put_house(&room.path("h"), 7);
+fn a_program_has_its_descriptors() {
+    let copy = Repository::new("[ -e /proc/self/fd/0 ] && [ -e /proc/self/fd/2 ] && echo figure 1");
+    put_script(&copy.path("closed"), "exec \"$@\" <&- 2>&-");
     for shell in shells() {
-        for (name, line) in [
-            ("quote", "figure 7"),
-            ("simplify", "simplified 16 steps 0 finished"),
-        ] {
-            Ended::of(&mut by_closed(&shell, name, &room, "<&- 2>&-")).expect(0, line);
-        }
+        let mut closed = copy.command("closed");
+        Ended::of(closed.arg(shell).arg(copy.path("quote"))).expect(0, "figure 1");
     }
 }
 
@@ -323,12 +319,10 @@ fn a_program_that_does_not_answer_is_told() {
     ] {
         let copy = Repository::new(program);
         for name in ["quote", "simplify"] {
-            let message = copy.run(name).error;
-            assert_eq!(
-                message.lines().last().map(|line| line.starts_with(name)),
-                Some(true)
-            );
-            copy.run(name).expect_message("");
+            let ended = copy.run(name);
+            ended.expect_message("");
+            let last = ended.error.lines().last().expect("a message");
+            assert!(last.starts_with(&format!("{name}: ")), "{last}");
         }
     }
     let copy = Repository::new("echo 'tree.tab: why' >&2");
@@ -453,8 +447,19 @@ fn commands_build_one_at_a_time() {
     });
     let mut calls = copy.calls();
     calls.sort();
-    calls.dedup();
     assert_eq!(calls, ["check desk", "check sales"]);
+}
+
+/// Each has the copy of the sample to itself.
+#[test]
+fn the_sample_is_simplified_by_one_at_a_time() {
+    let copy = Repository::new("sleep 0.1; [ -e tree.tab ] && echo figure 1");
+    copy.run("simplify").expect(0, "figure 1");
+    thread::scope(|threads| {
+        for _ in 0..4 {
+            threads.spawn(|| copy.run("simplify").expect(0, "figure 1"));
+        }
+    });
 }
 
 // The gate.
@@ -634,11 +639,15 @@ fn installing_again_replaces_files_whole() {
 #[test]
 fn destdir_is_no_part_of_the_prefix() {
     let copy = Repository::new("echo figure 1");
+    let (prefix, destination) = (copy.path("prefix"), copy.path("destination"));
     let mut install = copy.command("install");
-    let ended = Ended::of(install.arg("/usr").env("DESTDIR", copy.path("dest")));
-    expect_installed(&ended, &copy.path("dest/usr"));
-    let named = fs::read_to_string(copy.path("dest/usr/lib/pkgconfig/volefleece.pc"));
-    assert!(named.expect("read").starts_with("prefix=/usr\n"));
+    let ended = Ended::of(install.arg(&prefix).env("DESTDIR", &destination));
+    let below = prefix.strip_prefix("/").expect("a whole path");
+    let place = destination.join(below);
+    expect_installed(&ended, &place);
+    assert!(!prefix.exists());
+    let text = fs::read_to_string(place.join("lib/pkgconfig/volefleece.pc")).expect("read");
+    assert_eq!(field(&text, "prefix="), prefix.display().to_string());
 }
 
 /// The value of a variable or a field of a file for pkg-config.
