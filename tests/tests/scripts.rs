@@ -238,6 +238,16 @@ fn folders_of_any_name() {
     run("quote", &room, &[path]).expect(0, "figure 2");
 }
 
+/// As to any program, not as to a shell's `cd`.
+#[test]
+fn a_path_through_a_link_leads_on_from_its_target() {
+    let room = room();
+    put_house(&room.path("other"), 3);
+    fs::create_dir(room.path("other/inner")).expect("made");
+    symlink("other/inner", room.path("link")).expect("linked");
+    run("quote", &room, &["link/.."]).expect(0, "figure 3");
+}
+
 #[test]
 fn a_folder_that_is_not_there_is_told() {
     let room = room();
