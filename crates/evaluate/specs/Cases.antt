@@ -1,5 +1,5 @@
--- Trees of document 01's cases C to I, and admitted runs of them. Each costs the figure, except that case I's figure is 66: Laws/CaseI shows that 46 is the
--- most that is admitted there. No tree here has a symbol, so all of it holds at all values.
+-- Trees of document 01's cases C, D, E, F, H and I, and admitted runs of them. Each costs the figure, except that case I's figure is 66: Laws/CaseI shows that
+-- 46 is the most that is admitted there. Two more trees show what these cases do not. No tree here has a symbol, so all of it holds at all values.
 use mathlib.Core.Path.{refl}
 use mathlib.Core.List.{List, [], _∷_, map}
 use mathlib.Core.Logic.{_⊎_, inl, inr}
@@ -43,9 +43,13 @@ limitedZero = either (block 0 / 1 at 1) (block 4)
 unfoldable pub limitedExit : Tree
 limitedExit = loop 2 (loop 1 (block 0) (block 10 / 1 at 1)) (block 0)
 
+-- no case of document 01: a limited loop, and a limit on the whole run
+unfoldable pub limitedLoop : Tree
+limitedLoop = loop 2 (loop 3 (block 5) (block 0) / 1 at 1) (block 4 / 1 at 255)
+
 -- to unfold this is to unfold all that the trees, and a run's test and cost, compute with
 unfoldable pub computed : ℕ
-unfolding caseC caseE term caseH caseI limitedZero limitedExit block _/_at_ sequence both either loop _and_ rest amount outward out seenLimit limitAt count total cost keepsLimit keepsHere everyNode every admits isRun
+unfolding caseC caseE term caseH caseI limitedZero limitedExit limitedLoop block _/_at_ sequence both either loop _and_ rest amount outward out seenLimit limitAt count total cost keepsLimit keepsHere everyNode every admits isRun
 computed = 0
 
 -- ---- their passes
@@ -118,6 +122,11 @@ module _ (v : Values) where
   run-I =
       let none = innerI (second ∷ second ∷ second ∷ []) in
       run-costs v (caseI limitedZero) (goingRound (innerI (first ∷ second ∷ second ∷ []) ∷ none ∷ none ∷ [])) 46 tt refl
+
+  -- 5 three times and 4: the outer loop goes round less often than its bound, and three rounds of the inner loop are one pass of it
+  pub run-limitedLoop : Costs v limitedLoop 19
+  unfolding computed
+  run-limitedLoop = run-costs v limitedLoop (goingRound (goingRound (tt ∷ tt ∷ tt ∷ []) ∷ [])) 19 tt refl
 
   -- the outer loop's pass may not pass the limited exit twice
   pub exit-outside : Run v limitedExit exitTwice → ⊥

@@ -6,6 +6,7 @@ pub mod Runs
 pub mod ListPairs
 pub mod Evaluator
 pub mod Shown
--- Examples, and what is proved of them.
+-- Examples of these definitions.
 pub mod Cases
+-- What is proved of the definitions.
 pub mod Laws
