@@ -6,7 +6,7 @@
 #include <stdint.h>
 
 /* Each pointer lends as many elements as the length after it says, and out overlaps nothing else that is lent. A call wants less
-   than 1 MiB of stack. */
+   than 192 KiB of stack, as measured. */
 
 /* What each call answers is proved of these structs' numbers: its contract is in crates/volefleece/src/lib.rt. Demand 3 is the contract
    of vf_both_desks there, which is not exported: it is about the numbers of four calls, vf_check and vf_simplify of a table, vf_figure

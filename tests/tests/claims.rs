@@ -214,6 +214,24 @@ fn claims_names_every_other_definition() {
 }
 
 #[test]
+fn claims_names_every_edit_that_must_fail() {
+    let claims = words(&read("docs/CLAIMS.md"));
+    for entry in fs::read_dir(project().join("crates")).expect("crates") {
+        let Ok(edits) = fs::read_dir(entry.expect("a crate").path().join("must-fail")) else {
+            continue;
+        };
+        for edit in edits {
+            let path = edit.expect("an edit").path();
+            let label = path
+                .file_stem()
+                .and_then(|stem| stem.to_str())
+                .expect("a name");
+            assert!(claims.contains(label), "{}", path.display());
+        }
+    }
+}
+
+#[test]
 fn no_definition_to_believe_leans_on_a_law() {
     let files = cited(&DEMANDS).into_iter().chain(cited(&OTHERS));
     let laws: Vec<_> = files.filter(|file| file.contains("/Laws/")).collect();

@@ -290,7 +290,7 @@ pub fn cap_in(ps: &mut Numbers, len: usize, m: u64) -> usize
     cap_from(ps, len, m)
 }
 
-// The same for any m, pair by pair.
+// The same for any m, pair by pair. For 0 it would write the zero list too, but that is the list type's constant.
 fn cap_from(ps: &mut Numbers, len: usize, m: u64) -> usize
     requires { ⌜ Cappable (listIn (now ps) len) ⌝ }
     ensures { λ r. ⌜ Is (listIn (now (ps .exit)) r) (capPairs m (pairsOf (listIn (now (ps .entry)) len))) ⌝ }

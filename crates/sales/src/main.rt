@@ -1,4 +1,4 @@
-// The sales desk's program: simplifies tree.tab to simple.tab, both in the folder that it runs in, and says so on one line. Its one argument is the allowance of steps; without it there is none.
+// The sales desk's program: simplifies tree.tab to simple.tab, both in the folder that it runs in, and says so on one line. Its one argument is the allowance of steps; without it there is no end to them.
 use arguments::Allowance;
 use libc::STDERR_FILENO;
 use simplifying::Ending;

@@ -8,6 +8,10 @@ use Rattle.io.specs.Digits.{digits, Fewest}
 abbrev pub mostDigits : ℕ
 mostDigits = 20
 
+-- as LONGEST_LINE
+abbrev pub longestLine : ℕ
+longestLine = 64
+
 -- a text and then a number's decimal digits, as few as hold it
 pub record Numbered (before : List ℕ) (n : ℕ) (text : List ℕ) : Type 0 where
   pub places : ℕ

@@ -4,7 +4,7 @@ ghost use mathlib.Core.List.{_++_};
 ghost use Prim.Native.Nat.{_+_, _≤_};
 ghost use lib.ListN.{length, take};
 ghost use Rattle.io.specs.Counts.{Counts};
-ghost use Rattle.text.specs.Texts.{Line, Numbered, mostDigits};
+ghost use Rattle.text.specs.Texts.{Line, Numbered, longestLine, mostDigits};
 use libc::STDOUT_FILENO;
 
 // The most digits that a number has.
@@ -52,11 +52,14 @@ pub fn say(line: &[u8]) {
     }
 }
 
+// Room for any line of a word and a number that the programs say.
+const LONGEST_LINE: usize = 64;
+
 // Says a line of a word and a number.
 pub fn say_number(word: &[u8], number: u64)
-    requires { ⌜ length (now word) + mostDigits + 1 ≤ 64 ⌝ }
+    requires { ⌜ length (now word) + mostDigits + 1 ≤ longestLine ⌝ }
 {
-    let mut line = [0u8; 64];
+    let mut line = [0u8; LONGEST_LINE];
     let n = put_line(&mut line, 0, word, number);
     say(&line[..n]);
 }
