@@ -8,9 +8,10 @@
 /* Each pointer lends as many elements as the length after it says, and out overlaps nothing else that is lent. A call wants less
    than 192 KiB of stack, as measured. */
 
-/* What each call answers is proved of these structs' numbers: its contract is in crates/volefleece/src/lib.rt. Demand 3 is the contract
-   of vf_both_desks there, which is not exported: it is about the numbers of four calls, vf_check and vf_simplify of a table, vf_figure
-   lent that table, and vf_figure lent what vf_simplify wrote, in the length that it answered, both unchanged since. */
+/* What each call answers is proved of these structs' numbers: its contract is in crates/volefleece/src/lib.rt. What
+   holds of the calls together, so that a simplified table gives the figure of the original, is the contract of vf_both_desks there,
+   which is not exported. It is about the numbers of four calls: vf_check and vf_simplify of a table, vf_figure lent that table, and
+   vf_figure lent what vf_simplify wrote, in the length that it answered, both unchanged since. */
 
 #ifdef __cplusplus
 extern "C" {
@@ -40,9 +41,9 @@ typedef struct {
     uint64_t pairs;   /* how many pairs were written, 0 if it is refused */
 } vf_list_answer;
 
-/* Puts questions 1 to 10 and writes the list of a table's tree over the front of out, which holds at least 512 numbers: pairs of
-   value and count, values strictly falling, the last count 0 meaning for ever. Nothing of out past them changes, and nothing at
-   all on a refusal. */
+/* Puts questions 1 to 10 and writes the list of a table's tree over the front of out, which holds at least 512 numbers: a value
+   and how often it comes, pair by pair from the largest value down, where 0 says for ever and stands in the last pair alone.
+   Nothing of out past them changes, and nothing at all on a refusal. */
 vf_list_answer vf_list(const uint8_t *table, size_t table_len, const uint64_t *values, size_t values_len, uint64_t *out,
                        size_t out_len);
 

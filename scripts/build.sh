@@ -14,7 +14,8 @@ unlock() {
 
 # The checksum of all that `rt` builds from.
 sources() {
-    (cd "$root" && find KIT crates.txt crates -type f -exec sha256sum {} + | LC_ALL=C sort | sha256sum)
+    listed=$(cd "$root" && find KIT crates.txt crates -type f -exec sha256sum {} +) || return
+    printf '%s\n' "$listed" | LC_ALL=C sort | sha256sum
 }
 
 # What FILE.built has where FILE was built from those sources and is still what was built: state SOURCES FILE
@@ -23,7 +24,8 @@ state() {
 }
 
 is_built() {
-    [ -f "$1" ] && [ -f "$1.built" ] && [ "$(cat "$1.built")" = "$(state "$(sources)" "$1")" ]
+    from=$(sources) || fail 'the sources cannot be read'
+    [ -f "$1" ] && [ -f "$1.built" ] && [ "$(cat "$1.built")" = "$(state "$from" "$1")" ]
 }
 
 # Has `rt` build a file unless it is built from what is there now: build FILE WORD...
@@ -34,7 +36,14 @@ build() {
     command -v rt >/dev/null || fail "$file is not built from these sources, and to build it the kit's rt must be on PATH"
     lock
     if ! is_built "$file"; then
-        from=$(sources)
+        # What was built from these sources and is another file now `rt` would still take for built, by its stamp.
+        case $(cat "$file.built" 2>/dev/null) in
+        "$from "*)
+            # the last word
+            for crate; do :; done
+            rm -f "$file" "$root/target/stamp/$crate"
+            ;;
+        esac
         rm -f "$file.built"
         (cd "$root" && exec rt "$@") >&2 || fail "rt $* failed"
         [ -f "$file" ] || fail "rt takes $file for built, and it is missing: remove the folder target and try again"

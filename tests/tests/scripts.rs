@@ -280,6 +280,18 @@ fn a_line_that_cannot_be_written_is_told() {
     }
 }
 
+/// Also where nobody reads the message.
+#[test]
+fn a_message_that_cannot_be_written_ends_with_2() {
+    let room = room();
+    for shell in shells() {
+        let (reader, writer) = io::pipe().expect("a pipe");
+        drop(reader);
+        let mut command = by(&shell, "quote", &room, OsStr::new("missing"));
+        Ended::of(command.stderr(writer)).expect_message("");
+    }
+}
+
 /// A socket keeps what each write wrote apart.
 #[test]
 fn the_line_is_one_write() {
@@ -477,7 +489,11 @@ fn the_sample_is_simplified_by_one_at_a_time() {
 #[test]
 fn the_gate_ends_with_the_count() {
     let copy = Repository::new("echo figure 1");
-    let ended = copy.run("test");
+    let mut test = copy.command("test");
+    for name in ["LIB_DIR", "DESK", "SALES"] {
+        test.env(format!("VOLEFLEECE_{name}"), "elsewhere");
+    }
+    let ended = Ended::of(&mut test);
     assert_eq!(ended.status, Some(0), "{ended:?}");
     assert_eq!(ended.output, "proved\ntests ran\n3 passed, 0 failed\n");
     assert_eq!(
@@ -500,17 +516,33 @@ fn the_gate_keeps_the_count_back() {
     assert_ne!(ended.status, Some(0));
     assert_eq!(ended.output, "proved\n");
 
-    put(&copy.path("ci"), "proved\n2 passed, 1 failed\n");
-    let ended = copy.run("test");
-    assert_eq!(ended.status, Some(1));
-    assert!(ended
-        .output
-        .ends_with("2 passed, 1 failed\nrt ci failed (exit 1)\n"));
+    for (count, ends) in [("2 passed, 1 failed", "0"), ("3 passed, 0 failed", "1")] {
+        let copy = Repository::new("echo figure 1");
+        put(&copy.path("ci"), &format!("proved\n{count}\n"));
+        put(&copy.path("ci-ends"), ends);
+        let ended = copy.run("test");
+        assert_eq!(ended.status, Some(1));
+        let said = format!("proved\n{count}\nrt ci failed (exit {ends})\n");
+        assert_eq!(ended.output, said);
+    }
 
+    let copy = Repository::new("echo figure 1");
     put(&copy.path("crates/stray/src/lib.rt"), "");
     let ended = copy.run("test");
     assert_eq!(ended.status, Some(1));
+    assert_eq!(ended.output, "");
     assert_eq!(ended.error, "crates/stray is missing from crates.txt\n");
+}
+
+#[test]
+fn the_gate_lets_none_build() {
+    let copy = Repository::new("echo figure 1");
+    put_script(&copy.path("while-building"), "sleep 0.3");
+    thread::scope(|threads| {
+        threads.spawn(|| assert_eq!(copy.run("test").status, Some(0)));
+        threads.spawn(|| copy.run("quote").expect(0, "figure 1"));
+    });
+    assert!(!copy.calls().contains(&"two at once".to_string()));
 }
 
 #[test]
@@ -527,7 +559,9 @@ fn the_gate_wants_the_kit_that_the_proofs_are_of() {
 fn the_benchmarks_are_of_what_is_built() {
     let copy = Repository::new("echo figure 1");
     let benched = "cargo bench --offline --bench quotes";
-    assert_eq!(copy.run("bench").output, "tests ran\n");
+    let desk = copy.path("target/bin/desk");
+    let ran = format!("tests ran{}\n", desk.display());
+    assert_eq!(copy.run("bench").output, ran);
     assert_eq!(
         copy.calls(),
         ["staticlib volefleece", "check desk", benched]
@@ -634,11 +668,15 @@ fn installing_again_replaces_files_whole() {
         expect_installed(&install(name), &prefix);
         let precious = fs::read(copy.path("precious")).expect("read");
         assert_eq!(precious, b"precious");
-        fs::remove_dir_all(prefix.join("include")).expect("removed");
-        fs::create_dir_all(prefix.join("include/volefleece.h")).expect("made");
-        let told = install(name);
-        assert_eq!(told.status, Some(2));
-        assert!(told.error.contains("volefleece.h is a folder"));
+        for (file, _) in INSTALLED {
+            fs::remove_file(prefix.join(file)).expect("removed");
+            fs::create_dir(prefix.join(file)).expect("made");
+            let told = install(name);
+            assert_eq!(told.status, Some(2), "{told:?}");
+            assert!(told.error.contains(&format!("{file} is a folder")));
+            fs::remove_dir(prefix.join(file)).expect("removed");
+            install(name);
+        }
     }
     for name in ["a\nb", "a\"b", "a$b", "a\\b", "a#b"] {
         install(name).expect_message("a file for pkg-config cannot name this folder");
