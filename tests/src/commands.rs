@@ -7,7 +7,7 @@ use std::path::{Path, PathBuf};
 use std::process::{Command, Stdio};
 use std::{env, fs};
 
-use crate::programs::{project, Folder};
+use crate::programs::{copy_program, project, Folder};
 
 /// Every tool that a command starts, `rt`, cargo and the shell apart.
 const TOOLS: [&str; 18] = [
@@ -115,8 +115,11 @@ pub fn put(path: &Path, text: &str) {
 
 /// Writes a script for `sh`.
 pub fn put_script(path: &Path, text: &str) {
-    put(path, &format!("#!/bin/sh\n{text}\n"));
-    fs::set_permissions(path, fs::Permissions::from_mode(0o755)).expect("executable");
+    let written = path.with_extension("written");
+    put(&written, &format!("#!/bin/sh\n{text}\n"));
+    fs::set_permissions(&written, fs::Permissions::from_mode(0o755)).expect("executable");
+    copy_program(&written, path);
+    fs::remove_file(&written).expect("removed");
 }
 
 /// A copy of the commands in a folder of its own, with few sources. `rt` is a stand-in there that keeps a list of its calls, builds copies of
@@ -176,7 +179,7 @@ impl Repository {
         let folder = Folder::new("desk");
         fs::create_dir(folder.path("scripts")).expect("a new folder");
         for name in COPIED {
-            fs::copy(file(name), folder.path(name)).expect("copied");
+            copy_program(&file(name), &folder.path(name));
         }
         put(&folder.path("crates.txt"), "desk:\n");
         put(&folder.path("crates/desk/src/main.rt"), "first");

@@ -177,6 +177,13 @@ pub fn project() -> PathBuf {
     Path::new(env!("CARGO_MANIFEST_DIR")).join("..")
 }
 
+/// Copies a file that is to be executed. Another process writes it: if this one did, a process that another thread starts at that moment
+/// would hold the file open for writing too, and the system executes no such file.
+pub fn copy_program(from: &Path, to: &Path) {
+    let copied = Command::new("cp").arg("--").args([from, to]).status();
+    assert!(copied.expect("cp starts").success(), "{}", to.display());
+}
+
 /// Values as the bytes of their file.
 pub fn values_file(values: &[u64]) -> Vec<u8> {
     values

@@ -7,7 +7,7 @@ use std::os::unix::process::{CommandExt, ExitStatusExt};
 use std::process::{Child, Command, Stdio};
 use std::thread;
 use std::time::Duration;
-use volefleece_tests::programs::{complains, written, Folder, NONE, TREE};
+use volefleece_tests::programs::{complains, copy_program, written, Folder, NONE, TREE};
 use volefleece_tests::rng::Rng;
 use volefleece_tests::simplifier::simplify;
 use volefleece_tests::tables::*;
@@ -108,7 +108,7 @@ fn a_folder_of_that_name_is_told() {
 fn a_folder_that_cannot_be_written_is_told() {
     for tree in [tree(), refused_tree()] {
         let folder = with_files(&tree, Some(OLD));
-        fs::copy(folder.command().get_program(), folder.path(SALES)).expect("copied");
+        copy_program(folder.command().get_program().as_ref(), &folder.path(SALES));
         let mut command = Command::new(folder.path(SALES));
         command.current_dir(folder.path("")).stdin(Stdio::null());
         if fs::metadata("/proc/self").expect("Linux has it").uid() == 0 {
