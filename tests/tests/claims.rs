@@ -3,7 +3,8 @@
 
 use std::collections::{BTreeMap, BTreeSet};
 use std::fs;
-use std::path::{Path, PathBuf};
+use std::path::Path;
+use volefleece_tests::commands::file;
 
 /// What demands 1 to 3 are stated of.
 const DEMANDS: [(&str, &[&str]); 2] = [
@@ -29,13 +30,29 @@ const OTHERS: [(&str, &[&str]); 4] = [
     ("arguments", &["allowance_of"]),
 ];
 
-fn project() -> PathBuf {
-    Path::new(env!("CARGO_MANIFEST_DIR")).join("..")
+fn read(path: &str) -> String {
+    fs::read_to_string(file(path)).unwrap_or_else(|error| panic!("{path}: {error}"))
 }
 
-fn read(path: &str) -> String {
-    let path = project().join(path);
-    fs::read_to_string(&path).unwrap_or_else(|error| panic!("{}: {error}", path.display()))
+/// The files of every crate in its folder of that name, as the crate's name and the file's without its ending.
+fn files_in(part: &str) -> Vec<(String, String)> {
+    let mut found = Vec::new();
+    for entry in fs::read_dir(file("crates")).expect("crates") {
+        let path = entry.expect("a crate").path();
+        let Ok(files) = fs::read_dir(path.join(part)) else {
+            continue;
+        };
+        let files = files.map(|file| file.expect("a file").path());
+        let name = |path: &Path| {
+            path.file_stem()
+                .and_then(|stem| stem.to_str())
+                .map(str::to_string)
+        };
+        for file in files.filter(|file| file.is_file()) {
+            found.push((name(&path).expect("a name"), name(&file).expect("a name")));
+        }
+    }
+    found
 }
 
 /// The names that each module is asked for, by the `use` lines of a file of Rattle or antt. A list of names may go over several lines.
@@ -167,28 +184,11 @@ fn claims_and_readme_add_the_lines_up() {
 
 /// The files of definitions of every crate, below crates/; `Lib` and `Laws` list modules, and `Nodes` gathers declared names.
 fn definitions() -> BTreeSet<String> {
-    let mut found = BTreeSet::new();
-    for entry in fs::read_dir(project().join("crates")).expect("crates") {
-        let path = entry.expect("a crate").path();
-        let name = path
-            .file_name()
-            .and_then(|name| name.to_str())
-            .expect("a name");
-        let Ok(files) = fs::read_dir(path.join("specs")) else {
-            continue;
-        };
-        let files = files.map(|file| file.expect("a file").path());
-        for file in files.filter(|file| file.is_file()) {
-            let stem = file
-                .file_stem()
-                .and_then(|stem| stem.to_str())
-                .expect("a name");
-            if !["Lib", "Laws", "Nodes"].contains(&stem) {
-                found.insert(format!("{name}/specs/{stem}.antt"));
-            }
-        }
-    }
-    found
+    let files = files_in("specs").into_iter();
+    files
+        .filter(|(_, stem)| !["Lib", "Laws", "Nodes"].contains(&stem.as_str()))
+        .map(|(name, stem)| format!("{name}/specs/{stem}.antt"))
+        .collect()
 }
 
 #[test]
@@ -216,18 +216,8 @@ fn claims_names_every_other_definition() {
 #[test]
 fn claims_names_every_edit_that_must_fail() {
     let claims = words(&read("docs/CLAIMS.md"));
-    for entry in fs::read_dir(project().join("crates")).expect("crates") {
-        let Ok(edits) = fs::read_dir(entry.expect("a crate").path().join("must-fail")) else {
-            continue;
-        };
-        for edit in edits {
-            let path = edit.expect("an edit").path();
-            let label = path
-                .file_stem()
-                .and_then(|stem| stem.to_str())
-                .expect("a name");
-            assert!(claims.contains(label), "{}", path.display());
-        }
+    for (name, label) in files_in("must-fail") {
+        assert!(claims.contains(&label), "{name}: {label}");
     }
 }
 

@@ -4,18 +4,16 @@ use quoting::HOW_MANY_VALUES;
 use quoting::Quote;
 use table::MOST_RECORDS;
 use table::RECORD_LENGTH;
+use text::LONGEST_LINE;
 ghost use Prim.Native.Nat.{_+_, _≤_};
 ghost use lib.ListN.{length};
-ghost use Rattle.text.specs.Texts.{mostDigits};
+ghost use Rattle.text.specs.Texts.{longestLine, mostDigits};
 
 // One record more than a table may have.
 const ROOM: usize = RECORD_LENGTH * (MOST_RECORDS + 1);
 
-// The longest name, word and number, with the line's end.
-const LONGEST_LINE: usize = 64;
-
 fn say(name: &[u8], word: &[u8], number: u64)
-    requires { ⌜ length (now name) + length (now word) + mostDigits + 1 ≤ 64 ⌝ }
+    requires { ⌜ length (now name) + length (now word) + mostDigits + 1 ≤ longestLine ⌝ }
 {
     let mut line = [0u8; LONGEST_LINE];
     let named = text::put_word(&mut line, 0, name);

@@ -52,8 +52,8 @@ pub fn say(line: &[u8]) {
     }
 }
 
-// Room for any line of a word and a number that the programs say.
-const LONGEST_LINE: usize = 64;
+// Room for any line of words and a number that the programs say.
+pub const LONGEST_LINE: usize = 64;
 
 // Says a line of a word and a number.
 pub fn say_number(word: &[u8], number: u64)
