@@ -3,13 +3,13 @@ use mathlib.Core.Path.{_≡_}
 use mathlib.Core.Bool.{Bool, _&&_, _||_, true}
 use mathlib.Core.List.{List, [], _∷_}
 use Prim.Native.Nat.{ℕ, _/_, _%_, _*_}
-use lib.Dec.{eqb, leb, ltb}
+use lib.Dec.{eqb, leb}
 use lib.ListN.{getD, length}
 use Rattle.booleans.specs.Tests.{_and_}
 use Rattle.table.specs.Asking.{Question, _asks_, firstNo}
 use Rattle.table.specs.Nodes.{Limit, Unlimited, AtMost}
 use Rattle.table.specs.Numbers.{wholeRun, mostLoops, recordLength, mostRecords, mostDepth, mostWeight}
-use Rattle.table.specs.Questions.{Accepted, countInRange, kindInRange, depth, loops, named, weight}
+use Rattle.table.specs.Questions.{Accepted, kindInRange, mostInRange, depth, loops, named, weight}
 use Rattle.table.specs.Table.{field, firstNode, formTrees, each, recordCount, decode, encode}
 
 -- 1. a multiple of 16 from 16 to 8,192
@@ -20,16 +20,20 @@ question1 b = eqb (length b % recordLength) 0 and leb recordLength (length b) an
 abbrev pub kindListed : (kind children flag1 value : ℕ) → Bool
 kindListed k c s v = (eqb k 0 && eqb c 0) || (eqb k 3 && eqb c 2) || ((eqb k 1 || eqb k 2) && leb 1 c && eqb s 0 && eqb v 0)
 
--- 2. Byte 3 is 1 to 8, or 255, or 0 with no flag 2 and limit 0.
-abbrev pub limitListed : (byte3 flag2 limit : ℕ) → Bool
+-- 2. Byte 3 is 1 to 8, or 255, or 0 with neither flag 2 nor 4 and limit 0.
+abbrev pub limitListed : (byte3 flags limit : ℕ) → Bool
 limitListed k s m = (leb 1 k && leb k mostLoops) || eqb k wholeRun || (eqb k 0 && eqb s 0 && eqb m 0)
 
--- 2. of the first record; flag 1 is the low bit of byte 1 and flag 2 the next, and there is no other
+-- 2. Flag 4 stands only with flag 2, and there is no other flag. Byte 1 without flag 1, halved: flag 2 is its low bit and flag 4 the next.
+abbrev pub flagsListed : ℕ → Bool
+flagsListed s = eqb s 0 || eqb s 1 || eqb s 3
+
+-- 2. of the first record; flag 1 is the low bit of byte 1
 abbrev pub recordListed : List ℕ → Bool
 recordListed b =
     kindListed (getD b 0 0) (getD b 2 0) (getD b 1 0 % 2) (field b 8 8)
     && limitListed (getD b 3 0) (getD b 1 0 / 2) (field b 4 4)
-    && ltb (getD b 1 0) 4
+    && flagsListed (getD b 1 0 / 2)
 
 unfoldable pub question2 : List ℕ → Bool
 question2 b = each recordListed (recordCount b) b
@@ -37,7 +41,7 @@ question2 b = each recordListed (recordCount b) b
 -- 3. the plain number or symbol number of the first record's time or bound, and of its limit
 unfoldable pub limitCount : Limit → Bool
 limitCount Unlimited = true
-limitCount (AtMost k m) = countInRange m
+limitCount (AtMost k m) = mostInRange m
 
 unfoldable pub recordInRange : List ℕ → Bool
 recordInRange b = kindInRange (firstNode b .kind) and limitCount (firstNode b .limit)

@@ -3,7 +3,7 @@ use mathlib.Core.Bool.{Bool, true}
 use mathlib.Core.List.{List, [], _∷_}
 use Prim.Native.Nat.{ℕ}
 use Rattle.booleans.specs.Tests.{_and_}
-use Rattle.table.specs.Nodes.{Plain, Symbol, Unlimited, AtMost, Block, Sequence, Choice, Loop}
+use Rattle.table.specs.Nodes.{Plain, Symbol, Most, Unlimited, AtMost, Block, Sequence, Choice, Loop}
 use Rattle.table.specs.Trees.{Tree, node, Forest, nil, _▸_}
 
 unfoldable pub block : ℕ → Tree
@@ -16,7 +16,7 @@ symbol s = node (record { kind = Block (Symbol s); limit = Unlimited }) nil
 infixl 60 _/_at_
 -- a/m@k
 unfoldable pub _/_at_ : Tree → ℕ → ℕ → Tree
-(node n f) / m at k = node (record { kind = n .kind; limit = AtMost k (Plain m) }) f
+(node n f) / m at k = node (record { kind = n .kind; limit = AtMost k (Most.Plain m) }) f
 
 -- (a, b, ..)
 unfoldable pub sequence : Forest → Tree

@@ -2,7 +2,7 @@
 use mathlib.Core.Bool.{Bool, true, _||_, cond}
 use Prim.Native.Nat.{ℕ, suc, max, _-_, _^_, _+_, _≤_}
 use lib.Dec.{leb, eqb, ltb, T}
-use Rattle.table.specs.Nodes.{Kind, Block, Sequence, Choice, Loop, Number, Plain, Symbol, Limit, Unlimited, AtMost}
+use Rattle.table.specs.Nodes.{Kind, Block, Sequence, Choice, Loop, Number, Plain, Symbol, Most, Limit, Unlimited, AtMost}
 use Rattle.booleans.specs.Tests.{_and_}
 use Rattle.table.specs.Numbers.{mostChildren, mostTime, firstTimeSymbol, howManySymbols, mostCount, wholeRun, mostLoops, mostRecords, mostDepth, mostWeight}
 use Rattle.table.specs.Trees.{Tree, node, Forest, nil, _▸_, size, rest, around, records}
@@ -24,6 +24,11 @@ unfoldable pub countInRange : Number → Bool
 countInRange (Plain n) = leb n mostCount
 countInRange (Symbol s) = ltb s firstTimeSymbol
 
+unfoldable pub mostInRange : Most → Bool
+mostInRange (Most.Plain n) = leb n mostCount
+mostInRange (Most.Symbol s) = ltb s firstTimeSymbol
+mostInRange (Most.Triangular s) = ltb s firstTimeSymbol
+
 unfoldable pub kindInRange : Kind → Bool
 kindInRange (Block t) = timeInRange t
 kindInRange Sequence = true
@@ -33,7 +38,7 @@ kindInRange (Loop n) = countInRange n
 -- byte 3 is 1 to 8, or 255
 unfoldable pub limitInRange : Limit → Bool
 limitInRange Unlimited = true
-limitInRange (AtMost k m) = ((leb 1 k and leb k mostLoops) || eqb k wholeRun) and countInRange m
+limitInRange (AtMost k m) = ((leb 1 k and leb k mostLoops) || eqb k wholeRun) and mostInRange m
 
 -- every node is as questions 2 and 3 ask
 unfoldable mutual

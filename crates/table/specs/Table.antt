@@ -4,13 +4,13 @@ use mathlib.Core.List.{List, [], _∷_, _++_}
 use Prim.Native.Nat.{ℕ, zero, suc, _+_, _*_, _/_, _%_}
 use lib.Dec.{eqb}
 use lib.ListN.{take, drop, getD, length}
-use Rattle.table.specs.Nodes.{Number, Plain, Symbol, Kind, Block, Sequence, Choice, Loop, Limit, Unlimited, AtMost, Node}
+use Rattle.table.specs.Nodes.{Number, Plain, Symbol, Most, Kind, Block, Sequence, Choice, Loop, Limit, Unlimited, AtMost, Node}
 use Rattle.booleans.specs.Tests.{_and_}
 use Rattle.table.specs.Numbers.{recordLength}
 use Rattle.table.specs.Trees.{Tree, node, Forest, nil, _▸_, size}
 use Rattle.table.specs.Bytes.{toBytes, fromBytes}
 
--- a number's flag and its field
+-- a time's or bound's flag and its field
 unfoldable pub flag : Number → ℕ
 flag (Plain n) = 0
 flag (Symbol n) = 1
@@ -22,6 +22,22 @@ raw (Symbol n) = n
 unfoldable pub numFrom : ℕ → ℕ → Number
 numFrom zero n = Plain n
 numFrom (suc s) n = Symbol n
+
+-- a limit's flags and its field: flag 2 counts 1 here, as byte 1 is halved, and flag 4 counts 2
+unfoldable pub mostFlags : Most → ℕ
+mostFlags (Most.Plain n) = 0
+mostFlags (Most.Symbol s) = 1
+mostFlags (Most.Triangular s) = 3
+
+abbrev pub mostField : Most → ℕ
+mostField (Most.Plain n) = n
+mostField (Most.Symbol s) = s
+mostField (Most.Triangular s) = s
+
+unfoldable pub mostFrom : ℕ → ℕ → Most
+mostFrom zero n = Most.Plain n
+mostFrom (suc zero) n = Most.Symbol n
+mostFrom (suc (suc s)) n = Most.Triangular n
 
 unfoldable pub kindByte : Kind → ℕ
 kindByte (Block v) = 0
@@ -45,19 +61,19 @@ unfoldable pub loopByte : Limit → ℕ
 loopByte Unlimited = 0
 loopByte (AtMost k m) = k
 
-unfoldable pub limitNum : Limit → Number
-limitNum Unlimited = Plain 0
+unfoldable pub limitNum : Limit → Most
+limitNum Unlimited = Most.Plain 0
 limitNum (AtMost k m) = m
 
-unfoldable pub limitFrom : ℕ → Number → Limit
+unfoldable pub limitFrom : ℕ → Most → Limit
 limitFrom zero m = Unlimited
 limitFrom (suc k) m = AtMost (suc k) m
 
 -- the record of a node with c children
 unfoldable pub recordBytes : Node → ℕ → List ℕ
 recordBytes n c =
-    (kindByte (n .kind) ∷ (flag (valueNum (n .kind)) + 2 * flag (limitNum (n .limit))) ∷ c ∷ loopByte (n .limit) ∷ [])
-    ++ toBytes 4 (raw (limitNum (n .limit))) ++ toBytes 8 (raw (valueNum (n .kind)))
+    (kindByte (n .kind) ∷ (flag (valueNum (n .kind)) + 2 * mostFlags (limitNum (n .limit))) ∷ c ∷ loopByte (n .limit) ∷ [])
+    ++ toBytes 4 (mostField (limitNum (n .limit))) ++ toBytes 8 (raw (valueNum (n .kind)))
 
 -- the table of a tree, and of a forest: a node's record first, then its children in order, each with everything below it
 unfoldable mutual
@@ -76,7 +92,7 @@ field b i n = fromBytes (take n (drop i b))
 unfoldable pub firstNode : List ℕ → Node
 firstNode b = record {
   kind = kindFrom (getD b 0 0) (numFrom (getD b 1 0 % 2) (field b 8 8));
-  limit = limitFrom (getD b 3 0) (numFrom (getD b 1 0 / 2) (field b 4 4));
+  limit = limitFrom (getD b 3 0) (mostFrom (getD b 1 0 / 2) (field b 4 4));
 }
 
 unfoldable pub childByte : List ℕ → ℕ

@@ -3,9 +3,9 @@ ghost use mathlib.Core.Path.{_≡_};
 ghost use Prim.Native.Nat.{_+_, _*_, _^_, _<_, _≤_};
 ghost use lib.ListN.{drop, length};
 ghost use Rattle.table.specs.Numbers.{recordLength, mostRecords};
-ghost use Rattle.table.specs.Table.{childByte, field, firstNode, flagless, kindFrom, limitFrom, loopByte, numFrom, recordCount};
-ghost use Rattle.table.specs.Questions.{timeInRange, countInRange, kindInRange};
-ghost use Rattle.table.specs.Checking.{kindListed, limitCount, limitListed, question1, question2, question3, question4, recordInRange, recordListed, refusal};
+ghost use Rattle.table.specs.Table.{childByte, field, firstNode, flagless, kindFrom, limitFrom, loopByte, mostFrom, numFrom, recordCount};
+ghost use Rattle.table.specs.Questions.{timeInRange, countInRange, kindInRange, mostInRange};
+ghost use Rattle.table.specs.Checking.{flagsListed, kindListed, limitCount, limitListed, question1, question2, question3, question4, recordInRange, recordListed, refusal};
 ghost use Rattle.table.specs.Numbers.{mostLoops, mostDepth};
 ghost use Rattle.table.specs.Trees.{around};
 ghost use Rattle.table.specs.Questions.{nameOk};
@@ -35,16 +35,23 @@ pub const MOST_DEPTH: usize = 32;
 
 // ---- The node: a record without its number of children
 
-// A time, bound or limit: a plain number, or a symbol by its number.
+// A time or bound: a plain number, or a symbol by its number.
 pub enum Number {
     Plain(u64),
     Symbol(u64),
 }
 
+// A limit's number: plain, a symbol's value, or the triangular number of a symbol's value.
+pub enum Most {
+    Plain(u64),
+    Symbol(u64),
+    Triangular(u64),
+}
+
 // No limit, or the loop that it names (byte 3) and its number.
 pub enum Limit {
     Unlimited,
-    AtMost(u8, Number),
+    AtMost(u8, Most),
 }
 
 // A block with its time, a sequence, a choice, a loop with its bound.
@@ -105,6 +112,17 @@ fn number_from(flag: u8, x: u64) -> Number
     }
 }
 
+// A limit's field with its flags, which are 0 for a plain number and 1 for a symbol.
+fn most_from(flags: u8, x: u64) -> Most
+    ensures { λ r. ⌜ r ≡ mostFrom flags x ⌝ }
+{
+    match flags {
+        0 => Most::Plain(x),
+        1 => Most::Symbol(x),
+        _ => Most::Triangular(x),
+    }
+}
+
 // The kind by byte 0, with the value that a block or a loop has.
 fn kind_from(byte: u8, value: Number) -> Kind
     ensures { λ r. ⌜ r ≡ kindFrom byte value ⌝ }
@@ -118,7 +136,7 @@ fn kind_from(byte: u8, value: Number) -> Kind
 }
 
 // The limit by byte 3, with its number.
-fn limit_from(byte: u8, most: Number) -> Limit
+fn limit_from(byte: u8, most: Most) -> Limit
     ensures { λ r. ⌜ r ≡ limitFrom byte most ⌝ }
 {
     if byte == 0 {
@@ -135,7 +153,7 @@ pub fn read_node(b: &[u8]) -> Node
 {
     let flags = b[1];
     let value = number_from(flags % 2, read_u64(b, 8));
-    let most = number_from(flags / 2, read_u32(b, 4));
+    let most = most_from(flags / 2, read_u32(b, 4));
     let kind = kind_from(b[0], value);
     let limit = limit_from(b[3], most);
     Node {
@@ -206,12 +224,18 @@ fn kind_listed(kind: u8, children: u8, flag: u8, value: u64) -> bool
         | ((kind == 1) | (kind == 2)) & (1 <= children) & (flag == 0) & (value == 0)
 }
 
-fn limit_listed(named: u8, flag: u8, most: u64) -> bool
-    ensures { λ r. ⌜ r ≡ limitListed named flag most ⌝ }
+fn limit_listed(named: u8, flags: u8, most: u64) -> bool
+    ensures { λ r. ⌜ r ≡ limitListed named flags most ⌝ }
 {
     (1 <= named) & (named <= MOST_LOOPS)
         | (named == WHOLE_RUN)
-        | (named == 0) & (flag == 0) & (most == 0)
+        | (named == 0) & (flags == 0) & (most == 0)
+}
+
+fn flags_listed(flags: u8) -> bool
+    ensures { λ r. ⌜ r ≡ flagsListed flags ⌝ }
+{
+    (flags == 0) | (flags == 1) | (flags == 3)
 }
 
 // Are the fields of the record at the front of `b` as listed?
@@ -222,7 +246,7 @@ fn record_listed(b: &[u8]) -> bool
     let flags = b[1];
     let kind = kind_listed(b[0], b[2], flags % 2, read_u64(b, 8));
     let limit = limit_listed(b[3], flags / 2, read_u32(b, 4));
-    kind & limit & (flags < 4)
+    kind & limit & flags_listed(flags / 2)
 }
 
 // Are the fields of every record as listed?
@@ -261,6 +285,16 @@ fn count_in_range(count: Number) -> bool
     }
 }
 
+fn most_in_range(most: Most) -> bool
+    ensures { λ r. ⌜ r ≡ mostInRange most ⌝ }
+{
+    match most {
+        Most::Plain(n) => n <= MOST_COUNT,
+        Most::Symbol(s) => s < FIRST_TIME_SYMBOL,
+        Most::Triangular(s) => s < FIRST_TIME_SYMBOL,
+    }
+}
+
 fn kind_in_range(kind: Kind) -> bool
     ensures { λ r. ⌜ r ≡ kindInRange kind ⌝ }
 {
@@ -277,7 +311,7 @@ fn limit_in_range(limit: Limit) -> bool
 {
     match limit {
         Limit::Unlimited => true,
-        Limit::AtMost(_, most) => count_in_range(most),
+        Limit::AtMost(_, most) => most_in_range(most),
     }
 }
 

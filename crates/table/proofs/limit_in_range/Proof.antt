@@ -10,8 +10,8 @@ enum-told c = search needs
 enum-known-limit : tie.Need-enum-known-limit
 enum-known-limit c = search needs
 
-count-in-range-requires : tie.Need-count-in-range-requires
-count-in-range-requires c κs = search needs
+most-in-range-requires : tie.Need-most-in-range-requires
+most-in-range-requires c κs = search needs
 
 returns : tie.Need-returns
 unfolding limitCount
@@ -19,8 +19,8 @@ returns c = search needs
 
 returns-2 : tie.Need-returns-2
 unfolding limitCount
-returns-2 c = rw (c .before .before .limit .given .1) (c .count-in-range .ensures)
+returns-2 c = rw (c .before .before .limit .given .1) (c .most-in-range .ensures)
 
 pub limit-in-range-spec : {M : Type 1} → statement M
 limit-in-range-spec =
-    tie.close (tie.spec enum-told enum-known-limit count-in-range-requires returns returns-2)
+    tie.close (tie.spec enum-told enum-known-limit most-in-range-requires returns returns-2)

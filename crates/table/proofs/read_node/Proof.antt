@@ -17,8 +17,8 @@ number-from-requires c κs = search needs
 read-u32-requires : tie.Need-read-u32-requires
 read-u32-requires c κs = search needs
 
-number-from-requires-2 : tie.Need-number-from-requires-2
-number-from-requires-2 c κs = search needs
+most-from-requires : tie.Need-most-from-requires
+most-from-requires c κs = search needs
 
 shared-slice-read-kind-from : tie.Need-shared-slice-read-kind-from
 shared-slice-read-kind-from c = search needs
@@ -38,7 +38,7 @@ returns c =
     let kinds = c .before .before in
     let numbers = kinds .before .before in
     let values = numbers .before .before in
-    rw (c .limit-from .ensures, kinds .kind-from .ensures, numbers .number-from2 .ensures, numbers .before .read-u32 .ensures .0, values .number-from .ensures, values .before .read-u64 .ensures) refl
+    rw (c .limit-from .ensures, kinds .kind-from .ensures, numbers .most-from .ensures, numbers .before .read-u32 .ensures .0, values .number-from .ensures, values .before .read-u64 .ensures) refl
 
 pub read-node-spec : {M : Type 1} → statement M
 read-node-spec =
@@ -48,7 +48,7 @@ read-node-spec =
     read-u64-requires
     number-from-requires
     read-u32-requires
-    number-from-requires-2
+    most-from-requires
     shared-slice-read-kind-from
     kind-from-requires
     shared-slice-read-limit-from

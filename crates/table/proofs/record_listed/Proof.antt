@@ -28,9 +28,14 @@ read-u32-requires c κs = search needs
 limit-listed-requires : tie.Need-limit-listed-requires
 limit-listed-requires c κs = search needs
 
+flags-listed-requires : tie.Need-flags-listed-requires
+flags-listed-requires c κs = search needs
+
 returns : tie.Need-returns
 returns c =
-    rw (c .limit-listed .ensures, c .before .read-u32 .ensures .0, c .before .before .before .kind-listed .ensures, c .before .before .before .before .read-u64 .ensures) refl
+    let limit = c .before in
+    let kind = limit .before .before .before in
+    rw (c .flags-listed .ensures, limit .limit-listed .ensures, limit .before .read-u32 .ensures .0, kind .kind-listed .ensures, kind .before .read-u64 .ensures) refl
 
 pub record-listed-spec : {M : Type 1} → statement M
 record-listed-spec =
@@ -44,4 +49,5 @@ record-listed-spec =
     shared-slice-read-limit-listed
     read-u32-requires
     limit-listed-requires
+    flags-listed-requires
     returns)

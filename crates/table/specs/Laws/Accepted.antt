@@ -4,7 +4,7 @@ use mathlib.Core.Bool.{false, _||_, _&&_, Bool, true}
 use mathlib.Core.List.{List}
 use Prim.Native.Nat.{ℕ, zero, suc, _<_, _/_, _%_, _+_, _*_}
 use native.Mathlib.Omega.{arith}
-use lib.Dec.{T, leb, eqb, le→leb, ltb, eqb→eq, leb→le}
+use lib.Dec.{T, leb, eqb, le→leb, eqb→eq, leb→le}
 use lib.ListN.{getD, drop, length}
 use borrow.Author.Tests.{ne-eqb}
 use Rattle.booleans.specs.Tests.{_and_}
@@ -13,8 +13,8 @@ use Rattle.table.specs.Numbers.{recordLength, mostRecords, mostChildren,
 use Rattle.table.specs.Trees.{Forest, nil, _▸_, size, records}
 use Rattle.table.specs.Questions.{arity, limitInRange, kindInRange, listed, listedIn}
 use Rattle.table.specs.Bytes.{AreBytes}
-use Rattle.table.specs.Table.{numFrom, kindFrom, limitFrom, firstNode, childByte, field, firstOnes, afterOnes, forest, formTrees, each, top, decode, recordCount}
-use Rattle.table.specs.Checking.{IsTable, kindListed, limitListed, limitCount, recordListed, recordInRange, question1, question2, question3, question4, question5, question6, question7, questions, refusal}
+use Rattle.table.specs.Table.{mostFrom, numFrom, kindFrom, limitFrom, firstNode, childByte, field, firstOnes, afterOnes, forest, formTrees, each, top, decode, recordCount}
+use Rattle.table.specs.Checking.{IsTable, flagsListed, kindListed, limitListed, limitCount, recordListed, recordInRange, question1, question2, question3, question4, question5, question6, question7, questions, refusal}
 use Rattle.table.specs.Laws.RoundTrip.{size-first, size-after, length-encode}
 use Rattle.table.specs.Laws.Canonical.{bytes-drop, encode-decode}
 use Rattle.table.specs.Laws.Asking.{Yes, all-yes, numbered}
@@ -28,7 +28,7 @@ kind-arity (suc (suc (suc zero))) c s v l t = or-false (eqb c 2) t
 kind-arity (suc (suc (suc (suc k)))) c s v l t =
     absurd (simp (ne-eqb (suc (suc (suc (suc k)))) 0 (omega arith), ne-eqb (suc (suc (suc (suc k)))) 1 (omega arith), ne-eqb (suc (suc (suc (suc k)))) 2 (omega arith), ne-eqb (suc (suc (suc (suc k)))) 3 (omega arith)) at t)
 
-limit-ranged : (k s m : ℕ) → T (limitListed k s m) → T (limitCount (limitFrom k (numFrom s m))) → T (limitInRange (limitFrom k (numFrom s m)))
+limit-ranged : (k s m : ℕ) → T (limitListed k s m) → T (limitCount (limitFrom k (mostFrom s m))) → T (limitInRange (limitFrom k (mostFrom s m)))
 unfolding limitCount limitInRange limitFrom
 limit-ranged zero s m t c = tt
 limit-ranged (suc k) s m t c = join-and _ _ (go (leb 1 (suc k)) (leb (suc k) mostLoops) (eqb (suc k) wholeRun) (eqb (suc k) 0) (ne-eqb (suc k) 0 (omega arith)) t) c
@@ -46,7 +46,7 @@ unfolding recordInRange firstNode childByte
 record-ok b h t r =
     let S = kindListed (getD b 0 0) (getD b 2 0) (getD b 1 0 % 2) (field b 8 8) in
     let N = limitListed (getD b 3 0) (getD b 1 0 / 2) (field b 4 4) in
-    let q = &&-both (S && N) (ltb (getD b 1 0) 4) t in
+    let q = &&-both (S && N) (flagsListed (getD b 1 0 / 2)) t in
     let p = &&-both S N (q .0) in
     let (x, y) = both _ _ r in
     (x, limit-ranged (getD b 3 0) (getD b 1 0 / 2) (field b 4 4) (p .1) y, kind-arity (getD b 0 0) (getD b 2 0) (getD b 1 0 % 2) (field b 8 8) (h 2) (p .0))

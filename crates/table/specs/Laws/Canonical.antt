@@ -4,7 +4,7 @@ use mathlib.Core.Bool.{_&&_}
 use mathlib.Core.List.{List, append-assoc, [], _∷_, _++_, append-nil}
 use Prim.Native.Nat.{ℕ, zero, suc, _+_, _*_, _<_, _≤_, _/_, _%_}
 use native.Mathlib.Omega.{arith}
-use lib.Dec.{T, eqb→eq, eqb, leb, ltb, ltb→lt}
+use lib.Dec.{T, eqb→eq, eqb, leb}
 use lib.ListN.{take, drop, length, length-drop, getD}
 use lib.Seq.{take-add, getD-drop, length-take-le, take-length}
 use borrow.Author.Tests.{ne-eqb}
@@ -12,8 +12,8 @@ use Rattle.booleans.specs.Laws.{&&-both, both}
 use Rattle.table.specs.Numbers.{recordLength}
 use Rattle.table.specs.Trees.{size, Forest, nil, _▸_}
 use Rattle.table.specs.Bytes.{AreBytes, toBytes, fromBytes}
-use Rattle.table.specs.Table.{recordBytes, firstNode, childByte, encodes, firstOnes, forest, formTrees, flag, numFrom, raw, kindByte, valueNum, kindFrom, loopByte, limitNum, limitFrom, field, each, encode, top, decode, recordCount}
-use Rattle.table.specs.Checking.{kindListed, limitListed, recordListed}
+use Rattle.table.specs.Table.{recordBytes, firstNode, childByte, encodes, firstOnes, forest, formTrees, flag, numFrom, raw, mostField, mostFlags, mostFrom, kindByte, valueNum, kindFrom, loopByte, limitNum, limitFrom, field, each, encode, top, decode, recordCount}
+use Rattle.table.specs.Checking.{flagsListed, kindListed, limitListed, recordListed}
 use Rattle.table.specs.Laws.Bytes.{to-from}
 use Rattle.table.specs.Laws.RoundTrip.{size-first, size-after, encodes-split}
 
@@ -61,11 +61,23 @@ kind-back (suc (suc (suc zero))) c s v t h = (refl, flag-num s v h, raw-num s v)
 kind-back (suc (suc (suc (suc k)))) c s v t h =
     absurd (simp (ne-eqb (suc (suc (suc (suc k)))) 0 (omega arith), ne-eqb (suc (suc (suc (suc k)))) 1 (omega arith), ne-eqb (suc (suc (suc (suc k)))) 2 (omega arith), ne-eqb (suc (suc (suc (suc k)))) 3 (omega arith)) at t)
 
-limit-back : (k s m : ℕ) → T (limitListed k s m) → s < 2
-    → (loopByte (limitFrom k (numFrom s m)) ≡ k) × (flag (limitNum (limitFrom k (numFrom s m))) ≡ s) × (raw (limitNum (limitFrom k (numFrom s m))) ≡ m)
-unfolding loopByte limitFrom limitNum flag
+flags-most : (s x : ℕ) → T (flagsListed s) → mostFlags (mostFrom s x) ≡ s
+unfolding mostFlags mostFrom
+flags-most zero x h = refl
+flags-most (suc zero) x h = refl
+flags-most (suc (suc s)) x h = sym (eqb→eq (suc (suc s)) 3 (simp (ne-eqb (suc (suc s)) 0 (omega arith), ne-eqb (suc (suc s)) 1 (omega arith)) at h))
+
+field-most : (s x : ℕ) → mostField (mostFrom s x) ≡ x
+unfolding mostFrom
+field-most zero x = refl
+field-most (suc zero) x = refl
+field-most (suc (suc s)) x = refl
+
+limit-back : (k s m : ℕ) → T (limitListed k s m) → T (flagsListed s)
+    → (loopByte (limitFrom k (mostFrom s m)) ≡ k) × (mostFlags (limitNum (limitFrom k (mostFrom s m))) ≡ s) × (mostField (limitNum (limitFrom k (mostFrom s m))) ≡ m)
+unfolding loopByte limitFrom limitNum mostFlags
 limit-back zero s m t h = let q = &&-both (eqb s 0) (eqb m 0) t in (refl, sym (eqb→eq s 0 (q .0)), sym (eqb→eq m 0 (q .1)))
-limit-back (suc k) s m t h = (refl, flag-num s m h, raw-num s m)
+limit-back (suc k) s m t h = (refl, flags-most s m h, field-most s m)
 
 pub bytes-drop : (b : List ℕ) (i : ℕ) → AreBytes b → AreBytes (drop i b)
 bytes-drop b i h j = rw getD-drop (h (i + j))
@@ -97,11 +109,10 @@ unfolding recordBytes firstNode childByte
 plain-listed b h l t =
     let S = kindListed (getD b 0 0) (getD b 2 0) (getD b 1 0 % 2) (field b 8 8) in
     let N = limitListed (getD b 3 0) (getD b 1 0 / 2) (field b 4 4) in
-    let q = &&-both (S && N) (ltb (getD b 1 0) 4) t in
+    let q = &&-both (S && N) (flagsListed (getD b 1 0 / 2)) t in
     let p = &&-both S N (q .0) in
-    let f = ltb→lt (getD b 1 0) 4 (q .1) in
     let k = kind-back (getD b 0 0) (getD b 2 0) (getD b 1 0 % 2) (field b 8 8) (p .0) (omega arith) in
-    let m = limit-back (getD b 3 0) (getD b 1 0 / 2) (field b 4 4) (p .1) (omega arith) in
+    let m = limit-back (getD b 3 0) (getD b 1 0 / 2) (field b 4 4) (p .1) (q .1) in
     let g : getD b 1 0 % 2 + 2 * (getD b 1 0 / 2) ≡ getD b 1 0 = omega arith in
     rw (k .0, k .1, k .2, m .0, m .1, m .2, g, field-back b 4 4 h (omega arith), field-back b 8 8 h (omega arith), take-record b, take-four b (omega arith))
 

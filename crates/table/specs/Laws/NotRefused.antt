@@ -5,17 +5,17 @@ use mathlib.Core.List.{List, [], _++_, append-assoc, append-nil}
 use Prim.Native.Nat.{_<_, _^_, zero, suc, ℕ, _+_, _*_, _/_, _%_, _≤_}
 use native.Mathlib.Nat.{suc-add, zero-add, add-assoc, add-zero, add-suc}
 use native.Mathlib.Omega.{arith}
-use lib.Dec.{T, ltb→lt, leb→le, leb, eqb, ltb, le→leb}
+use lib.Dec.{T, ltb→lt, leb→le, leb, eqb, le→leb}
 use lib.ListN.{length}
-use Rattle.table.specs.Nodes.{Number, Plain, Symbol, Kind, Block, Sequence, Choice, Loop, Limit, Unlimited, AtMost, Node}
+use Rattle.table.specs.Nodes.{Number, Plain, Symbol, Most, Kind, Block, Sequence, Choice, Loop, Limit, Unlimited, AtMost, Node}
 use Rattle.booleans.specs.Tests.{_and_}
 use Rattle.booleans.specs.Laws.{both, or-left, &&-join, join-and}
 use Rattle.table.specs.Numbers.{mostChildren, wholeRun, mostLoops, mostDepth, mostWeight, recordLength, mostRecords, mostTime, mostCount, firstTimeSymbol, howManySymbols}
 use Rattle.table.specs.Trees.{Tree, node, Forest, nil, _▸_, size, records, recordsIn}
-use Rattle.table.specs.Questions.{timeInRange, countInRange, kindInRange, limitInRange, listed, listedIn, arity, depth, loops, named, weight, Accepted}
+use Rattle.table.specs.Questions.{timeInRange, countInRange, mostInRange, kindInRange, limitInRange, listed, listedIn, arity, depth, loops, named, weight, Accepted}
 use Rattle.table.specs.Bytes.{toBytes, fromBytes}
-use Rattle.table.specs.Table.{raw, flag, kindByte, valueNum, loopByte, limitNum, recordBytes, each, encode, encodes, formTrees, decode, recordCount}
-use Rattle.table.specs.Checking.{kindListed, limitListed, recordListed, limitCount, recordInRange, question1, question2, question3, question4, question5, question6, question7, questions, refusal}
+use Rattle.table.specs.Table.{raw, flag, mostField, mostFlags, kindByte, valueNum, loopByte, limitNum, recordBytes, each, encode, encodes, formTrees, decode, recordCount}
+use Rattle.table.specs.Checking.{flagsListed, kindListed, limitListed, recordListed, limitCount, recordInRange, question1, question2, question3, question4, question5, question6, question7, questions, refusal}
 use Rattle.table.specs.Laws.Trees.{some-records}
 use Rattle.table.specs.Laws.RoundTrip.{WritesKind, WritesLimit, WritesNode, Writes, WritesAll, flag-low, flag-high, kind-value, limit-most, head-bytes, drop-bytes, children-bytes, decode-encode, length-encode}
 use Rattle.table.specs.Laws.Asking.{Yes, yes-all}
@@ -27,17 +27,23 @@ unfolding timeInRange
 time-writes (Plain n) t = omega (arith, leb→le n mostTime t)
 time-writes (Symbol n) t = omega (arith, ltb→lt n howManySymbols (both _ _ t .1))
 
-count-writes : (v : Number) → T (countInRange v) → (raw v < 256 ^ 4) × (raw v < 256 ^ 8)
+count-writes : (v : Number) → T (countInRange v) → raw v < 256 ^ 8
 unfolding countInRange
-count-writes (Plain n) t = let l = leb→le n mostCount t in omega arith
-count-writes (Symbol n) t = let l = ltb→lt n firstTimeSymbol t in omega arith
+count-writes (Plain n) t = omega (arith, leb→le n mostCount t)
+count-writes (Symbol n) t = omega (arith, ltb→lt n firstTimeSymbol t)
+
+most-writes : (m : Most) → T (mostInRange m) → mostField m < 256 ^ 4
+unfolding mostInRange
+most-writes (Most.Plain n) t = omega (arith, leb→le n mostCount t)
+most-writes (Most.Symbol s) t = omega (arith, ltb→lt s firstTimeSymbol t)
+most-writes (Most.Triangular s) t = omega (arith, ltb→lt s firstTimeSymbol t)
 
 kind-writes : (k : Kind) → T (kindInRange k) → WritesKind k
 unfolding kindInRange WritesKind
 kind-writes (Block v) t = time-writes v t
 kind-writes Sequence t = tt
 kind-writes Choice t = tt
-kind-writes (Loop v) t = count-writes v t .1
+kind-writes (Loop v) t = count-writes v t
 
 none-named : T ((false and true) || false) → ⊥
 unfolding _and_
@@ -46,8 +52,8 @@ none-named h = h
 limit-writes : (l : Limit) → T (limitInRange l) → WritesLimit l
 unfolding limitInRange WritesLimit
 limit-writes Unlimited t = tt
-limit-writes (AtMost zero m) t = absurd (none-named (both ((false and true) || false) (countInRange m) t .0))
-limit-writes (AtMost (suc k) m) t = (omega arith, count-writes m (both _ _ t .1) .0)
+limit-writes (AtMost zero m) t = absurd (none-named (both ((false and true) || false) (mostInRange m) t .0))
+limit-writes (AtMost (suc k) m) t = (omega arith, most-writes m (both _ _ t .1))
 
 node-writes : (n : Node) → T (kindInRange (n .kind)) → T (limitInRange (n .limit)) → WritesNode n
 node-writes n a b = record { kind = kind-writes (n .kind) a; limit = limit-writes (n .limit) b }
@@ -73,12 +79,12 @@ shape-ok Sequence c h = &&-join (leb 1 c && true) true (&&-join (leb 1 c) true (
 shape-ok Choice c h = &&-join (leb 1 c && true) true (&&-join (leb 1 c) true (both (leb 1 c) (leb c mostChildren) h .0) tt) tt
 shape-ok (Loop v) c h = or-left (eqb c 2) false h
 
-names-ok : (l : Limit) → T (limitInRange l) → T (limitListed (loopByte l) (flag (limitNum l)) (raw (limitNum l)))
-unfolding limitInRange loopByte limitNum flag
+names-ok : (l : Limit) → T (limitInRange l) → T (limitListed (loopByte l) (mostFlags (limitNum l)) (mostField (limitNum l)))
+unfolding limitInRange loopByte limitNum mostFlags
 names-ok Unlimited h = tt
 names-ok (AtMost k m) h =
-    or-left ((leb 1 k && leb k mostLoops) || eqb k wholeRun) (eqb k 0 && eqb (flag m) 0 && eqb (raw m) 0)
-    (go (leb 1 k) (leb k mostLoops) (eqb k wholeRun) (both ((leb 1 k and leb k mostLoops) || eqb k wholeRun) (countInRange m) h .0))
+    or-left ((leb 1 k && leb k mostLoops) || eqb k wholeRun) (eqb k 0 && eqb (mostFlags m) 0 && eqb (mostField m) 0)
+    (go (leb 1 k) (leb k mostLoops) (eqb k wholeRun) (both ((leb 1 k and leb k mostLoops) || eqb k wholeRun) (mostInRange m) h .0))
   where
     go : (a b c : Bool) → T ((a and b) || c) → T ((a && b) || c)
     go true true c h = tt
@@ -91,22 +97,21 @@ names-ok (AtMost k m) h =
         no₂ : (false and b) ≡ false
         no₂ = unfold _and_ in refl
 
-flags-few : (v m : Number) → T (ltb (flag v + 2 * flag m) 4)
-unfolding flag
-flags-few (Plain a) (Plain b) = tt
-flags-few (Plain a) (Symbol b) = tt
-flags-few (Symbol a) (Plain b) = tt
-flags-few (Symbol a) (Symbol b) = tt
+flags-ok : (m : Most) → T (flagsListed (mostFlags m))
+unfolding mostFlags
+flags-ok (Most.Plain n) = tt
+flags-ok (Most.Symbol s) = tt
+flags-ok (Most.Triangular s) = tt
 
 listed-fields : (k : Kind) (l : Limit) (c : ℕ) → WritesKind k → WritesLimit l → T (arity k c) → T (limitInRange l)
-    → T (kindListed (kindByte k) c ((flag (valueNum k) + 2 * flag (limitNum l)) % 2) (fromBytes (toBytes 8 (raw (valueNum k))))
-    && limitListed (loopByte l) ((flag (valueNum k) + 2 * flag (limitNum l)) / 2) (fromBytes (toBytes 4 (raw (limitNum l))))
-    && ltb (flag (valueNum k) + 2 * flag (limitNum l)) 4)
+    → T (kindListed (kindByte k) c ((flag (valueNum k) + 2 * mostFlags (limitNum l)) % 2) (fromBytes (toBytes 8 (raw (valueNum k))))
+    && limitListed (loopByte l) ((flag (valueNum k) + 2 * mostFlags (limitNum l)) / 2) (fromBytes (toBytes 4 (mostField (limitNum l))))
+    && flagsListed ((flag (valueNum k) + 2 * mostFlags (limitNum l)) / 2))
 listed-fields k l c x y a b =
     let S = kindListed (kindByte k) c (flag (valueNum k)) (raw (valueNum k)) in
-    let N = limitListed (loopByte l) (flag (limitNum l)) (raw (limitNum l)) in
-    rw (flag-low (valueNum k) (limitNum l), flag-high (valueNum k) (limitNum l), kind-value k x .0, limit-most l y .0)
-    (&&-join (S && N) _ (&&-join S N (shape-ok k c a) (names-ok l b)) (flags-few (valueNum k) (limitNum l)))
+    let N = limitListed (loopByte l) (mostFlags (limitNum l)) (mostField (limitNum l)) in
+    rw (flag-low (valueNum k) (mostFlags (limitNum l)), flag-high (valueNum k) (mostFlags (limitNum l)), kind-value k x .0, limit-most l y .0)
+    (&&-join (S && N) _ (&&-join S N (shape-ok k c a) (names-ok l b)) (flags-ok (limitNum l)))
 
 record-listed : (n : Node) (c : ℕ) (r : List ℕ) → T (kindInRange (n .kind)) → T (limitInRange (n .limit)) → T (arity (n .kind) c) → T (recordListed (recordBytes n c ++ r))
 unfolding recordBytes toBytes
@@ -115,7 +120,7 @@ record-listed n c r a b e = listed-fields (n .kind) (n .limit) c (kind-writes _ 
 limit-counts : (l : Limit) → T (limitInRange l) → T (limitCount l)
 unfolding limitInRange limitCount
 limit-counts Unlimited h = tt
-limit-counts (AtMost k m) h = both ((leb 1 k and leb k mostLoops) || eqb k wholeRun) (countInRange m) h .1
+limit-counts (AtMost k m) h = both ((leb 1 k and leb k mostLoops) || eqb k wholeRun) (mostInRange m) h .1
 
 record-ranged : (n : Node) (c : ℕ) (r : List ℕ) → T (kindInRange (n .kind)) → T (limitInRange (n .limit)) → T (arity (n .kind) c) → T (recordInRange (recordBytes n c ++ r))
 unfolding recordInRange

@@ -10,10 +10,10 @@ use lib.ListN.{getD, length, take, drop, length-drop}
 use lib.Seq.{take-nil, drop-nil, take-all, drop-drop}
 use borrow.Author.Tests.{not-false, not-true}
 use Rattle.booleans.specs.Tests.{_and_}
-use Rattle.table.specs.Nodes.{Symbol, Number, Loop, AtMost}
+use Rattle.table.specs.Nodes.{Symbol, Number, Most, Loop, AtMost}
 use Rattle.table.specs.Bytes.{fromBytes}
 use Rattle.table.specs.Numbers.{recordLength, mostChildren}
-use Rattle.table.specs.Table.{childByte, each, field, firstNode, formTrees, kindFrom, limitFrom, loopByte, numFrom, recordCount}
+use Rattle.table.specs.Table.{childByte, each, field, firstNode, formTrees, kindFrom, limitFrom, loopByte, mostFrom, numFrom, recordCount}
 
 -- ---- fields
 
@@ -47,6 +47,12 @@ unfolding numFrom
 is-symbol zero n h = absurd (h refl)
 is-symbol (suc s) n h = refl
 
+pub is-triangular : (s n : ℕ) → (s ≡ 0 → ⊥) → (s ≡ 1 → ⊥) → Most.Triangular n ≡ mostFrom s n
+unfolding mostFrom
+is-triangular zero n h i = absurd (h refl)
+is-triangular (suc zero) n h i = absurd (i refl)
+is-triangular (suc (suc s)) n h i = refl
+
 pub is-loop : (k : ℕ) (v : Number) → (k ≡ 0 → ⊥) → (k ≡ 1 → ⊥) → (k ≡ 2 → ⊥) → Loop v ≡ kindFrom k v
 unfolding kindFrom
 is-loop zero v h i j = absurd (h refl)
@@ -54,12 +60,12 @@ is-loop (suc zero) v h i j = absurd (i refl)
 is-loop (suc (suc zero)) v h i j = absurd (j refl)
 is-loop (suc (suc (suc k))) v h i j = refl
 
-pub is-limit : (k : ℕ) (m : Number) → (k ≡ 0 → ⊥) → AtMost k m ≡ limitFrom k m
+pub is-limit : (k : ℕ) (m : Most) → (k ≡ 0 → ⊥) → AtMost k m ≡ limitFrom k m
 unfolding limitFrom
 is-limit zero m h = absurd (h refl)
 is-limit (suc k) m h = refl
 
-limit-name : (k : ℕ) (m : Number) → loopByte (limitFrom k m) ≡ k
+limit-name : (k : ℕ) (m : Most) → loopByte (limitFrom k m) ≡ k
 unfolding loopByte limitFrom
 limit-name zero m = refl
 limit-name (suc k) m = refl

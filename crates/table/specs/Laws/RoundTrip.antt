@@ -6,10 +6,10 @@ use native.Mathlib.Nat.{suc-add, zero-add, add-assoc}
 use native.Mathlib.Omega.{arith}
 use lib.ListN.{length, drop, length-append}
 use lib.Seq.{drop-at, drop-drop}
-use Rattle.table.specs.Nodes.{Number, Limit, Unlimited, AtMost, Kind, Block, Sequence, Choice, Loop, Node, Plain, Symbol}
+use Rattle.table.specs.Nodes.{Number, Most, Limit, Unlimited, AtMost, Kind, Block, Sequence, Choice, Loop, Node, Plain, Symbol}
 use Rattle.table.specs.Bytes.{toBytes, fromBytes}
 use Rattle.table.specs.Numbers.{recordLength}
-use Rattle.table.specs.Table.{firstOnes, afterOnes, encodes, raw, flag, numFrom, kindByte, valueNum, kindFrom, loopByte, limitNum, limitFrom, recordBytes, firstNode, childByte, forest, encode, top, decode, recordCount}
+use Rattle.table.specs.Table.{firstOnes, afterOnes, encodes, raw, flag, numFrom, mostField, mostFlags, mostFrom, kindByte, valueNum, kindFrom, loopByte, limitNum, limitFrom, recordBytes, firstNode, childByte, forest, encode, top, decode, recordCount}
 use Rattle.table.specs.Trees.{Forest, nil, _▸_, _⧺_, size, Tree, node, records, recordsIn}
 use Rattle.table.specs.Laws.Bytes.{from-to}
 
@@ -46,18 +46,18 @@ encodes-split (suc n) (t ▸ f) = rw (append-assoc, encodes-split n f)
 -- ---- a record
 
 -- what a node's record can hold
-abbrev pub WritesNum : ℕ → Number → Type 0
-WritesNum w n = raw n < 256 ^ w
+abbrev pub WritesNum : Number → Type 0
+WritesNum n = raw n < 256 ^ 8
 
 unfoldable pub WritesLimit : Limit → Type 0
 WritesLimit Unlimited = Unit {0}
-WritesLimit (AtMost k m) = (0 < k) × WritesNum 4 m
+WritesLimit (AtMost k m) = (0 < k) × (mostField m < 256 ^ 4)
 
 unfoldable pub WritesKind : Kind → Type 0
-WritesKind (Block v) = WritesNum 8 v
+WritesKind (Block v) = WritesNum v
 WritesKind Sequence = Unit {0}
 WritesKind Choice = Unit {0}
-WritesKind (Loop v) = WritesNum 8 v
+WritesKind (Loop v) = WritesNum v
 
 pub record WritesNode (n : Node) : Type 0 where
   pub kind : WritesKind (n .kind)
@@ -68,19 +68,22 @@ unfolding numFrom flag
 num-flag (Plain n) x h = ap Plain h
 num-flag (Symbol n) x h = ap Symbol h
 
-pub flag-low : (v m : Number) → (flag v + 2 * flag m) % 2 ≡ flag v
-unfolding flag
-flag-low (Plain n) (Plain m) = refl
-flag-low (Plain n) (Symbol m) = refl
-flag-low (Symbol n) (Plain m) = refl
-flag-low (Symbol n) (Symbol m) = refl
+most-flags : (m : Most) (x : ℕ) → x ≡ mostField m → mostFrom (mostFlags m) x ≡ m
+unfolding mostFrom mostFlags
+most-flags (Most.Plain n) x h = ap Most.Plain h
+most-flags (Most.Symbol s) x h = ap Most.Symbol h
+most-flags (Most.Triangular s) x h = ap Most.Triangular h
 
-pub flag-high : (v m : Number) → (flag v + 2 * flag m) / 2 ≡ flag m
+pub flag-small : (v : Number) → flag v < 2
 unfolding flag
-flag-high (Plain n) (Plain m) = refl
-flag-high (Plain n) (Symbol m) = refl
-flag-high (Symbol n) (Plain m) = refl
-flag-high (Symbol n) (Symbol m) = refl
+flag-small (Plain n) = omega arith
+flag-small (Symbol n) = omega arith
+
+pub flag-low : (v : Number) (s : ℕ) → (flag v + 2 * s) % 2 ≡ flag v
+flag-low v s = omega (arith, flag-small v)
+
+pub flag-high : (v : Number) (s : ℕ) → (flag v + 2 * s) / 2 ≡ s
+flag-high v s = omega (arith, flag-small v)
 
 pub kind-value : (k : Kind) → WritesKind k → (fromBytes (toBytes 8 (raw (valueNum k))) ≡ raw (valueNum k)) × (kindFrom (kindByte k) (valueNum k) ≡ k)
 unfolding WritesKind kindFrom kindByte valueNum
@@ -89,22 +92,22 @@ kind-value Sequence h = (from-to 8 0 (omega arith), refl)
 kind-value Choice h = (from-to 8 0 (omega arith), refl)
 kind-value (Loop v) h = (from-to 8 (raw v) h, refl)
 
-pub limit-most : (l : Limit) → WritesLimit l → (fromBytes (toBytes 4 (raw (limitNum l))) ≡ raw (limitNum l)) × (limitFrom (loopByte l) (limitNum l) ≡ l)
+pub limit-most : (l : Limit) → WritesLimit l → (fromBytes (toBytes 4 (mostField (limitNum l))) ≡ mostField (limitNum l)) × (limitFrom (loopByte l) (limitNum l) ≡ l)
 unfolding WritesLimit limitFrom loopByte limitNum
 limit-most Unlimited h = (from-to 4 0 (omega arith), refl)
 limit-most (AtMost zero m) h = absurd (omega arith)
-limit-most (AtMost (suc k) m) h = (from-to 4 (raw m) (h .1), refl)
+limit-most (AtMost (suc k) m) h = (from-to 4 (mostField m) (h .1), refl)
 
-head-kind : (k : Kind) (m : Number) → WritesKind k → kindFrom (kindByte k) (numFrom ((flag (valueNum k) + 2 * flag m) % 2) (fromBytes (toBytes 8 (raw (valueNum k))))) ≡ k
-head-kind k m h = rw (flag-low, num-flag _ _ (kind-value k h .0)) (kind-value k h .1)
+head-kind : (k : Kind) (s : ℕ) → WritesKind k → kindFrom (kindByte k) (numFrom ((flag (valueNum k) + 2 * s) % 2) (fromBytes (toBytes 8 (raw (valueNum k))))) ≡ k
+head-kind k s h = rw (flag-low, num-flag _ _ (kind-value k h .0)) (kind-value k h .1)
 
-head-limit : (v : Number) (l : Limit) → WritesLimit l → limitFrom (loopByte l) (numFrom ((flag v + 2 * flag (limitNum l)) / 2) (fromBytes (toBytes 4 (raw (limitNum l))))) ≡ l
-head-limit v l h = rw (flag-high, num-flag _ _ (limit-most l h .0)) (limit-most l h .1)
+head-limit : (v : Number) (l : Limit) → WritesLimit l → limitFrom (loopByte l) (mostFrom ((flag v + 2 * mostFlags (limitNum l)) / 2) (fromBytes (toBytes 4 (mostField (limitNum l))))) ≡ l
+head-limit v l h = rw (flag-high, most-flags _ _ (limit-most l h .0)) (limit-most l h .1)
 
 pub head-bytes : (n : Node) (c : ℕ) (r : List ℕ) → WritesNode n → firstNode (recordBytes n c ++ r) ≡ n
 unfolding firstNode recordBytes toBytes
 head-bytes n c r h = λ i. record {
-  kind = head-kind (n .kind) (limitNum (n .limit)) (h .kind) i;
+  kind = head-kind (n .kind) (mostFlags (limitNum (n .limit))) (h .kind) i;
   limit = head-limit (valueNum (n .kind)) (n .limit) (h .limit) i;
 }
 

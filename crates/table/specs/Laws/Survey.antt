@@ -15,7 +15,7 @@ use Rattle.table.specs.Nodes.{Kind, Block, Sequence, Choice, Loop, Limit
 use Rattle.table.specs.Bytes.{AreBytes}
 use Rattle.table.specs.Checking.{question5, question6, question7, question1, question2, question3, question4}
 use Rattle.table.specs.Numbers.{wholeRun, mostLoops, recordLength, mostWeight, mostDepth}
-use Rattle.table.specs.Questions.{countInRange, limitInRange, share, named, weight, namedIn, weightIn, depth, loops, depthIn, loopsIn, nameOk, listed, listedIn}
+use Rattle.table.specs.Questions.{mostInRange, limitInRange, share, named, weight, namedIn, weightIn, depth, loops, depthIn, loopsIn, nameOk, listed, listedIn}
 use Rattle.table.specs.Survey.{listedShare, unfit, withParent, surveyNode, surveyChildren, empty, withNext, surveyMore, Small, mostShare}
 use Rattle.table.specs.Table.{recordBytes, encode, encodes, decode, recordCount, firstNode, childByte}
 use Rattle.table.specs.Trees.{rest, around, Tree, records, Forest, recordsIn, node, size, nil, _▸_}
@@ -60,7 +60,7 @@ around-rest (Loop v) d = refl
 share-is : (l : Limit) (d : ℕ) → T (limitInRange l) → listedShare l d ≡ share l d
 unfolding limitInRange listedShare share
 share-is Unlimited d h = refl
-share-is (AtMost k m) d h = go (leb 1 k) (leb k mostLoops) (eqb k wholeRun) (2 ^ d) (2 ^ (k - 1)) (both _ (countInRange m) h .0)
+share-is (AtMost k m) d h = go (leb 1 k) (leb k mostLoops) (eqb k wholeRun) (2 ^ d) (2 ^ (k - 1)) (both _ (mostInRange m) h .0)
   where
     go : (a b c : Bool) (x y : ℕ) → T ((a and b) || c) → cond c x (cond (a && b) y 0) ≡ cond c x y
     go a b true x y h = refl

@@ -7,20 +7,20 @@ use native.Mathlib.Omega.{arith}
 use lib.Dec.{T, leb, leb→le, eqb, eqb→eq}
 use Rattle.booleans.specs.Tests.{_and_}
 use Rattle.booleans.specs.Laws.{both, is-T}
-use Rattle.table.specs.Nodes.{Number, Plain, Symbol, Limit, Unlimited, AtMost, Kind, Block, Sequence, Choice, Loop, Node}
+use Rattle.table.specs.Nodes.{Number, Most, Limit, Unlimited, AtMost, Kind, Block, Sequence, Choice, Loop, Node}
 use Rattle.table.specs.Numbers.{mostChildren, mostLoops, wholeRun}
 use Rattle.table.specs.Trees.{Tree, node, Forest, nil, _▸_, size}
 use Rattle.table.specs.Questions.{arity, limitInRange, listed, listedIn}
 use Rattle.table.specs.Bytes.{toBytes, AreBytes}
-use Rattle.table.specs.Table.{flag, raw, kindByte, valueNum, loopByte, limitNum, recordBytes, encode, encodes}
+use Rattle.table.specs.Table.{flag, raw, mostField, mostFlags, kindByte, valueNum, loopByte, limitNum, recordBytes, encode, encodes}
 use Rattle.table.specs.Laws.Bytes.{bytes-to, bytes-append}
+use Rattle.table.specs.Laws.RoundTrip.{flag-small}
 
-flags-byte : (v m : Number) → flag v + 2 * flag m < 256
-unfolding flag
-flags-byte (Plain a) (Plain b) = omega arith
-flags-byte (Plain a) (Symbol b) = omega arith
-flags-byte (Symbol a) (Plain b) = omega arith
-flags-byte (Symbol a) (Symbol b) = omega arith
+flags-byte : (v : Number) (m : Most) → flag v + 2 * mostFlags m < 256
+unfolding mostFlags
+flags-byte v (Most.Plain n) = omega (arith, flag-small v)
+flags-byte v (Most.Symbol s) = omega (arith, flag-small v)
+flags-byte v (Most.Triangular s) = omega (arith, flag-small v)
 
 kind-byte : (k : Kind) → kindByte k < 256
 unfolding kindByte
@@ -57,9 +57,9 @@ unfolding recordBytes
 record-bytes n c l a =
     let v = valueNum (n .kind) in
     let m = limitNum (n .limit) in
-    let front : List ℕ = kindByte (n .kind) ∷ (flag v + 2 * flag m) ∷ c ∷ loopByte (n .limit) ∷ [] in
-    bytes-append (front ++ toBytes 4 (raw m)) (toBytes 8 (raw v))
-    (bytes-append front (toBytes 4 (raw m)) (four-bytes _ _ _ _ (kind-byte (n .kind)) (flags-byte v m) (few-children (n .kind) c a) (loop-byte (n .limit) l)) (bytes-to 4 (raw m)))
+    let front : List ℕ = kindByte (n .kind) ∷ (flag v + 2 * mostFlags m) ∷ c ∷ loopByte (n .limit) ∷ [] in
+    bytes-append (front ++ toBytes 4 (mostField m)) (toBytes 8 (raw v))
+    (bytes-append front (toBytes 4 (mostField m)) (four-bytes _ _ _ _ (kind-byte (n .kind)) (flags-byte v m) (few-children (n .kind) c a) (loop-byte (n .limit) l)) (bytes-to 4 (mostField m)))
     (bytes-to 8 (raw v))
 
 mutual
