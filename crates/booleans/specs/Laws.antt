@@ -19,6 +19,16 @@ unfolding _and_
 and-false true = refl
 and-false false = refl
 
+pub and-true : (b : Bool) → (b and true) ≡ b
+unfolding _and_
+and-true true = refl
+and-true false = refl
+
+pub and-assoc : (a b c : Bool) → (a and b and c) ≡ (a and (b and c))
+unfolding _and_
+and-assoc true b c = refl
+and-assoc false b c = refl
+
 pub T-is : (b : Bool) → T b → b ≡ true
 T-is true h = refl
 T-is false h = absurd h

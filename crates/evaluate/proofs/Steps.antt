@@ -12,10 +12,10 @@ use Rattle.table.specs.Table.{childByte, firstNode}
 use Rattle.table.specs.Trees.{rest}
 use Rattle.table.specs.declared.Kind.{Kind}
 use Rattle.table.specs.declared.Limit.the-variants.{AtMost}
-use Rattle.table.specs.declared.Number.{Number}
+use Rattle.table.specs.declared.Most.{Most}
 use Rattle.lists.specs.Operations.{capPairs, first, groupPairs}
 use Rattle.lists.specs.Pairs.{Pairs, ever, top, width}
-use Rattle.evaluate.specs.Evaluate.{Values, amount, outward}
+use Rattle.evaluate.specs.Evaluate.{Values, outward, allowed}
 use Rattle.evaluate.specs.Evaluator.{Found, andThen, checked, evaluateBelow, evaluateMore, evaluateNode, found, goneRound, joinPairs, joined, limited, looped, unfit}
 use Rattle.evaluate.specs.Shown.{withNext}
 
@@ -53,19 +53,19 @@ module _ (n : ℕ) (c : Found) where
   unfolding looped
   looped-room m o l = rw (le-leb n mostCount m, lt-leb (c .named) 1 o, le-leb (2 * width (c .pairs)) mostWeight l) refl
 
-module _ (v : Values) (k : ℕ) (m : Number) (s : Found) where
-  pub limited-many : mostCount < amount v m → limited v (AtMost k m) s ≡ unfit
+module _ (v : Values) (k : ℕ) (m : Most) (s : Found) where
+  pub limited-many : mostCount < allowed v m → limited v (AtMost k m) s ≡ unfit
   unfolding limited
-  limited-many l = rw (lt-leb (amount v m) mostCount l) refl
+  limited-many l = rw (lt-leb (allowed v m) mostCount l) refl
 
-  pub limited-wide : amount v m ≤ mostCount → mostWeight < suc (width (s .pairs)) → limited v (AtMost k m) s ≡ unfit
+  pub limited-wide : allowed v m ≤ mostCount → mostWeight < suc (width (s .pairs)) → limited v (AtMost k m) s ≡ unfit
   unfolding limited
-  limited-wide l w = rw (le-leb (amount v m) mostCount l, lt-leb (suc (width (s .pairs))) mostWeight w) refl
+  limited-wide l w = rw (le-leb (allowed v m) mostCount l, lt-leb (suc (width (s .pairs))) mostWeight w) refl
 
-  pub limited-room : amount v m ≤ mostCount → suc (width (s .pairs)) ≤ mostWeight
-      → limited v (AtMost k m) s ≡ found (capPairs (amount v m) (s .pairs)) (min k (s .named)) (suc (s .records))
+  pub limited-room : allowed v m ≤ mostCount → suc (width (s .pairs)) ≤ mostWeight
+      → limited v (AtMost k m) s ≡ found (capPairs (allowed v m) (s .pairs)) (min k (s .named)) (suc (s .records))
   unfolding limited
-  limited-room l w = rw (le-leb (amount v m) mostCount l, le-leb (suc (width (s .pairs))) mostWeight w) refl
+  limited-room l w = rw (le-leb (allowed v m) mostCount l, le-leb (suc (width (s .pairs))) mostWeight w) refl
 
 -- ---- the walk
 

@@ -8,8 +8,8 @@ use native.Mathlib.Omega.{arith}
 use Rattle.booleans.specs.Tests.{_and_}
 use Rattle.table.specs.Notation.{_/_at_, block, both, either, loop, sequence}
 use Rattle.table.specs.Trees.{Tree, nil, _▸_, rest}
-use Rattle.evaluate.specs.Nodes.{AtMost, Plain}
-use Rattle.evaluate.specs.Evaluate.{Values, amount, outward}
+use Rattle.evaluate.specs.Nodes.{AtMost, Most}
+use Rattle.evaluate.specs.Evaluate.{Values, amount, outward, allowed}
 use Rattle.evaluate.specs.Runs.{Costs, Pass, Run, cost, count, here, limitAt, out, seenLimit, total}
 use Rattle.evaluate.specs.Laws.Admits.{admits, every, everyNode, isRun, keepsHere, keepsLimit, run-costs}
 
@@ -49,7 +49,7 @@ limitedLoop = loop 2 (loop 3 (block 5) (block 0) / 1 at 1) (block 4 / 1 at 255)
 
 -- to unfold this is to unfold all that the trees, and a run's test and cost, compute with
 unfoldable pub computed : ℕ
-unfolding caseC caseE term caseH caseI limitedZero limitedExit limitedLoop block _/_at_ sequence both either loop _and_ rest amount outward out seenLimit limitAt count total cost keepsLimit keepsHere everyNode every admits isRun
+unfolding caseC caseE term caseH caseI limitedZero limitedExit limitedLoop block _/_at_ sequence both either loop _and_ rest allowed amount outward out seenLimit limitAt count total cost keepsLimit keepsHere everyNode every admits isRun
 computed = 0
 
 -- ---- their passes
@@ -132,5 +132,5 @@ module _ (v : Values) where
   pub exit-outside : Run v limitedExit exitTwice → ⊥
   unfolding computed exitTwice here
   exit-outside h =
-      let held : here v (AtMost 1 (Plain 1)) 2 = h .inside .1 (inr (inr (inl (inl tt)))) in
+      let held : here v (AtMost 1 (Most.Plain 1)) 2 = h .inside .1 (inr (inr (inl (inl tt)))) in
       absurd (omega (arith, held (omega arith)))

@@ -2,7 +2,7 @@
 use mathlib.Core.Bool.{Bool, true, false}
 use Prim.Native.Nat.{ℕ}
 use lib.Dec.{leb, ltb}
-use Rattle.evaluate.specs.Nodes.{Limit, Unlimited, AtMost, Kind, Number, Plain, Symbol, Block, Sequence, Choice, Loop}
+use Rattle.evaluate.specs.Nodes.{Limit, Unlimited, AtMost, Kind, Most, Number, Plain, Symbol, Block, Sequence, Choice, Loop}
 use Rattle.booleans.specs.Tests.{_and_}
 use Rattle.table.specs.Numbers.{wholeRun}
 use Rattle.table.specs.Trees.{Tree, node, Forest, nil, _▸_, rest, around}
@@ -32,9 +32,14 @@ plainKind Sequence = true
 plainKind Choice = true
 plainKind (Loop n) = isPlain n
 
+unfoldable pub plainMost : Most → Bool
+plainMost (Most.Plain n) = true
+plainMost (Most.Symbol s) = false
+plainMost (Most.Triangular s) = false
+
 unfoldable pub plainLimit : Limit → Bool
 plainLimit Unlimited = true
-plainLimit (AtMost k m) = isPlain m
+plainLimit (AtMost k m) = plainMost m
 
 -- neither the top, its limit included, nor anything below has a symbol
 unfoldable mutual

@@ -4,10 +4,11 @@ use mathlib.Core.List.{List}
 use Prim.Native.Nat.{ℕ, min, _-_}
 use lib.Dec.{leb}
 use lib.ListN.{getD}
-use Rattle.evaluate.specs.Nodes.{Number, Plain, Symbol, Limit, Unlimited, AtMost, Kind, Block, Sequence, Choice, Loop}
+use Rattle.evaluate.specs.Nodes.{Number, Plain, Symbol, Most, Limit, Unlimited, AtMost, Kind, Block, Sequence, Choice, Loop}
 use Rattle.booleans.specs.Tests.{_and_}
 use Rattle.table.specs.Numbers.{wholeRun, mostTime}
 use Rattle.table.specs.Trees.{Tree, node, Forest, nil, _▸_, rest}
+use Rattle.triangular.specs.Triangular.{triangular}
 use Rattle.lists.specs.Streams.{Stream, cap, const, group, add, merge}
 
 -- what the symbols stand for
@@ -18,10 +19,16 @@ Values = ℕ → ℕ
 abbrev pub valuesOf : List ℕ → Values
 valuesOf vs k = getD vs k 0
 
--- what a time, bound or limit comes to
+-- what a time or bound comes to
 unfoldable pub amount : Values → Number → ℕ
 amount v (Plain n) = n
 amount v (Symbol k) = v k
+
+-- what a limit comes to: how many passes it allows
+unfoldable pub allowed : Values → Most → ℕ
+allowed v (Most.Plain n) = n
+allowed v (Most.Symbol k) = v k
+allowed v (Most.Triangular k) = triangular (v k)
 
 -- ---- the loop that a list names: 1 and on the loops around the node, counted outward, and 255 the whole run, so that the inner of two is the smaller
 
@@ -54,7 +61,7 @@ unfoldable mutual
 -- a limit m keeps the first m members and puts 0 after
 unfoldable pub limit : Values → Limit → Stream → Stream
 limit v Unlimited f = f
-limit v (AtMost k m) f = cap (amount v m) f
+limit v (AtMost k m) f = cap (allowed v m) f
 
 -- a loop of bound n over a body that names loop k: groups of n, each summed; only the first sum, for ever, where k is this very loop
 unfoldable pub rounds : ℕ → ℕ → Stream → Stream

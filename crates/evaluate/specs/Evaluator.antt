@@ -11,7 +11,7 @@ use Rattle.table.specs.Trees.{rest}
 use Rattle.lists.specs.Operations.{addPairs, mergePairs, groupPairs, first, capPairs}
 use Rattle.lists.specs.Pairs.{Pairs, ever, top, width}
 use Rattle.evaluate.specs.Nodes.{Kind, Block, Sequence, Choice, Loop, Limit, Unlimited, AtMost}
-use Rattle.evaluate.specs.Evaluate.{outward, Values, amount}
+use Rattle.evaluate.specs.Evaluate.{outward, Values, allowed, amount}
 
 -- what a walk finds of a tree, or of a node's children so far: the pairs of the list, the loop it names, how many records, and whether question 10 says yes
 pub record Found : Type 0 where
@@ -83,8 +83,8 @@ evaluateBelow v f (Loop m) n b = evaluateMore v f (Loop m) n b (found (ever 0) w
 unfoldable pub limited : Values → Limit → Found → Found
 limited v Unlimited s = found (s .pairs) (s .named) (suc (s .records))
 limited v (AtMost k m) s =
-    cond (leb (amount v m) mostCount)
-    (cond (leb (suc (width (s .pairs))) mostWeight) (found (capPairs (amount v m) (s .pairs)) (min k (s .named)) (suc (s .records))) unfit)
+    cond (leb (allowed v m) mostCount)
+    (cond (leb (suc (width (s .pairs))) mostWeight) (found (capPairs (allowed v m) (s .pairs)) (min k (s .named)) (suc (s .records))) unfit)
     unfit
 
 -- the node of b's first record with everything below it, at most h nodes deep

@@ -5,12 +5,12 @@ use lib.Dec.{leb}
 use Rattle.evaluate.specs.Nodes.{Limit, Unlimited, AtMost, Kind, Block, Sequence, Choice, Loop}
 use Rattle.table.specs.Trees.{Tree, node, Forest, nil, _▸_, rest}
 use Rattle.lists.specs.Pairs.{Pairs, pairs}
-use Rattle.evaluate.specs.Evaluate.{Values, amount, name, list}
+use Rattle.evaluate.specs.Evaluate.{Values, name, list, allowed}
 
 -- a place from which a tree's list is constant: how far to look for pairs
 unfoldable pub placeOf : Values → Limit → ℕ → ℕ
 placeOf v Unlimited p = p
-placeOf v (AtMost k m) p = amount v m
+placeOf v (AtMost k m) p = allowed v m
 
 unfoldable pub turned : Kind → ℕ → ℕ → ℕ
 turned (Block t) k p = p

@@ -9,7 +9,7 @@ use lib.ListN.{length}
 use Rattle.evaluate.specs.Nodes.{Kind, Block, Sequence, Choice, Loop, Limit, Unlimited, AtMost}
 use Rattle.booleans.specs.Tests.{_and_}
 use Rattle.table.specs.Trees.{Tree, node, Forest, nil, _▸_, rest}
-use Rattle.evaluate.specs.Evaluate.{outward, Values, amount}
+use Rattle.evaluate.specs.Evaluate.{outward, Values, allowed, amount}
 use Rattle.evaluate.specs.Closed.{isUnlimited}
 
 -- a pass of a sequence is one pass of each child in order; of a choice, one pass of one child; of a loop, some of the body, then one of the exit
@@ -105,12 +105,12 @@ module _ (v : Values) where
   -- z passes of a node keep its limit
   unfoldable pub keeps : Limit → ℕ → Type 0
   keeps Unlimited z = Unit {0}
-  keeps (AtMost k m) z = z ≤ amount v m
+  keeps (AtMost k m) z = z ≤ allowed v m
 
   -- z passes of a node in one pass of the loop whose body this limit is seen from keep it, if it names that loop
   unfoldable pub here : Limit → ℕ → Type 0
   here Unlimited z = Unit {0}
-  here (AtMost k m) z = k ≤ 1 → z ≤ amount v m
+  here (AtMost k m) z = k ≤ 1 → z ≤ allowed v m
 
   -- each pass of each loop within a pass makes at most its bound of passes of the body, and keeps the limits that name it
   abbrev mutual

@@ -7,7 +7,7 @@ ghost use Rattle.table.specs.Numbers.{mostDepth, mostRecords, recordLength};
 ghost use Rattle.table.specs.Trees.{rest};
 ghost use Rattle.lists.specs.Pairs.{ever};
 ghost use Rattle.lists.specs.Reading.{Addable, Is, Mergeable, Proper, listIn, pairsOf};
-ghost use Rattle.evaluate.specs.Evaluate.{amount, outward, valuesOf};
+ghost use Rattle.evaluate.specs.Evaluate.{allowed, amount, outward, valuesOf};
 ghost use Rattle.evaluate.specs.Evaluator.{andThen, checked, evaluateNode, goneRound, joinPairs, joined, limited, looped};
 ghost use Rattle.evaluate.specs.Shown.{Ready, Roomy, Shows, evaluateChildren, foundIn, withNext};
 use lists::List;
@@ -17,6 +17,7 @@ use table::Limit;
 use table::MOST_COUNT;
 use table::MOST_DEPTH;
 use table::MOST_TIME;
+use table::Most;
 use table::Number;
 use table::RECORD_LENGTH;
 use table::WHOLE_RUN;
@@ -52,13 +53,24 @@ fn value_of(symbol: u64, values: &[u64]) -> u64
     if at < values.len() { values[at] } else { 0 }
 }
 
-// What a time, bound or limit comes to.
+// What a time or bound comes to.
 fn amount_of(number: Number, values: &[u64]) -> u64
     ensures { λ r. ⌜ r ≡ amount (valuesOf (now (values .entry))) number ⌝ }
 {
     match number {
         Number::Plain(n) => n,
         Number::Symbol(s) => value_of(s, values),
+    }
+}
+
+// What a limit comes to.
+fn allowed_by(most: Most, values: &[u64]) -> u64
+    ensures { λ r. ⌜ r ≡ allowed (valuesOf (now (values .entry))) most ⌝ }
+{
+    match most {
+        Most::Plain(n) => n,
+        Most::Symbol(s) => value_of(s, values),
+        Most::Triangular(s) => triangular::triangular_of(value_of(s, values)),
     }
 }
 
@@ -244,7 +256,7 @@ fn limit_in(limit: Limit, values: &[u64], below: Valued, list: &mut Pairs) -> Va
             fits: true,
         };
     };
-    let most = amount_of(number, values);
+    let most = allowed_by(number, values);
     if MOST_COUNT < most {
         return Valued::UNFIT;
     }

@@ -1,8 +1,9 @@
 -- Two trees with the same bytes.
 use mathlib.Core.Bool.{Bool, false, true}
 use lib.Dec.{eqb}
-use Rattle.simplify.specs.Nodes.{Number, Plain, Symbol, Limit, Unlimited, AtMost, Kind, Block, Sequence, Choice, Loop}
+use Rattle.simplify.specs.Nodes.{Number, Plain, Symbol, Most, Limit, Unlimited, AtMost, Kind, Block, Sequence, Choice, Loop}
 use Rattle.booleans.specs.Tests.{_and_}
+use Rattle.table.specs.Table.{mostField, mostFlags}
 use Rattle.table.specs.Trees.{Tree, node, Forest, nil, _▸_}
 
 unfoldable pub sameNumber : Number → Number → Bool
@@ -11,11 +12,14 @@ sameNumber (Plain m) (Symbol n) = false
 sameNumber (Symbol m) (Plain n) = false
 sameNumber (Symbol m) (Symbol n) = eqb m n
 
+unfoldable pub sameMost : Most → Most → Bool
+sameMost m n = eqb (mostFlags m) (mostFlags n) and eqb (mostField m) (mostField n)
+
 unfoldable pub sameLimit : Limit → Limit → Bool
 sameLimit Unlimited Unlimited = true
 sameLimit Unlimited (AtMost j n) = false
 sameLimit (AtMost k m) Unlimited = false
-sameLimit (AtMost k m) (AtMost j n) = eqb k j and sameNumber m n
+sameLimit (AtMost k m) (AtMost j n) = eqb k j and sameMost m n
 
 unfoldable pub sameKind : Kind → Kind → Bool
 sameKind (Block m) (Block n) = sameNumber m n

@@ -7,6 +7,7 @@ pub mod Asking
 pub mod Accepted
 pub mod NotRefused
 pub mod Written
+pub mod Limits
 pub mod Reading
 pub mod Survey
 pub mod Refusal

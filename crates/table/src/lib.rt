@@ -3,7 +3,7 @@ ghost use mathlib.Core.Path.{_≡_};
 ghost use Prim.Native.Nat.{_+_, _*_, _^_, _<_, _≤_};
 ghost use lib.ListN.{drop, length};
 ghost use Rattle.table.specs.Numbers.{recordLength, mostRecords};
-ghost use Rattle.table.specs.Table.{childByte, field, firstNode, flagless, kindFrom, limitFrom, loopByte, mostFrom, numFrom, recordCount};
+ghost use Rattle.table.specs.Table.{childByte, field, firstNode, flagFour, flagless, kindFrom, limitFrom, loopByte, mostFrom, numFrom, recordCount};
 ghost use Rattle.table.specs.Questions.{timeInRange, countInRange, kindInRange, mostInRange};
 ghost use Rattle.table.specs.Checking.{flagsListed, kindListed, limitCount, limitListed, question1, question2, question3, question4, recordInRange, recordListed, refusal};
 ghost use Rattle.table.specs.Numbers.{mostLoops, mostDepth};
@@ -202,6 +202,14 @@ pub fn flagless_at(table: &[u8], i: usize) -> bool
     ensures { λ r. ⌜ r ≡ flagless (drop (recordLength * i) (now (table .entry))) ⌝ }
 {
     table[RECORD_LENGTH * i + 1] == 0
+}
+
+// Has it flag 4, where question 2 says yes of it?
+pub fn flag_four_at(table: &[u8], i: usize) -> bool
+    requires { ⌜ i < recordCount (now table) ⌝ }
+    ensures { λ r. ⌜ r ≡ flagFour (drop (recordLength * i) (now (table .entry))) ⌝ }
+{
+    4 <= table[RECORD_LENGTH * i + 1]
 }
 
 // ---- Question 1

@@ -4,11 +4,12 @@ ghost use mathlib.Core.List.{_++_};
 ghost use Prim.Native.Nat.{_*_, _+_, _-_, _≤_};
 ghost use lib.ListN.{length, take};
 ghost use Rattle.table.specs.Numbers.{recordLength};
-ghost use Rattle.table.specs.Table.{flag, kindByte, limitNum, loopByte, raw, recordBytes, recordCount, valueNum};
+ghost use Rattle.table.specs.Table.{flag, kindByte, limitNum, loopByte, mostField, mostFlags, raw, recordBytes, recordCount, valueNum};
 ghost use Rattle.writing.specs.Over.{over};
 ghost use Rattle.writing.specs.Records.{front, slice};
 use table::Kind;
 use table::Limit;
+use table::Most;
 use table::Node;
 use table::Number;
 use table::RECORD_LENGTH;
@@ -56,7 +57,7 @@ pub fn copy_rest(table: &[u8], i: usize, out: &mut [u8], at: usize) -> usize
 
 // ---- The record of a node
 
-// A number's flag, and its field.
+// The flag of a time or bound, and its field.
 pub fn flag_of(number: Number) -> u8
     ensures { λ r. ⌜ (r ≡ flag number) × (r ≤ 1) ⌝ }
 {
@@ -72,6 +73,27 @@ pub fn raw_of(number: Number) -> u64
     match number {
         Number::Plain(n) => n,
         Number::Symbol(n) => n,
+    }
+}
+
+// A limit's flags, halved, and its field.
+fn most_flags(most: Most) -> u8
+    ensures { λ r. ⌜ (r ≡ mostFlags most) × (r ≤ 3) ⌝ }
+{
+    match most {
+        Most::Plain(_) => 0,
+        Most::Symbol(_) => 1,
+        Most::Triangular(_) => 3,
+    }
+}
+
+fn most_field(most: Most) -> u64
+    ensures { λ r. ⌜ r ≡ mostField most ⌝ }
+{
+    match most {
+        Most::Plain(n) => n,
+        Most::Symbol(s) => s,
+        Most::Triangular(s) => s,
     }
 }
 
@@ -107,11 +129,11 @@ fn loop_byte(limit: Limit) -> u8
     }
 }
 
-fn most_of(limit: Limit) -> Number
+fn most_of(limit: Limit) -> Most
     ensures { λ r. ⌜ r ≡ limitNum limit ⌝ }
 {
     match limit {
-        Limit::Unlimited => Number::Plain(0),
+        Limit::Unlimited => Most::Plain(0),
         Limit::AtMost(_, most) => most,
     }
 }
@@ -125,10 +147,10 @@ fn record_of(node: Node, count: u8) -> [u8; RECORD_LENGTH]
     let value = value_of(kind);
     let most = most_of(limit);
     let v = raw_of(value);
-    let m = raw_of(most);
+    let m = most_field(most);
     [
         kind_byte(kind),
-        flag_of(value) + 2 * flag_of(most),
+        flag_of(value) + 2 * most_flags(most),
         count,
         loop_byte(limit),
         (m % 256) as u8,

@@ -11,7 +11,7 @@ use Rattle.booleans.specs.Tests.{_and_}
 use Rattle.booleans.specs.Laws.{both}
 use Rattle.table.specs.Trees.{Tree, node, Forest, nil, _▸_}
 use Rattle.evaluate.specs.Nodes.{Limit, Unlimited, AtMost, Kind, Block, Sequence, Choice, Loop}
-use Rattle.evaluate.specs.Evaluate.{Values, amount}
+use Rattle.evaluate.specs.Evaluate.{Values, amount, allowed}
 use Rattle.evaluate.specs.Runs.{total, All, Pass, PassIn, Spot, SpotIn, limitAt, count, cost, keeps, here, Admitted, AdmittedIn, Costs}
 
 -- every node passes a test
@@ -48,24 +48,24 @@ module _ (v : Values) where
   -- z passes keep a limit on the whole run, and one on the loop at hand
   unfoldable pub keepsLimit : Limit → ℕ → Bool
   keepsLimit Unlimited z = true
-  keepsLimit (AtMost k m) z = leb z (amount v m)
+  keepsLimit (AtMost k m) z = leb z (allowed v m)
 
   unfoldable pub keepsHere : Limit → ℕ → Bool
   keepsHere Unlimited z = true
-  keepsHere (AtMost k m) z = cond (leb k 1) (leb z (amount v m)) true
+  keepsHere (AtMost k m) z = cond (leb k 1) (leb z (allowed v m)) true
 
   pub keeps-limit : (l : Limit) (z : ℕ) → T (keepsLimit l z) → keeps v l z
   unfolding keepsLimit keeps
   keeps-limit Unlimited z h = tt
-  keeps-limit (AtMost k m) z h = leb→le z (amount v m) h
+  keeps-limit (AtMost k m) z h = leb→le z (allowed v m) h
 
   pub keeps-here : (l : Limit) (z : ℕ) → T (keepsHere l z) → here v l z
   unfolding keepsHere here
   keeps-here Unlimited z h = tt
   keeps-here (AtMost k m) z h = λ g. go (leb k 1) (le→leb k 1 g) h
     where
-      go : (b : Bool) → T b → T (cond b (leb z (amount v m)) true) → z ≤ amount v m
-      go true g h = leb→le z (amount v m) h
+      go : (b : Bool) → T b → T (cond b (leb z (allowed v m)) true) → z ≤ allowed v m
+      go true g h = leb→le z (allowed v m) h
       go false g h = absurd g
 
   unfoldable mutual

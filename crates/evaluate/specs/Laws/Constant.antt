@@ -5,14 +5,14 @@ use Prim.Native.Nat.{ℕ, _≤_, _-_, _<_, suc}
 use native.Mathlib.Omega.{arith}
 use lib.Dec.{leb, T, ltb→lt, leb→le}
 use borrow.Author.Tests.{leb-true, leb-false}
-use Rattle.evaluate.specs.Nodes.{Kind, Block, Sequence, Choice, Loop, Limit, Unlimited, AtMost, Number, Plain, Symbol}
+use Rattle.evaluate.specs.Nodes.{Kind, Block, Sequence, Choice, Loop, Limit, Unlimited, AtMost, Number, Plain, Symbol, Most}
 use Rattle.booleans.specs.Laws.{by-cond, both}
 use Rattle.table.specs.Numbers.{wholeRun}
 use Rattle.table.specs.Trees.{Tree, node, Forest, nil, _▸_, rest, around}
 use Rattle.lists.specs.Streams.{Stream, group, add, merge, const, cap}
 use Rattle.lists.specs.Laws.MergeLaws.{Const, group-const, add-consts, merge-consts}
-use Rattle.evaluate.specs.Evaluate.{rounds, outward, Values, amount, seen, turns, join, start, inner, limit, name, nameIn, list, before}
-use Rattle.evaluate.specs.Closed.{isUnlimited, stays, closed, closedIn, isPlain, plainKind, plainLimit, symbolFree, symbolFreeIn}
+use Rattle.evaluate.specs.Evaluate.{rounds, outward, Values, amount, seen, turns, join, start, inner, limit, name, nameIn, list, before, allowed}
+use Rattle.evaluate.specs.Closed.{isUnlimited, stays, closed, closedIn, isPlain, plainKind, plainLimit, symbolFree, symbolFreeIn, plainMost}
 use Rattle.evaluate.specs.Laws.Monotone.{name-le, nameIn-le}
 use Rattle.evaluate.specs.Laws.Kinds.{by-join, by-start, by-rest, by-first}
 
@@ -126,10 +126,16 @@ module _ (v w : Values) where
   amount-free (Plain n) h = refl
   amount-free (Symbol k) h = absurd h
 
+  allowed-free : (m : Most) → T (plainMost m) → allowed v m ≡ allowed w m
+  unfolding plainMost allowed
+  allowed-free (Most.Plain n) h = refl
+  allowed-free (Most.Symbol k) h = absurd h
+  allowed-free (Most.Triangular k) h = absurd h
+
   limit-free : (l : Limit) (f : Stream) → T (plainLimit l) → limit v l f ≡ limit w l f
   unfolding plainLimit limit
   limit-free Unlimited f h = refl
-  limit-free (AtMost k m) f h = ap (λ n. cap n f) (amount-free m h)
+  limit-free (AtMost k m) f h = ap (λ n. cap n f) (allowed-free m h)
 
   start-free : (k : Kind) → T (plainKind k) → start v k ≡ start w k
   unfolding plainKind start

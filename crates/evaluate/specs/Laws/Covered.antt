@@ -15,7 +15,7 @@ use Rattle.table.specs.Trees.{Tree, node, Forest, nil, _▸_, rest}
 use Rattle.lists.specs.Streams.{Stream, S, group, const}
 use Rattle.lists.specs.Laws.Sums.{S-group, S-const, S-mono, S-add, S-cap}
 use Rattle.lists.specs.Laws.Merge.{merge-over}
-use Rattle.evaluate.specs.Evaluate.{inner, outward, rounds, Values, amount, seen, name, nameIn, limit, turns, join, start, list, before, figure}
+use Rattle.evaluate.specs.Evaluate.{inner, outward, rounds, Values, amount, seen, name, nameIn, limit, turns, join, start, list, before, figure, allowed}
 use Rattle.evaluate.specs.Runs.{total, All, Pass, PassIn, Spot, SpotIn, out, seenLimit, limitAt, limitIn, count, countIn, cost, costIn, keeps, here, Admitted, AdmittedIn, Run}
 use Rattle.evaluate.specs.Laws.Monotone.{list-falls, before-falls}
 
@@ -175,7 +175,7 @@ module _ (v : Values) where
   -- z passes of a node keep its limit, if that names loop k or one further out
   unfoldable ok : ℕ → Limit → ℕ → Type 0
   ok k Unlimited z = Unit {0}
-  ok k (AtMost j m) z = k ≤ j → z ≤ amount v m
+  ok k (AtMost j m) z = k ≤ j → z ≤ allowed v m
 
   keeps-ok : (l : Limit) (z : ℕ) → keeps v l z → ok 0 l z
   unfolding keeps ok
@@ -209,7 +209,7 @@ module _ (v : Values) where
   ok-both Unlimited z h o = tt
   ok-both (AtMost j m) z h o = λ g. go (leb j 1) refl o
     where
-      go : (b : Bool) → leb j 1 ≡ b → ok 0 (cond b Unlimited (AtMost (outward j) m)) z → z ≤ amount v m
+      go : (b : Bool) → leb j 1 ≡ b → ok 0 (cond b Unlimited (AtMost (outward j) m)) z → z ≤ allowed v m
       go true e o = h (leb-true j 1 e)
       go false e o = o (omega arith)
 
@@ -217,7 +217,7 @@ module _ (v : Values) where
   unfolding limit inner ok
   limit-sound Unlimited f P k z o h = h
   limit-sound (AtMost j m) f P k z o h =
-      let e : min (amount v m) P ≡ P = omega (arith, o (omega arith)) in
+      let e : min (allowed v m) P ≡ P = omega (arith, o (omega arith)) in
       rw (S-cap, e) h
 
   own : {A : Type 0} (k : ℕ) (l : Limit) (rs : List A) → ok k l (total (λ r. 1) rs) → ok k l (length rs)

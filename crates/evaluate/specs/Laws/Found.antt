@@ -17,7 +17,7 @@ use Rattle.lists.specs.Laws.Group.{group-is, group-canonical, group-top, group-
 use Rattle.lists.specs.Laws.Pairs.{members, first-top, are-pairs, top-is}
 use Rattle.lists.specs.Laws.Union.{merge-facts, expand-ever}
 use Rattle.evaluate.specs.Nodes.{Kind, Block, Sequence, Choice, Loop, Limit, Unlimited, AtMost}
-use Rattle.evaluate.specs.Evaluate.{join, outward, rounds, Values, amount, inner, seen, limit, turns}
+use Rattle.evaluate.specs.Evaluate.{join, outward, rounds, Values, amount, inner, seen, limit, turns, allowed}
 use Rattle.evaluate.specs.Evaluator.{Found, joinPairs, unfit, found, checked, joined, looped, goneRound, limited}
 use Rattle.evaluate.specs.Laws.PairCount.{own}
 use Rattle.evaluate.specs.Laws.Settled.{amount-most}
@@ -135,6 +135,6 @@ module _ (v : Values) (ranged : (k : ℕ) → k < firstTimeSymbol → v k ≤ mo
   unfolding limited limit own inner limitInRange
   limited-holds Unlimited s f w k n a h b = record { fits = refl; are = a .are; thin = a .thin; named = a .named; records = ap suc (a .records) }
   limited-holds (AtMost j m) s f w k n a h b =
-      let q = cap-facts (amount v m) (s .pairs) (a .are .canonical) in
-      rw (le-leb (amount v m) mostCount (amount-most v ranged m (both _ _ h .1)), le-leb (suc (width (s .pairs))) mostWeight (omega (arith, a .thin)), a .named, a .records)
-      (found-holds _ _ _ _ _ (are-pairs (q .canonical) (cap-is (amount v m) (s .pairs) ∙ ap (cap (amount v m)) (members (a .are)))) (omega (arith, q .thin, a .thin)))
+      let q = cap-facts (allowed v m) (s .pairs) (a .are .canonical) in
+      rw (le-leb (allowed v m) mostCount (allowed-most v ranged m (both _ _ h .1)), le-leb (suc (width (s .pairs))) mostWeight (omega (arith, a .thin)), a .named, a .records)
+      (found-holds _ _ _ _ _ (are-pairs (q .canonical) (cap-is (allowed v m) (s .pairs) ∙ ap (cap (allowed v m)) (members (a .are)))) (omega (arith, q .thin, a .thin)))

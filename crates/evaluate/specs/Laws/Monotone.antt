@@ -6,7 +6,7 @@ use native.Mathlib.Nat.{mul-le-mul-left, mul-le-mul-right, le-trans}
 use native.Mathlib.Omega.{arith}
 use lib.Dec.{leb, T, leb→le, le→leb}
 use borrow.Author.Tests.{leb-false}
-use Rattle.evaluate.specs.Nodes.{Limit, Unlimited, AtMost, Kind, Block, Sequence, Choice, Loop, Number, Plain, Symbol}
+use Rattle.evaluate.specs.Nodes.{Limit, Unlimited, AtMost, Kind, Block, Sequence, Choice, Loop, Number, Plain, Symbol, Most}
 use Rattle.booleans.specs.Laws.{by-cond, both, join-and}
 use Rattle.table.specs.Numbers.{wholeRun}
 use Rattle.table.specs.Trees.{Tree, node, Forest, nil, _▸_, rest}
@@ -14,7 +14,8 @@ use Rattle.lists.specs.Streams.{Stream, S, const, add, group}
 use Rattle.lists.specs.Laws.Sums.{Falls, cap-falls, const-falls, group-falls, add-falls, S-add, S-cap, S-group, S-const, S-mono}
 use Rattle.lists.specs.Laws.Merge.{merge-falls}
 use Rattle.lists.specs.Laws.MergeLaws.{Under, under-refl, merge-mono}
-use Rattle.evaluate.specs.Evaluate.{Values, amount, limit, rounds, turns, join, start, name, list, before, figure, fits, fitsIn, outward, inner, nameIn, zeros}
+use Rattle.triangular.specs.Laws.Rule.{triangular-mono}
+use Rattle.evaluate.specs.Evaluate.{Values, amount, limit, rounds, turns, join, start, name, list, before, figure, fits, fitsIn, outward, inner, nameIn, zeros, allowed}
 use Rattle.evaluate.specs.Laws.Kinds.{by-join, by-start, by-first}
 
 -- ---- lists never rise
@@ -22,7 +23,7 @@ use Rattle.evaluate.specs.Laws.Kinds.{by-join, by-start, by-first}
 pub limit-falls : (v : Values) (l : Limit) (f : Stream) → Falls f → Falls (limit v l f)
 unfolding limit
 limit-falls v Unlimited f h = h
-limit-falls v (AtMost k m) f h = cap-falls (amount v m) f h
+limit-falls v (AtMost k m) f h = cap-falls (allowed v m) f h
 
 pub rounds-falls : (k n : ℕ) (f : Stream) → Falls f → Falls (rounds k n f)
 unfolding rounds
@@ -57,12 +58,18 @@ module _ (v w : Values) (le : (k : ℕ) → v k ≤ w k) where
   amount-mono (Plain n) = omega arith
   amount-mono (Symbol k) = le k
 
+  allowed-mono : (m : Most) → allowed v m ≤ allowed w m
+  unfolding allowed
+  allowed-mono (Most.Plain n) = omega arith
+  allowed-mono (Most.Symbol k) = le k
+  allowed-mono (Most.Triangular k) = triangular-mono (v k) (w k) (le k)
+
   limit-mono : (l : Limit) (f g : Stream) → Under f g → Under (limit v l f) (limit w l g)
   unfolding limit
   limit-mono Unlimited f g u P = u P
   limit-mono (AtMost k m) f g u P =
-      let h : min (amount v m) P ≤ min (amount w m) P = omega (arith, amount-mono m) in
-      omega (arith, S-cap (amount v m) f P, S-cap (amount w m) g P, u (min (amount v m) P), S-mono g _ _ h)
+      let h : min (allowed v m) P ≤ min (allowed w m) P = omega (arith, allowed-mono m) in
+      omega (arith, S-cap (allowed v m) f P, S-cap (allowed w m) g P, u (min (allowed v m) P), S-mono g _ _ h)
 
   const-mono : (a b : ℕ) → a ≤ b → Under (const a) (const b)
   const-mono a b l P = omega (arith, S-const a P, S-const b P, mul-le-mul-left P l)

@@ -9,7 +9,7 @@ use Rattle.lists.specs.Streams.{Stream, taken}
 use Rattle.lists.specs.Laws.Falls.{Few, add-few, merge-few, const-few, group-few, cap-few}
 use Rattle.lists.specs.Laws.Sums.{Falls}
 use Rattle.evaluate.specs.Nodes.{Limit, Unlimited, AtMost, Kind}
-use Rattle.evaluate.specs.Evaluate.{name, join, rounds, Values, amount, turns, limit, list, before}
+use Rattle.evaluate.specs.Evaluate.{name, join, rounds, Values, amount, turns, limit, list, before, allowed}
 use Rattle.evaluate.specs.Laws.Monotone.{list-falls}
 use Rattle.evaluate.specs.Laws.Kinds.{grouped, by-join, by-start, by-first}
 
@@ -42,7 +42,7 @@ turns-few v k n w f h a = by-first (λ q. Few (q .grouped n w) (q .turns v n f))
 limit-few : (v : Values) (l : Limit) (w : ℕ) (f : Stream) → Few w f → Few (own l w) (limit v l f)
 unfolding own limit
 limit-few v Unlimited w f a P = a P
-limit-few v (AtMost k m) w f a P = omega (arith, cap-few (amount v m) f P .1, a P)
+limit-few v (AtMost k m) w f a P = omega (arith, cap-few (allowed v m) f P .1, a P)
 
 mutual
   unfolding bound list

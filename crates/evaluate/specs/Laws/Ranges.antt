@@ -11,7 +11,7 @@ use Rattle.lists.specs.Streams.{Stream, const, cap, group, shift}
 use Rattle.lists.specs.Pairs.{width, places}
 use Rattle.lists.specs.Laws.Sums.{S-le, S-const, falls-le}
 use Rattle.evaluate.specs.Nodes.{Unlimited, Limit, AtMost}
-use Rattle.evaluate.specs.Evaluate.{Values, amount, limit, figure, fits, list}
+use Rattle.evaluate.specs.Evaluate.{Values, limit, figure, fits, list, allowed}
 use Rattle.evaluate.specs.ListPairs.{listPairs}
 use Rattle.evaluate.specs.Laws.Monotone.{list-falls}
 use Rattle.evaluate.specs.Laws.PairCount.{bound}
@@ -23,7 +23,7 @@ use Rattle.evaluate.specs.Laws.ListPairs.{list-made, few-list-pairs}
 limit-first : (v : Values) (l : Limit) (f : Stream) → limit v l f 0 ≤ f 0
 unfolding limit cap
 limit-first v Unlimited f = omega arith
-limit-first v (AtMost k m) f = by-cond (λ x. x ≤ f 0) (ltb 0 (amount v m)) _ _ (λ e. omega arith) (λ e. omega arith)
+limit-first v (AtMost k m) f = by-cond (λ x. x ≤ f 0) (ltb 0 (allowed v m)) _ _ (λ e. omega arith) (λ e. omega arith)
 
 pub figure-most : (v : Values) (t : Tree) → T (fits v t) → figure v t ≤ mostTime
 unfolding fits figure list

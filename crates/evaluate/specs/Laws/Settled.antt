@@ -3,15 +3,16 @@ use mathlib.Core.Bool.{cond}
 use Prim.Native.Nat.{ℕ, _+_, _*_, _≤_, _<_}
 use native.Mathlib.Omega.{arith}
 use lib.Dec.{leb, T, ltb→lt, leb→le}
-use Rattle.evaluate.specs.Nodes.{Kind, Limit, Unlimited, AtMost, Number, Plain, Symbol}
+use Rattle.evaluate.specs.Nodes.{Kind, Limit, Unlimited, AtMost, Number, Plain, Symbol, Most}
 use Rattle.booleans.specs.Laws.{by-conds, both}
 use Rattle.table.specs.Numbers.{mostCount, firstTimeSymbol}
 use Rattle.table.specs.Trees.{Tree, node, Forest, nil, _▸_, rest}
-use Rattle.table.specs.Questions.{countInRange, limitInRange, listed, listedIn}
+use Rattle.table.specs.Questions.{countInRange, limitInRange, listed, listedIn, mostInRange}
 use Rattle.lists.specs.Streams.{Stream}
 use Rattle.lists.specs.Laws.Sums.{Falls}
 use Rattle.lists.specs.Laws.Settled.{Settled, add-settled, merge-settled, const-settled, group-settled, cap-settled}
-use Rattle.evaluate.specs.Evaluate.{join, rounds, Values, amount, limit, turns, name, list, before}
+use Rattle.triangular.specs.Laws.Rule.{triangular-most}
+use Rattle.evaluate.specs.Evaluate.{join, rounds, Values, amount, limit, turns, name, list, before, allowed}
 use Rattle.evaluate.specs.ListPairs.{placeOf, turned, place, placeIn}
 use Rattle.evaluate.specs.Laws.Monotone.{list-falls, before-falls, turns-falls}
 use Rattle.evaluate.specs.Laws.PairCount.{own, bound, boundIn}
@@ -30,7 +31,7 @@ rounds-settled k n p f a =
 limit-settled : (v : Values) (l : Limit) (p : ℕ) (f : Stream) → Settled p f → Settled (placeOf v l p) (limit v l f)
 unfolding placeOf limit
 limit-settled v Unlimited p f a i q = a i q
-limit-settled v (AtMost k m) p f a i q = cap-settled (amount v m) (amount v m) f (omega arith) i q
+limit-settled v (AtMost k m) p f a i q = cap-settled (allowed v m) (allowed v m) f (omega arith) i q
 
 turns-settled : (v : Values) (k : Kind) (n p : ℕ) (f : Stream) → Settled p f → Settled (turned k n p) (turns v k n f)
 unfolding turns turned
@@ -56,10 +57,16 @@ module _ (v : Values) (ranged : (k : ℕ) → k < firstTimeSymbol → v k ≤ mo
   amount-most (Plain n) h = leb→le n mostCount h
   amount-most (Symbol s) h = ranged s (ltb→lt s firstTimeSymbol h)
 
+  pub allowed-most : (m : Most) → T (mostInRange m) → allowed v m ≤ mostCount
+  unfolding mostInRange allowed
+  allowed-most (Most.Plain n) h = leb→le n mostCount h
+  allowed-most (Most.Symbol s) h = ranged s (ltb→lt s firstTimeSymbol h)
+  allowed-most (Most.Triangular s) h = omega (arith, triangular-most (v s))
+
   own-most : (l : Limit) (w p : ℕ) → T (limitInRange l) → p ≤ w * mostCount → placeOf v l p ≤ own l w * mostCount
   unfolding own placeOf limitInRange
   own-most Unlimited w p h l = l
-  own-most (AtMost k m) w p h l = omega (arith, amount-most m (both _ _ h .1))
+  own-most (AtMost k m) w p h l = omega (arith, allowed-most m (both _ _ h .1))
 
   turned-most : (k : Kind) (n w p : ℕ) → p ≤ w * mostCount → turned k n p ≤ grouped k n w * mostCount
   unfolding turned grouped

@@ -11,7 +11,7 @@ use Rattle.booleans.specs.Laws.{both, by-cond}
 use Rattle.table.specs.Numbers.{wholeRun, mostLoops}
 use Rattle.table.specs.Questions.{nameOk, named, namedIn, share, loops, loopsIn, weight, weightIn}
 use Rattle.table.specs.Trees.{around, Tree, node, Forest, nil, _▸_, rest}
-use Rattle.evaluate.specs.Nodes.{Limit, Unlimited, AtMost, Kind, Number}
+use Rattle.evaluate.specs.Nodes.{Limit, Unlimited, AtMost, Kind, Most}
 use Rattle.evaluate.specs.Evaluate.{inner, outward, seen, name, nameIn}
 use Rattle.evaluate.specs.Laws.PairCount.{own, bound, boundIn}
 use Rattle.evaluate.specs.Laws.Kinds.{grouped, by-first}
@@ -85,7 +85,7 @@ within-loop : (d k : ℕ) → k < wholeRun → within d k ≡ k - 1
 unfolding within
 within-loop d k h = rw (lt-leb wholeRun k h) refl
 
-share-is : (j d : ℕ) (m : Number) → d < wholeRun → T (nameOk (AtMost j m) d) → share (AtMost j m) d ≡ 2 ^ within d j
+share-is : (j d : ℕ) (m : Most) → d < wholeRun → T (nameOk (AtMost j m) d) → share (AtMost j m) d ≡ 2 ^ within d j
 unfolding nameOk share
 share-is j d m l t = go (eqb j wholeRun) refl t
   where

@@ -5,6 +5,8 @@ use Prim.Native.Nat.{ℕ, suc, min, _≤_}
 use native.Mathlib.Omega.{arith}
 use lib.Dec.{T, eqb, leb, le→leb, ltb→lt}
 use borrow.Author.Tests.{eq-eqb, ne-eqb}
+use Rattle.triangular.specs.Triangular.{triangular}
+use Rattle.table.specs.declared.Most.{Most}
 use Rattle.table.specs.declared.Number.{Number}
 use Rattle.table.specs.declared.Number.the-variants.{Plain, Symbol}
 use Rattle.table.specs.declared.Limit.{Limit}
@@ -15,9 +17,9 @@ use Rattle.booleans.specs.Tests.{_and_}
 use Rattle.booleans.specs.Laws.{both, join-and, by-cond, or-else, is-T, T-is}
 use Rattle.table.specs.Numbers.{firstTimeSymbol, mostTime, wholeRun}
 use Rattle.table.specs.Trees.{Tree, node, Forest, nil, _▸_, size, rest, around}
-use Rattle.table.specs.Questions.{Accepted, arity, countInRange, kindInRange, limitInRange, listed, listedIn, nameOk, named, namedIn, timeInRange}
+use Rattle.table.specs.Questions.{Accepted, arity, countInRange, kindInRange, limitInRange, listed, listedIn, nameOk, named, namedIn, timeInRange, mostInRange}
 use Rattle.lists.specs.Streams.{Stream, S, add, cap, const, group, shift}
-use Rattle.evaluate.specs.Evaluate.{Values, amount, before, figure, fits, fitsIn, inner, join, limit, list, name, nameIn, rounds, seen, start, turns}
+use Rattle.evaluate.specs.Evaluate.{Values, amount, before, figure, fits, fitsIn, inner, join, limit, list, name, nameIn, rounds, seen, start, turns, allowed}
 use Rattle.evaluate.specs.Closed.{stays, closed, closedIn}
 use Rattle.evaluate.specs.Laws.Evaluator.{Fair, rest-ranged}
 use Rattle.evaluate.specs.Laws.Ranges.{figure-most}
@@ -113,10 +115,16 @@ module _ (v w : Values) (s : ℕ) (h : firstTimeSymbol ≤ s) (same : (k : ℕ) 
   amount-but (Plain n) r = refl
   amount-but (Symbol k) r = same k (ne-eqb k s (λ e. omega (arith, ltb→lt k firstTimeSymbol r)))
 
+  allowed-but : (m : Most) → T (mostInRange m) → allowed v m ≡ allowed w m
+  unfolding allowed mostInRange
+  allowed-but (Most.Plain n) r = refl
+  allowed-but (Most.Symbol k) r = same k (ne-eqb k s (λ e. omega (arith, ltb→lt k firstTimeSymbol r)))
+  allowed-but (Most.Triangular k) r = ap triangular (same k (ne-eqb k s (λ e. omega (arith, ltb→lt k firstTimeSymbol r))))
+
   limit-but : (l : Limit) (f : Stream) → T (limitInRange l) → limit v l f ≡ limit w l f
   unfolding limit limitInRange
   limit-but Unlimited f r = refl
-  limit-but (AtMost k m) f r = ap (λ n. cap n f) (amount-but m (both _ _ r .1))
+  limit-but (AtMost k m) f r = ap (λ n. cap n f) (allowed-but m (both _ _ r .1))
 
   start-but : (k : Kind) → T (kindInRange k) → isSymbol s k ≡ false → start v k ≡ start w k
   unfolding start isSymbol amount

@@ -14,7 +14,7 @@ use Rattle.lists.specs.Streams.{const}
 use Rattle.evaluate.specs.Closed.{isPlain, plainKind}
 use Rattle.evaluate.specs.Evaluate.{Values, amount, limit, start, list, inner, name, fits}
 use Rattle.evaluate.specs.Laws.Constant.{unlimited-is}
-use Rattle.simplify.specs.Nodes.{Number, Plain, Symbol, Kind, Block, Sequence, Choice, Loop, Unlimited, Limit}
+use Rattle.simplify.specs.Nodes.{Plain, Symbol, Kind, Block, Sequence, Choice, Loop, Unlimited, Limit, Most}
 use Rattle.simplify.specs.Rules.{isBlock, timeOfKind, leaf, bare, timeOf}
 use Rattle.simplify.specs.Laws.Same.{node-is}
 
@@ -56,7 +56,7 @@ pub leaf-named : (x d : ℕ) → T (named (leaf x Unlimited) d)
 unfolding leaf named nameOk _and_
 leaf-named x d = tt
 
-pub leaf-limits : (p : ℕ → Number → Bool) (x : ℕ) → T (everyLimit p (leaf x Unlimited))
+pub leaf-limits : (p : ℕ → Most → Bool) (x : ℕ) → T (everyLimit p (leaf x Unlimited))
 unfolding leaf everyLimit limitHolds _and_
 leaf-limits p x = tt
 

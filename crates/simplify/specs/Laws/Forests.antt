@@ -9,7 +9,7 @@ use Rattle.table.specs.Questions.{depth, depthIn, listed, listedIn, named, name
 use Rattle.table.specs.Limits.{everyLimit, everyLimitIn}
 use Rattle.table.specs.Trees.{Tree, Forest, nil, _▸_, _⧺_, size, records, recordsIn}
 use Rattle.evaluate.specs.Evaluate.{Values, fits, fitsIn}
-use Rattle.simplify.specs.Nodes.{Kind, Number}
+use Rattle.simplify.specs.Nodes.{Kind, Most}
 use Rattle.simplify.specs.Laws.Refines.{SumKind}
 
 -- ---- children put together
@@ -44,7 +44,7 @@ pub listed-each : Each listed listedIn
 unfolding listed
 listed-each = record { none = tt; apart = λ t f h. both _ _ h; more = λ t f h i. join-and _ _ h i }
 
-pub limits-each : (p : ℕ → Number → Bool) → Each (everyLimit p) (everyLimitIn p)
+pub limits-each : (p : ℕ → Most → Bool) → Each (everyLimit p) (everyLimitIn p)
 unfolding everyLimit
 limits-each p = record { none = tt; apart = λ t f h. both _ _ h; more = λ t f h i. join-and _ _ h i }
 

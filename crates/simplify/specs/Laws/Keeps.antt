@@ -14,7 +14,7 @@ use Rattle.table.specs.Limits.{everyLimit, everyLimitIn}
 use Rattle.table.specs.Trees.{Tree, records, Forest, node, size, _▸_, rest, around}
 use Rattle.evaluate.specs.Evaluate.{Values, name, list, fits, zeros, nameIn, before, fitsIn, inner, limit, seen, turns, join, figure}
 use Rattle.evaluate.specs.Laws.Joins.{join-right}
-use Rattle.simplify.specs.Nodes.{Kind, Node, Number}
+use Rattle.simplify.specs.Nodes.{Kind, Node, Most}
 
 pub record Keeps (asked : Bool) (u t : Tree) : Type 0 where
   pub sameName : name u ≡ name t
@@ -25,7 +25,7 @@ pub record Keeps (asked : Bool) (u t : Tree) : Type 0 where
   pub nested : (d : ℕ) → loops u d ≤ loops t d
   pub stillNamed : (d : ℕ) → T (named t d) → T (named u d)
   pub weighed : (d : ℕ) → weight u d ≤ weight t d
-  pub limits : (p : ℕ → Number → Bool) → T (everyLimit p t) → T (everyLimit p u)
+  pub limits : (p : ℕ → Most → Bool) → T (everyLimit p t) → T (everyLimit p u)
 
 -- the same of the children of a node of kind k
 pub record KeepsIn (asked : Bool) (k : Kind) (g f : Forest) : Type 0 where
@@ -37,7 +37,7 @@ pub record KeepsIn (asked : Bool) (k : Kind) (g f : Forest) : Type 0 where
   pub nested : (d : ℕ) → loopsIn k g d ≤ loopsIn k f d
   pub stillNamed : (d : ℕ) → T (namedIn k f d) → T (namedIn k g d)
   pub weighed : (d : ℕ) → weightIn k g d ≤ weightIn k f d
-  pub limits : (p : ℕ → Number → Bool) → T (everyLimitIn p f) → T (everyLimitIn p g)
+  pub limits : (p : ℕ → Most → Bool) → T (everyLimitIn p f) → T (everyLimitIn p g)
 
 -- ---- one change after another: keeps-trans, keepsIn-refl and keepsIn-trans serve a change made of several, as a reordering of children is
 
@@ -153,7 +153,7 @@ pub record Kept (asked : Bool) (u t : Tree) : Type 0 where
   pub stillFits : (v : Values) → T (fits v t) → T (fits v u)
   pub stillAccepted : (T asked → T (fits zeros t)) → Accepted t → Accepted u
   pub noMore : (T asked → T (fits zeros t)) → Accepted t → records u ≤ records t
-  pub limits : (p : ℕ → Number → Bool) → T (everyLimit p t) → T (everyLimit p u)
+  pub limits : (p : ℕ → Most → Bool) → T (everyLimit p t) → T (everyLimit p u)
 
 -- no more records is all that it takes besides
 pub keeps-kept : {asked : Bool} (u t : Tree) → Keeps asked u t → (T (listed t) → records u ≤ records t) → Kept asked u t

@@ -17,7 +17,7 @@ use Rattle.evaluate.specs.Closed.{closed}
 use Rattle.evaluate.specs.Evaluate.{inner, name, seen, nameIn, Values, limit, start, list, before, turns, join, fits}
 use Rattle.evaluate.specs.Laws.Constant.{unlimited-is, closed-const}
 use Rattle.evaluate.specs.Laws.Monotone.{name-le, list-falls, before-falls}
-use Rattle.simplify.specs.Nodes.{Sequence, Unlimited, Choice, Limit, Number}
+use Rattle.simplify.specs.Nodes.{Sequence, Unlimited, Choice, Limit, Most}
 use Rattle.simplify.specs.Rules.{children, isPair, headOf, tailOf, firstOf, secondOf, allPairs, firsts, shares, sharedOut}
 use Rattle.simplify.specs.Laws.Refines.{Refines, choice-sum}
 use Rattle.simplify.specs.Laws.Same.{at, kind-is, node-is, same-is}
@@ -155,7 +155,7 @@ shared-named l t c x d h =
     let y = both _ _ (both _ _ p .1) .1 in
     join-and _ _ a (join-and _ _ (join-and _ _ tt (each-first (named-each Choice choice-sum d) x (λ u m. both _ _ (both _ _ m .1) .0) (t ▸ c) b)) y)
 
-shared-limits : (p : ℕ → Number → Bool) (l : Limit) (t : Tree) (c : Forest) (x : Tree) → T (everyLimit p (node (at Choice l) (withEach (t ▸ c) x))) → T (everyLimit p (factored l (t ▸ c) x))
+shared-limits : (p : ℕ → Most → Bool) (l : Limit) (t : Tree) (c : Forest) (x : Tree) → T (everyLimit p (node (at Choice l) (withEach (t ▸ c) x))) → T (everyLimit p (factored l (t ▸ c) x))
 unfolding everyLimit withEach limitHolds
 shared-limits p l t c x h =
     let (a, b) = both _ _ h in

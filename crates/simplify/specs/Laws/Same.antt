@@ -4,10 +4,11 @@ use lib.Dec.{T, eqb→eq, eqb-refl}
 use Rattle.booleans.specs.Laws.{both, join-and}
 use Rattle.table.specs.Trees.{Forest, nil, _▸_, node, Tree}
 use Rattle.table.specs.Questions.{listed}
-use Rattle.table.specs.Table.{encode, decode}
+use Rattle.table.specs.Table.{encode, decode, mostField, mostFlags, mostFrom}
 use Rattle.table.specs.Laws.NotRefused.{reads-back}
-use Rattle.simplify.specs.Nodes.{Number, Plain, Symbol, Limit, Unlimited, AtMost, Kind, Block, Sequence, Choice, Loop, Node}
-use Rattle.simplify.specs.Same.{sameNumber, sameLimit, sameKind, same, sameIn}
+use Rattle.table.specs.Laws.RoundTrip.{most-flags}
+use Rattle.simplify.specs.Nodes.{Number, Plain, Symbol, Most, Limit, Unlimited, AtMost, Kind, Block, Sequence, Choice, Loop, Node}
+use Rattle.simplify.specs.Same.{sameNumber, sameMost, sameLimit, sameKind, same, sameIn}
 
 pub number-is : (m n : Number) → T (sameNumber m n) → m ≡ n
 unfolding sameNumber
@@ -16,12 +17,18 @@ number-is (Plain m) (Symbol n) h = absurd h
 number-is (Symbol m) (Plain n) h = absurd h
 number-is (Symbol m) (Symbol n) h = ap Symbol (eqb→eq m n h)
 
+pub most-is : (m n : Most) → T (sameMost m n) → m ≡ n
+unfolding sameMost
+most-is m n h =
+    let (a, b) = both _ _ h in
+    sym (most-flags m _ refl) ∙ ap₂ mostFrom (eqb→eq _ _ a) (eqb→eq _ _ b) ∙ most-flags n _ refl
+
 pub limit-is : (l r : Limit) → T (sameLimit l r) → l ≡ r
 unfolding sameLimit
 limit-is Unlimited Unlimited h = refl
 limit-is Unlimited (AtMost j n) h = absurd h
 limit-is (AtMost k m) Unlimited h = absurd h
-limit-is (AtMost k m) (AtMost j n) h = let (a, b) = both _ _ h in ap₂ AtMost (eqb→eq k j a) (number-is m n b)
+limit-is (AtMost k m) (AtMost j n) h = let (a, b) = both _ _ h in ap₂ AtMost (eqb→eq k j a) (most-is m n b)
 
 pub kind-is : (j k : Kind) → T (sameKind j k) → j ≡ k
 unfolding sameKind
@@ -70,10 +77,14 @@ unfolding sameNumber
 self-number (Plain n) = eqb-refl n
 self-number (Symbol s) = eqb-refl s
 
+self-most : (m : Most) → T (sameMost m m)
+unfolding sameMost
+self-most m = join-and _ _ (eqb-refl (mostFlags m)) (eqb-refl (mostField m))
+
 self-limit : (l : Limit) → T (sameLimit l l)
 unfolding sameLimit
 self-limit Unlimited = tt
-self-limit (AtMost k m) = join-and _ _ (eqb-refl k) (self-number m)
+self-limit (AtMost k m) = join-and _ _ (eqb-refl k) (self-most m)
 
 self-kind : (k : Kind) → T (sameKind k k)
 unfolding sameKind

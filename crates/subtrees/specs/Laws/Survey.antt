@@ -11,12 +11,12 @@ use borrow.Author.Tests.{ltb-false, ltb-true, ne-eqb}
 use Rattle.booleans.specs.Laws.{both}
 use Rattle.booleans.specs.Tests.{_and_}
 use Rattle.table.specs.Numbers.{mostRecords, recordLength}
-use Rattle.table.specs.Table.{childByte, firstNode, flag, flagless, limitNum, loopByte, recordBytes, recordCount, valueNum}
+use Rattle.table.specs.Table.{childByte, firstNode, flag, flagless, limitNum, loopByte, recordBytes, recordCount, valueNum, mostFlags}
 use Rattle.table.specs.Questions.{limitInRange, listed}
 use Rattle.table.specs.Trees.{Forest, node, _▸_, records, recordsIn}
-use Rattle.evaluate.specs.Closed.{isPlain, plainKind, plainLimit, symbolFree, symbolFreeIn}
+use Rattle.evaluate.specs.Closed.{isPlain, plainKind, plainLimit, symbolFree, symbolFreeIn, plainMost}
 use Rattle.evaluate.specs.Evaluate.{inner, name}
-use Rattle.subtrees.specs.Nodes.{AtMost, Block, Choice, Kind, Limit, Loop, Node, Number, Plain, Sequence, Symbol, Unlimited}
+use Rattle.subtrees.specs.Nodes.{AtMost, Block, Choice, Kind, Limit, Loop, Node, Number, Plain, Sequence, Symbol, Unlimited, Most}
 use Rattle.subtrees.specs.Facts.{Known, MarkedAt, belowAt, belowOf, childIn, isLoop, marksEach, noChild, reach, reachBelow, symbols, symbolsIn}
 use Rattle.subtrees.specs.Marks.{limitedName, marked}
 use Rattle.table.specs.Checking.{IsTable}
@@ -109,23 +109,28 @@ plain-value Sequence = refl
 plain-value Choice = refl
 plain-value (Loop n) = plain-flag n
 
-plain-most : (l : Limit) → plainLimit l ≡ eqb (flag (limitNum l)) 0
-unfolding plainLimit limitNum flag
-plain-most Unlimited = refl
-plain-most (AtMost k m) = plain-flag m
+plain-flags : (m : Most) → plainMost m ≡ eqb (mostFlags m) 0
+unfolding plainMost mostFlags
+plain-flags (Most.Plain n) = refl
+plain-flags (Most.Symbol s) = refl
+plain-flags (Most.Triangular s) = refl
 
-both-flags : (v m : Number) → (eqb (flag v) 0 and eqb (flag m) 0) ≡ eqb (flag v + 2 * flag m) 0
-unfolding flag _and_
-both-flags (Plain a) (Plain b) = refl
-both-flags (Plain a) (Symbol b) = refl
-both-flags (Symbol a) (Plain b) = refl
-both-flags (Symbol a) (Symbol b) = refl
+plain-most : (l : Limit) → plainLimit l ≡ eqb (mostFlags (limitNum l)) 0
+unfolding plainLimit limitNum mostFlags
+plain-most Unlimited = refl
+plain-most (AtMost k m) = plain-flags m
+
+both-flags : (v s : ℕ) → (eqb v 0 and eqb s 0) ≡ eqb (v + 2 * s) 0
+unfolding _and_
+both-flags zero zero = refl
+both-flags zero (suc s) = rw (ne-eqb (suc s) 0 (omega arith), ne-eqb (0 + 2 * suc s) 0 (omega arith)) refl
+both-flags (suc v) s = rw (ne-eqb (suc v) 0 (omega arith), ne-eqb (suc v + 2 * s) 0 (omega arith)) refl
 
 -- a record with no flag
 flagless-is : (b : List ℕ) (i : ℕ) (h : Here b i) → flagless (drop (recordLength * i) b) ≡ (plainKind (h .own .kind) and plainLimit (h .own .limit))
 unfolding flagless recordBytes
 flagless-is b i h =
-    rw (h .bytes, plain-value (h .own .kind), plain-most (h .own .limit)) (sym (both-flags (valueNum (h .own .kind)) (limitNum (h .own .limit))))
+    rw (h .bytes, plain-value (h .own .kind), plain-most (h .own .limit)) (sym (both-flags (flag (valueNum (h .own .kind))) (mostFlags (limitNum (h .own .limit)))))
 
 -- a symbol of the node, or below it
 symbols-of : (n : Node) (f : Forest) → cond (plainKind (n .kind) and plainLimit (n .limit)) (symbolsIn f) 1 ≡ symbols (node n f)

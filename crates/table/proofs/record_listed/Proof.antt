@@ -33,9 +33,7 @@ flags-listed-requires c κs = search needs
 
 returns : tie.Need-returns
 returns c =
-    let limit = c .before in
-    let kind = limit .before .before .before in
-    rw (c .flags-listed .ensures, limit .limit-listed .ensures, limit .before .read-u32 .ensures .0, kind .kind-listed .ensures, kind .before .read-u64 .ensures) refl
+    rw (c .flags-listed .ensures, c .before .limit-listed .ensures, c .before .before .read-u32 .ensures .0, c .before .before .before .before .kind-listed .ensures, c .before .before .before .before .before .read-u64 .ensures) refl
 
 pub record-listed-spec : {M : Type 1} → statement M
 record-listed-spec =

@@ -68,7 +68,7 @@ unfolding numFrom flag
 num-flag (Plain n) x h = ap Plain h
 num-flag (Symbol n) x h = ap Symbol h
 
-most-flags : (m : Most) (x : ℕ) → x ≡ mostField m → mostFrom (mostFlags m) x ≡ m
+pub most-flags : (m : Most) (x : ℕ) → x ≡ mostField m → mostFrom (mostFlags m) x ≡ m
 unfolding mostFrom mostFlags
 most-flags (Most.Plain n) x h = ap Most.Plain h
 most-flags (Most.Symbol s) x h = ap Most.Symbol h
@@ -156,11 +156,15 @@ mutual
   length-encodes nil = omega arith
   length-encodes (t ▸ f) = rw (length-append, length-encode t, length-encodes f) (omega arith)
 
+pub whole-forest : (t : Tree) → Writes t → forest (recordCount (encode t)) (encode t) ≡ t ▸ nil
+unfolding forest
+whole-forest t h =
+    let n : recordCount (encode t) ≡ records t + 0 = rw length-encode (omega arith) in
+    rw n (rw (← append-nil (encode t)) (forest-tree t h 0 []))
+
 pub decode-encode : (t : Tree) → Writes t → decode (encode t) ≡ t
 unfolding decode top
-decode-encode t h =
-    let n : recordCount (encode t) ≡ records t + 0 = rw length-encode (omega arith) in
-    rw n (rw (← append-nil (encode t)) (ap top (forest-tree t h 0 [])))
+decode-encode t h = ap top (whole-forest t h)
 
 -- what stands behind n records and the tree t
 pub drop-tree : (t : Tree) (n : ℕ) (b z : List ℕ) → drop (recordLength * n) b ≡ encode t ++ z → drop (recordLength * (n + records t)) b ≡ z

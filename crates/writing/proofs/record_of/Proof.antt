@@ -2,7 +2,7 @@
 use mathlib.Core.Path.{ap, _∙_}
 use borrow.Author.Needs.{needs}
 use Rattle.table.specs.Bytes.{toBytes}
-use Rattle.table.specs.Table.{flag, raw}
+use Rattle.table.specs.Table.{flag, mostField, mostFlags, raw}
 use Rattle.writing.specs.Laws.Records.{record-parts}
 use Rattle.writing.proofs.record_of.Statement.{statement}
 use Rattle.writing.proofs.record_of.Tie as tie
@@ -16,8 +16,8 @@ most-of-requires c κs = search needs
 raw-of-requires : tie.Need-raw-of-requires
 raw-of-requires c κs = search needs
 
-raw-of-requires-2 : tie.Need-raw-of-requires-2
-raw-of-requires-2 c κs = search needs
+most-field-requires : tie.Need-most-field-requires
+most-field-requires c κs = search needs
 
 kind-byte-requires : tie.Need-kind-byte-requires
 kind-byte-requires c κs = search needs
@@ -25,8 +25,8 @@ kind-byte-requires c κs = search needs
 flag-of-requires : tie.Need-flag-of-requires
 flag-of-requires c κs = search needs
 
-flag-of-requires-2 : tie.Need-flag-of-requires-2
-flag-of-requires-2 c κs = search needs
+most-flags-requires : tie.Need-most-flags-requires
+most-flags-requires c κs = search needs
 
 mul-t12 : tie.Need-mul-t12
 mul-t12 c = search needs
@@ -86,10 +86,10 @@ returns c =
     _
     (bytes .kind-byte .ensures)
     (flags .before .flag-of .ensures .0 ∙ ap flag value)
-    (flags .flag-of2 .ensures .0 ∙ ap flag most)
+    (flags .most-flags .ensures .0 ∙ ap mostFlags most)
     (c .loop-byte .ensures)
     (raws .before .raw-of .ensures ∙ ap raw value)
-    (raws .raw-of2 .ensures ∙ ap raw most)
+    (raws .most-field .ensures ∙ ap mostField most)
 
 pub record-of-spec : {M : Type 1} → statement M
 record-of-spec =
@@ -98,10 +98,10 @@ record-of-spec =
     value-of-requires
     most-of-requires
     raw-of-requires
-    raw-of-requires-2
+    most-field-requires
     kind-byte-requires
     flag-of-requires
-    flag-of-requires-2
+    most-flags-requires
     mul-t12
     add-t13
     loop-byte-requires
