@@ -1,27 +1,44 @@
 -- Demand 2: what a figure promises of the runs of the table's tree under the values it was quoted for.
 use mathlib.Core.Path.{_≡_}
+use mathlib.Core.Bool.{Bool, true}
 use mathlib.Core.List.{List}
 use Prim.Native.Nat.{ℕ, _*_, _≤_, suc}
-use lib.Dec.{T}
+use lib.Dec.{T, eqb}
 use lib.ListN.{take}
+use Rattle.table.specs.Limits.{everyLimit}
 use Rattle.table.specs.Trees.{Tree}
 use Rattle.table.specs.Table.{decode}
-use Rattle.evaluate.specs.Evaluate.{Values, list, valuesOf}
+use Rattle.table.specs.declared.Most.{Most}
+use Rattle.triangular.specs.Triangular.{rule}
+use Rattle.evaluate.specs.Evaluate.{Values, allowed, list, valuesOf}
 use Rattle.evaluate.specs.Runs.{Pass, Run, Costs, cost, limitFree}
 use Rattle.lists.specs.Pairs.{ArePairs, Pairs, numbers, width}
 use Rattle.quoting.specs.declared.Listed.{Listed}
 use Rattle.quoting.specs.declared.Quote.{Quote}
-use Rattle.quoting.specs.Answers.{listedPairs, listedRefusal, quotedFigure, quotedRefusal}
+use Rattle.quoting.specs.Answers.{figureAnswer, listedPairs, listedRefusal, quotedFigure, quotedRefusal}
+use Rattle.quoting.specs.Values.{NoneLower}
+
+-- a limit under flag 4 is the triangular number of its symbol's value itself, and not of a smaller one
+unfoldable pub byRule : Values → Most → Bool
+byRule v (Most.Plain n) = true
+byRule v (Most.Symbol s) = true
+byRule v (Most.Triangular s) = eqb (allowed v (Most.Triangular s)) (rule (v s))
 
 pub record Promised (v : Values) (t : Tree) (x : ℕ) : Type 0 where
   -- no admitted run costs more
   pub covered : (r : Pass t) → Run v t r → cost v t r ≤ x
   -- with no limits in the table, some admitted run costs exactly that
   pub reached : T (limitFree t) → Costs v t x
+  -- the limits that runs keep are document 02's
+  pub ruled : T (everyLimit (λ k m. byRule v m) t)
 
 -- an answer that is no refusal promises this of its figure
 unfoldable pub Promises : (table values : List ℕ) → Quote → Type 0
 Promises b vs q = quotedRefusal q ≡ 0 → Promised (valuesOf vs) (decode b) (quotedFigure q)
+
+-- Raising values never lowers a quote of x for the values v: values none lower that get a figure too get one that is not below it.
+unfoldable pub NeverLowered : (table v : List ℕ) (x : ℕ) → Type 0
+NeverLowered b v x = (w : List ℕ) → NoneLower v w → quotedRefusal (figureAnswer b w) ≡ 0 → x ≤ quotedFigure (figureAnswer b w)
 
 -- What the list call promises: it wrote the pairs of the tree's list, values strictly falling and the last count 0, for ever, and answers how many.
 pub record Listing (v : Values) (t : Tree) (count : ℕ) (buffer : List ℕ) : Type 0 where

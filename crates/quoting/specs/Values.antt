@@ -7,6 +7,11 @@ use lib.ListN.{getD, length}
 use Rattle.booleans.specs.Tests.{_and_}
 use Rattle.table.specs.Numbers.{howManyValues, firstTimeSymbol, mostCount, mostTime}
 use Rattle.table.specs.Asking.{Question, _asks_, firstNo}
+use Rattle.table.specs.Limits.{limitHolds}
+use Rattle.table.specs.Table.{each, firstNode, recordCount}
+use Rattle.table.specs.declared.Most.{Most}
+use Rattle.triangular.specs.Triangular.{mostTriangular}
+use Rattle.evaluate.specs.Evaluate.{Values, valuesOf}
 
 -- the ceiling of value i
 unfoldable pub ceiling : ℕ → ℕ
@@ -21,9 +26,23 @@ ranged i (x ∷ xs) = leb x (ceiling i) and ranged (suc i) xs
 unfoldable pub question9 : List ℕ → Bool
 question9 vs = eqb (length vs) howManyValues and ranged 0 vs
 
+-- 13. a symbol under flag 4 has a value of at most 1,000
+unfoldable pub triangleSmall : Values → Most → Bool
+triangleSmall v (Most.Plain n) = true
+triangleSmall v (Most.Symbol s) = true
+triangleSmall v (Most.Triangular s) = leb (v s) mostTriangular
+
+-- 13. of the first record's limit
+unfoldable pub recordSmall : Values → List ℕ → Bool
+recordSmall v b = limitHolds (λ k m. triangleSmall v m) (firstNode b .limit)
+
+-- 13. every symbol that stands under flag 4 in this table, and no other
+unfoldable pub question13 : (table values : List ℕ) → Bool
+question13 b vs = each (recordSmall (valuesOf vs)) (recordCount b) b
+
 -- every question about a desk's values for a table, put by each call that is lent both; 9 is the same for every table
 unfoldable pub valueQuestions : (table values : List ℕ) → List Question
-valueQuestions b vs = 9 asks question9 vs ∷ []
+valueQuestions b vs = 9 asks question9 vs ∷ 13 asks question13 b vs ∷ []
 
 unfoldable pub valuesRefusal : (table values : List ℕ) → ℕ
 valuesRefusal b vs = firstNo (valueQuestions b vs)

@@ -103,7 +103,7 @@ unfoldable pub flagless : List ℕ → Bool
 flagless b = eqb (getD b 1 0) 0
 
 -- the first record has flag 4, where question 2 says yes of it
-unfoldable pub flagFour : List ℕ → Bool
+abbrev pub flagFour : List ℕ → Bool
 flagFour b = leb 4 (getD b 1 0)
 
 -- the first n trees of a forest, and the others

@@ -170,6 +170,14 @@ pub fn child_count(b: &[u8]) -> usize
     widen(b[2])
 }
 
+// Has the record at the front of `b` flag 4, where question 2 says yes of it?
+pub fn flag_four(b: &[u8]) -> bool
+    requires { ⌜ recordLength ≤ length (now b) ⌝ }
+    ensures { λ r. ⌜ r ≡ flagFour (now (b .entry)) ⌝ }
+{
+    4 <= b[1]
+}
+
 // The node of record i.
 pub fn node_at(table: &[u8], i: usize) -> Node
     requires { ⌜ i < recordCount (now table) ⌝ }
@@ -202,14 +210,6 @@ pub fn flagless_at(table: &[u8], i: usize) -> bool
     ensures { λ r. ⌜ r ≡ flagless (drop (recordLength * i) (now (table .entry))) ⌝ }
 {
     table[RECORD_LENGTH * i + 1] == 0
-}
-
-// Has it flag 4, where question 2 says yes of it?
-pub fn flag_four_at(table: &[u8], i: usize) -> bool
-    requires { ⌜ i < recordCount (now table) ⌝ }
-    ensures { λ r. ⌜ r ≡ flagFour (drop (recordLength * i) (now (table .entry))) ⌝ }
-{
-    4 <= table[RECORD_LENGTH * i + 1]
 }
 
 // ---- Question 1

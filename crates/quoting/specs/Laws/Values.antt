@@ -20,14 +20,30 @@ pub values-nine : (b vs : List ℕ) → valuesRefusal b vs ≡ 0 → T (question
 unfolding valuesRefusal valueQuestions numbered Yes
 values-nine b vs e = all-yes (valueQuestions b vs) tt e .0
 
-pub nine-values : (b vs : List ℕ) → T (question9 vs) → valuesRefusal b vs ≡ 0
-unfolding valuesRefusal valueQuestions Yes
-nine-values b vs h = yes-all (valueQuestions b vs) (h, tt)
+pub values-thirteen : (b vs : List ℕ) → valuesRefusal b vs ≡ 0 → T (question13 b vs)
+unfolding valuesRefusal valueQuestions numbered Yes
+values-thirteen b vs e = all-yes (valueQuestions b vs) tt e .1 .0
 
--- Values that one table's questions let pass pass another's: today they are the same for every table. What reads a table's limits will ask here what
--- the two tables have in common.
-pub values-carry : (b c vs : List ℕ) → valuesRefusal b vs ≡ 0 → valuesRefusal c vs ≡ 0
-values-carry b c vs e = nine-values c vs (values-nine b vs e)
+-- question 13, of the table's tree
+pub thirteen-limits : (b vs : List ℕ) → IsTable b → question13 b vs ≡ everyLimit (λ k m. triangleSmall (valuesOf vs) m) (decode b)
+unfolding question13 recordSmall
+thirteen-limits b vs i = table-limits (λ k m. triangleSmall (valuesOf vs) m) b i
+
+-- Values that one table's questions let pass pass another's, where what holds of every limit of the one tree holds of every limit of the other.
+pub values-carry : (b c vs : List ℕ) → IsTable b → IsTable c → ((p : ℕ → Most → Bool) → T (everyLimit p (decode b)) → T (everyLimit p (decode c)))
+    → valuesRefusal b vs ≡ 0 → valuesRefusal c vs ≡ 0
+unfolding valuesRefusal valueQuestions Yes
+values-carry b c vs i j limits e =
+    let small : T (question13 c vs) = subst T (sym (thirteen-limits c vs j)) (limits _ (subst T (thirteen-limits b vs i) (values-thirteen b vs e))) in
+    yes-all (valueQuestions c vs) (values-nine b vs e, (small, tt))
+
+-- a record without flag 4 is not asked 13
+pub no-flag : (v : Values) (b : List ℕ) → flagFour b ≡ false → recordSmall v b ≡ true
+unfolding recordSmall firstNode
+no-flag v b e = go (getD b 3 0) (getD b 1 0 / 2) (field b 4 4) (omega (arith, leb-false _ _ e))
+  where
+    go : (k s x : ℕ) → s < 2 → limitHolds (λ k m. triangleSmall v m) (limitFrom k (mostFrom s x)) ≡ true
+    go k s x l = go-limit k s x l
 
 -- ---- question 9, value by value
 
