@@ -46,7 +46,7 @@ impl Valued {
 // ---- Numbers
 
 // The value of a symbol; one past the values counts 0, and so do all where simplifying lends none.
-fn value_of(symbol: u64, values: &[u64]) -> u64
+pub fn value_of(symbol: u64, values: &[u64]) -> u64
     ensures { λ r. ⌜ r ≡ getD (now (values .entry)) symbol 0 ⌝ }
 {
     let at = symbol as usize;

@@ -6,18 +6,19 @@ use lib.ListN.{replicate}
 use Rattle.booleans.specs.Tests.{_and_}
 use Rattle.table.specs.Numbers.{howManyValues}
 use Rattle.table.specs.Trees.{Tree, _⧺_, size, rest, around, records}
-use Rattle.table.specs.Questions.{arity, timeInRange, countInRange, kindInRange, limitInRange, listed, depth, loops, nameOk, named, share, weight}
+use Rattle.table.specs.Questions.{arity, timeInRange, countInRange, mostInRange, kindInRange, limitInRange, listed, depth, loops, nameOk, named, share, weight}
 use Rattle.table.specs.Bytes.{toBytes, fromBytes}
-use Rattle.table.specs.Table.{flag, numFrom, kindByte, valueNum, kindFrom, loopByte, limitNum, limitFrom, recordBytes, encode, firstNode, childByte, firstOnes, afterOnes, forest, top, decode, formTrees, each}
+use Rattle.table.specs.Table.{flag, mostFlags, mostFrom, numFrom, kindByte, valueNum, kindFrom, loopByte, limitNum, limitFrom, recordBytes, encode, firstNode, childByte, firstOnes, afterOnes, forest, top, decode, formTrees, each}
 use Rattle.table.specs.Checking.{question1, question2, limitCount, recordInRange, question3, question4, question5, question6, question7, questions}
 use Rattle.table.specs.Asking.{byRefusal, firstNo}
 use Rattle.table.specs.Notation.{_/_at_, allHold, block, both, either, loop, sequence, symbol}
 use Rattle.lists.specs.Streams.{S, const, add, cap, group, shift, merge, next, taken}
 use Rattle.lists.specs.Pairs.{Pairs, ever, run, inFront, tail, pairs}
-use Rattle.evaluate.specs.Evaluate.{amount, inner, outward, seen, name, limit, rounds, turns, join, start, list, figure, fits, zeros}
+use Rattle.evaluate.specs.Evaluate.{allowed, amount, inner, outward, seen, name, limit, rounds, turns, join, start, list, figure, fits, zeros}
 use Rattle.evaluate.specs.ListPairs.{placeOf, turned, place, listPairs}
 use Rattle.quoting.specs.declared.Quote.{Quote}
-use Rattle.quoting.specs.Values.{ceiling, question9, ranged, valueQuestions}
+use Rattle.quoting.specs.Values.{ceiling, question13, question9, ranged, recordSmall, triangleSmall, valueQuestions}
+use Rattle.table.specs.Limits.{limitHolds}
 use Rattle.quoting.specs.Answers.{figureAnswer, figureRefusal, quoteQuestions}
 
 pub isFigure : ℕ → Quote → Bool
@@ -40,5 +41,5 @@ lists t ps = samePairs ps (listPairs zeros t)
 
 -- to unfold this is to unfold all that the cases compute with
 unfoldable pub computed : ℕ
-unfolding block symbol _/_at_ sequence both either loop allHold isFigure quotes samePairs lists _and_ _⧺_ size rest around records S const add cap group shift merge next taken amount inner outward seen name limit rounds turns join start list figure fits arity timeInRange countInRange kindInRange limitInRange listed depth loops nameOk named share weight toBytes fromBytes flag numFrom kindByte valueNum kindFrom loopByte limitNum limitFrom recordBytes encode firstNode childByte firstOnes afterOnes forest top decode formTrees each limitCount recordInRange question1 question2 question3 question4 question5 question6 question7 questions firstNo byRefusal placeOf turned place inFront tail pairs listPairs ceiling ranged question9 valueQuestions quoteQuestions figureRefusal figureAnswer
+unfolding block symbol _/_at_ sequence both either loop allHold isFigure quotes samePairs lists _and_ _⧺_ size rest around records S const add cap group shift merge next taken allowed amount inner outward seen name limit rounds turns join start list figure fits arity timeInRange countInRange mostInRange kindInRange limitInRange listed depth loops nameOk named share weight toBytes fromBytes flag mostFlags mostFrom numFrom kindByte valueNum kindFrom loopByte limitNum limitFrom recordBytes encode firstNode childByte firstOnes afterOnes forest top decode formTrees each limitCount recordInRange question1 question2 question3 question4 question5 question6 question7 questions firstNo byRefusal placeOf turned place inFront tail pairs listPairs ceiling ranged question9 limitHolds triangleSmall recordSmall question13 valueQuestions quoteQuestions figureRefusal figureAnswer
 computed = 0

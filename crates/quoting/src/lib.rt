@@ -1,16 +1,20 @@
 // Checking, the figure and the list. Each answers with an enum: one case with what was asked for, one with the number of the question that says no.
 use table::FIRST_TIME_SYMBOL;
+use table::Limit;
 use table::MOST_COUNT;
 use table::MOST_TIME;
+use table::Most;
 use table::RECORD_LENGTH;
+use triangular::MOST_TRIANGULAR;
 ghost use mathlib.Core.Path.{_≡_};
 ghost use Prim.Native.Nat.{_≤_};
 ghost use lib.ListN.{length, take};
-ghost use Rattle.table.specs.Numbers.{listRoom};
-ghost use Rattle.quoting.specs.Promises.{ListPromises, Promises};
-ghost use Rattle.quoting.specs.Values.{ceiling, question9, valuesRefusal};
+ghost use Rattle.table.specs.Numbers.{listRoom, recordLength};
+ghost use Rattle.quoting.specs.Promises.{ListPromises, NeverLowered, Promises};
+ghost use Rattle.quoting.specs.Values.{ceiling, question13, question9, recordSmall, triangleSmall, valuesRefusal};
+ghost use Rattle.evaluate.specs.Evaluate.{valuesOf};
 ghost use Rattle.writing.specs.Over.{over};
-ghost use Rattle.quoting.specs.Answers.{checkAnswer, figureAnswer, listAnswer, listWrites};
+ghost use Rattle.quoting.specs.Answers.{checkAnswer, figureAnswer, listAnswer, listWrites, quotedFigure, quotedRefusal};
 
 // How many values a desk holds.
 pub const HOW_MANY_VALUES: usize = 32;
@@ -76,11 +80,61 @@ fn values_allowed(values: &[u64]) -> bool
     true
 }
 
+// Question 13 of a limit's number: where its symbol stands under flag 4, is the symbol's value at most 1,000?
+fn triangle_small(most: Most, values: &[u64]) -> bool
+    ensures { λ r. ⌜ r ≡ triangleSmall (valuesOf (now (values .entry))) most ⌝ }
+{
+    match most {
+        Most::Plain(_) => true,
+        Most::Symbol(_) => true,
+        Most::Triangular(symbol) => evaluate::value_of(symbol, values) <= MOST_TRIANGULAR,
+    }
+}
+
+// Question 13 of the record at the front of `b`. Most have no flag 4, and are not read any further.
+fn record_small(b: &[u8], values: &[u64]) -> bool
+    requires { ⌜ recordLength ≤ length (now b) ⌝ }
+    ensures { λ r. ⌜ r ≡ recordSmall (valuesOf (now (values .entry))) (now (b .entry)) ⌝ }
+{
+    if !table::flag_four(b) {
+        return true;
+    }
+    let node = table::read_node(b);
+    let limit = node.limit;
+    match limit {
+        Limit::Unlimited => true,
+        Limit::AtMost(_, most) => triangle_small(most, values),
+    }
+}
+
+// Question 13 of a table.
+fn triangles_small(table: &[u8], values: &[u64]) -> bool
+    ensures { λ r. ⌜ r ≡ question13 (now (table .entry)) (now (values .entry)) ⌝ }
+{
+    let n = table.len() / RECORD_LENGTH;
+    let mut i: usize = 0;
+    while i < n {
+        let at = RECORD_LENGTH * i;
+        if !record_small(&table[at..], values) {
+            return false;
+        }
+        i += 1;
+    }
+    true
+}
+
 // The first question about a desk's values for a table that says no, or 0: each call that is lent both asks here.
 fn values_refusal(table: &[u8], values: &[u64]) -> u64
     ensures { λ r. ⌜ r ≡ valuesRefusal (now (table .entry)) (now (values .entry)) ⌝ }
 {
-    if values_allowed(values) { 0 } else { 9 }
+    if !values_allowed(values) {
+        return 9;
+    }
+    if triangles_small(table, values) {
+        0
+    } else {
+        13
+    }
 }
 
 // Writes the first n numbers of a list over the front of a buffer.
@@ -95,10 +149,11 @@ fn write_front(list: &[u64; LIST_ROOM], n: usize, out: &mut [u64])
     }
 }
 
-// The figure of a table's tree under a desk's values: questions 1 to 7, 9 and 10.
+// The figure of a table's tree under a desk's values: questions 1 to 7, 9, 13 and 10.
 pub fn figure(table: &[u8], values: &[u64]) -> Quote
     ensures answer { λ r. ⌜ r ≡ figureAnswer (now (table .entry)) (now (values .entry)) ⌝ }
     ensures promise { λ r. ⌜ Promises (now (table .entry)) (now (values .entry)) r ⌝ }
+    ensures rising { λ r. ⌜ (quotedRefusal r ≡ 0 → NeverLowered (now (table .entry)) (now (values .entry)) (quotedFigure r)) ⌝ }
 {
     let number = table::refusal_of(table);
     if number != 0 {
@@ -118,7 +173,7 @@ pub fn figure(table: &[u8], values: &[u64]) -> Quote
     }
 }
 
-// The list of a table's tree as pairs of value and count, written over the front of `out`: questions 1 to 10.
+// The list of a table's tree as pairs of value and count, written over the front of `out`: questions 1 to 9, 13 and 10.
 pub fn list(table: &[u8], values: &[u64], out: &mut [u64]) -> Listed
     ensures answer { λ r. ⌜ r ≡ listAnswer (now (table .entry)) (now (values .entry)) (now (out .entry)) ⌝ }
     ensures written { λ r. ⌜ now (out .exit) ≡ over (listWrites (now (table .entry)) (now (values .entry)) (now (out .entry))) (now (out .entry)) ⌝ }

@@ -20,7 +20,7 @@ use Rattle.evaluate.specs.Nodes.{Kind, Block, Sequence, Choice, Loop, Li
 use Rattle.evaluate.specs.Evaluate.{join, outward, rounds, Values, amount, inner, seen, limit, turns, allowed}
 use Rattle.evaluate.specs.Evaluator.{Found, joinPairs, unfit, found, checked, joined, looped, goneRound, limited}
 use Rattle.evaluate.specs.Laws.PairCount.{own}
-use Rattle.evaluate.specs.Laws.Settled.{amount-most}
+use Rattle.evaluate.specs.Laws.Settled.{allowed-most, amount-most}
 use Rattle.evaluate.specs.Laws.Kinds.{grouped}
 
 -- what a walk found is the stream f, with at most w falls, naming loop k, of n records

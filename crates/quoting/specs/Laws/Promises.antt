@@ -3,14 +3,20 @@ use mathlib.Core.Path.{_≡_, refl, ap, sym, subst, _∙_}
 use mathlib.Core.List.{List}
 use Prim.Native.Nat.{ℕ, _*_, suc}
 use native.Mathlib.Omega.{arith}
+use lib.Dec.{T, eqb-refl, leb→le}
 use lib.ListN.{length, take}
+use Rattle.table.specs.Limits.{everyLimit}
 use Rattle.table.specs.Trees.{Tree}
 use Rattle.table.specs.Bytes.{AreBytes}
 use Rattle.table.specs.Table.{decode}
+use Rattle.table.specs.declared.Most.{Most}
+use Rattle.table.specs.Laws.Limits.{limits-follow}
+use Rattle.triangular.specs.Triangular.{mostTriangular, rule}
+use Rattle.triangular.specs.Laws.Rule.{triangular-is}
 use Rattle.table.specs.Questions.{Accepted}
 use Rattle.table.specs.Laws.Accepted.{is-table}
 use Rattle.table.specs.Laws.Asking.{by-refusals}
-use Rattle.evaluate.specs.Evaluate.{Values, valuesOf, figure}
+use Rattle.evaluate.specs.Evaluate.{Values, allowed, valuesOf, figure}
 use Rattle.lists.specs.Pairs.{Pairs, ever, numbers, run, width}
 use Rattle.evaluate.specs.ListPairs.{listPairs}
 use Rattle.evaluate.specs.Laws.ListPairs.{list-pairs}
@@ -19,24 +25,43 @@ use Rattle.evaluate.specs.Laws.Reached.{reached}
 use Rattle.quoting.specs.declared.Listed.{Listed}
 use Rattle.quoting.specs.declared.Quote.{Quote}
 use Rattle.writing.specs.Over.{over}
-use Rattle.quoting.specs.Answers.{figureAnswer, listAnswer, listRefusal, listWrites, listedPairs, listedRefusal}
-use Rattle.quoting.specs.Promises.{ListPromises, Promised, Promises}
+use Rattle.quoting.specs.Answers.{figureAnswer, listAnswer, listRefusal, listWrites, listedPairs, listedRefusal, quotedFigure, quotedRefusal}
+use Rattle.quoting.specs.Promises.{ListPromises, NeverLowered, Promised, Promises, byRule}
+use Rattle.quoting.specs.Values.{triangleSmall}
 use Rattle.writing.specs.Laws.Over.{take-over}
-use Rattle.quoting.specs.Laws.Figures.{figured}
+use Rattle.quoting.specs.Laws.Figures.{figure-monotone, figured}
+use Rattle.quoting.specs.Laws.Values.{thirteen-limits, values-thirteen}
 use Rattle.quoting.specs.Laws.Evaluated.{Lists}
 
-figure-promised : (v : Values) (t : Tree) → Accepted t → Promised v t (figure v t)
-figure-promised v t a = record { covered = covered v t; reached = λ h. reached v t h (a .listed) }
+small-ruled : (v : Values) (m : Most) → T (triangleSmall v m) → T (byRule v m)
+unfolding triangleSmall byRule allowed
+small-ruled v (Most.Plain n) h = tt
+small-ruled v (Most.Symbol s) h = tt
+small-ruled v (Most.Triangular s) h = rw (triangular-is (v s) (leb→le (v s) mostTriangular h)) (eqb-refl (rule (v s)))
+
+figure-promised : (v : Values) (t : Tree) → Accepted t → T (everyLimit (λ k m. triangleSmall v m) t) → Promised v t (figure v t)
+figure-promised v t a h = record {
+  covered = covered v t;
+  reached = λ f. reached v t f (a .listed);
+  ruled = limits-follow _ _ (λ k m. small-ruled v m) t h;
+}
 
 pub figure-promises : (b vs : List ℕ) → AreBytes b → Promises b vs (figureAnswer b vs)
 unfolding Promises
 figure-promises b vs h = λ p.
     let f = figured b vs p in
-    subst (Promised (valuesOf vs) (decode b)) (sym (f .is)) (figure-promised (valuesOf vs) (decode b) (is-table b h (f .accepted) .accepted))
+    let i = is-table b h (f .accepted) in
+    let small = subst T (thirteen-limits b vs i) (values-thirteen b vs (f .allowed)) in
+    subst (Promised (valuesOf vs) (decode b)) (sym (f .is)) (figure-promised (valuesOf vs) (decode b) (i .accepted) small)
 
--- an answer that is the figure call's keeps them too
-pub kept : (b vs : List ℕ) → AreBytes b → (r : Quote) → r ≡ figureAnswer b vs → (r ≡ figureAnswer b vs) × Promises b vs r
-kept b vs h r e = (e, subst (Promises b vs) (sym e) (figure-promises b vs h))
+-- an answer that is the figure call's keeps them too, and values none lower never lower it
+pub kept : (b vs : List ℕ) → AreBytes b → (r : Quote) → r ≡ figureAnswer b vs
+    → (r ≡ figureAnswer b vs) × (Promises b vs r × (quotedRefusal r ≡ 0 → NeverLowered b vs (quotedFigure r)))
+unfolding NeverLowered
+kept b vs h r e = (
+  e,
+  (subst (Promises b vs) (sym e) (figure-promises b vs h), λ p w l q. rw e (figure-monotone b vs w l (ap quotedRefusal (sym e) ∙ p) q)),
+)
 
 -- ---- the list call
 

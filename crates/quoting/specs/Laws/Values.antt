@@ -1,20 +1,25 @@
 -- The questions about values. Question 9 as a program puts it, value by value, and what it says of each.
-use mathlib.Core.Path.{_≡_, refl, sym, _∙_}
-use mathlib.Core.Bool.{true, false}
+use mathlib.Core.Path.{_≡_, refl, sym, subst, _∙_}
+use mathlib.Core.Bool.{Bool, true, false}
 use mathlib.Core.List.{List, [], _∷_}
-use Prim.Native.Nat.{ℕ, zero, suc, _+_, _<_, _≤_}
+use Prim.Native.Nat.{ℕ, zero, suc, _+_, _/_, _<_, _≤_}
 use native.Mathlib.Nat.{add-zero}
 use native.Mathlib.Omega.{arith}
 use lib.Dec.{T, leb→le, eqb→eq}
 use lib.ListN.{length, getD, drop}
 use lib.Seq.{drop-cons, drop-length}
-use borrow.Author.Tests.{eq-eqb, ne-eqb, le-leb, lt-leb, lt-ltb}
+use borrow.Author.Tests.{eq-eqb, leb-false, ne-eqb, le-leb, lt-leb, lt-ltb}
 use Rattle.booleans.specs.Tests.{_and_}
 use Rattle.booleans.specs.Laws.{both}
 use Rattle.table.specs.Numbers.{howManyValues, firstTimeSymbol, mostCount}
-use Rattle.evaluate.specs.Evaluate.{valuesOf}
+use Rattle.table.specs.Checking.{IsTable}
+use Rattle.table.specs.Limits.{everyLimit, limitHolds}
+use Rattle.table.specs.Table.{decode, field, firstNode, flagFour, limitFrom, mostFrom}
+use Rattle.table.specs.declared.Most.{Most}
+use Rattle.table.specs.Laws.Limits.{table-limits}
+use Rattle.evaluate.specs.Evaluate.{Values, valuesOf}
 use Rattle.table.specs.Laws.Asking.{Yes, all-yes, numbered, yes-all}
-use Rattle.quoting.specs.Values.{ceiling, question9, ranged, valueQuestions, valuesRefusal}
+use Rattle.quoting.specs.Values.{ceiling, question13, question9, ranged, recordSmall, triangleSmall, valueQuestions, valuesRefusal}
 
 pub values-nine : (b vs : List ℕ) → valuesRefusal b vs ≡ 0 → T (question9 vs)
 unfolding valuesRefusal valueQuestions numbered Yes
@@ -38,12 +43,16 @@ values-carry b c vs i j limits e =
     yes-all (valueQuestions c vs) (values-nine b vs e, (small, tt))
 
 -- a record without flag 4 is not asked 13
+low-flags : (v : Values) (k s x : ℕ) → s < 2 → limitHolds (λ k m. triangleSmall v m) (limitFrom k (mostFrom s x)) ≡ true
+unfolding limitHolds limitFrom mostFrom triangleSmall
+low-flags v zero s x l = refl
+low-flags v (suc k) zero x l = refl
+low-flags v (suc k) (suc zero) x l = refl
+low-flags v (suc k) (suc (suc s)) x l = absurd (omega arith)
+
 pub no-flag : (v : Values) (b : List ℕ) → flagFour b ≡ false → recordSmall v b ≡ true
 unfolding recordSmall firstNode
-no-flag v b e = go (getD b 3 0) (getD b 1 0 / 2) (field b 4 4) (omega (arith, leb-false _ _ e))
-  where
-    go : (k s x : ℕ) → s < 2 → limitHolds (λ k m. triangleSmall v m) (limitFrom k (mostFrom s x)) ≡ true
-    go k s x l = go-limit k s x l
+no-flag v b e = low-flags v (getD b 3 0) (getD b 1 0 / 2) (field b 4 4) (omega (arith, leb-false 4 (getD b 1 0) e))
 
 -- ---- question 9, value by value
 
