@@ -1,5 +1,6 @@
 use mathlib.Core.Path.{refl, sym, _∙_}
 use borrow.Author.Needs.{needs}
+use borrow.Author.Tests.{not-false, not-true}
 use Rattle.table.specs.Asking.{firstNo}
 use Rattle.quoting.specs.Values.{valueQuestions, valuesRefusal}
 use Rattle.quoting.proofs.values_refusal.Statement.{statement}
@@ -10,11 +11,23 @@ values-allowed-requires c κs = search needs
 
 returns : tie.Need-returns
 unfolding valuesRefusal valueQuestions firstNo
-returns c = rw (sym (c .before .values-allowed .ensures) ∙ c .if1 .taken) refl
+returns c = rw (sym (c .before .values-allowed .ensures) ∙ not-true _ (c .if1 .taken)) refl
+
+triangles-small-requires : tie.Need-triangles-small-requires
+triangles-small-requires c κs = search needs
 
 returns-2 : tie.Need-returns-2
 unfolding valuesRefusal valueQuestions firstNo
-returns-2 c = rw (sym (c .before .values-allowed .ensures) ∙ c .if1 .left) refl
+returns-2 c =
+    let nine = c .before .before in
+    rw (sym (nine .before .values-allowed .ensures) ∙ not-false _ (nine .if1 .left), sym (c .before .triangles-small .ensures) ∙ c .if2 .taken) refl
+
+returns-3 : tie.Need-returns-3
+unfolding valuesRefusal valueQuestions firstNo
+returns-3 c =
+    let nine = c .before .before in
+    rw (sym (nine .before .values-allowed .ensures) ∙ not-false _ (nine .if1 .left), sym (c .before .triangles-small .ensures) ∙ c .if2 .left) refl
 
 pub values-refusal-spec : {M : Type 1} → statement M
-values-refusal-spec = tie.close (tie.spec values-allowed-requires returns returns-2)
+values-refusal-spec =
+    tie.close (tie.spec values-allowed-requires returns triangles-small-requires returns-2 returns-3)

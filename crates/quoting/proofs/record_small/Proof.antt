@@ -1,0 +1,48 @@
+-- Without flag 4 there is nothing to ask; else the limit's case says what.
+use mathlib.Core.Path.{refl, sym, _∙_}
+use borrow.Author.Needs.{needs}
+use borrow.Author.Tests.{not-true}
+use Rattle.table.specs.Limits.{limitHolds}
+use Rattle.quoting.specs.Values.{recordSmall}
+use Rattle.quoting.specs.Laws.Values.{no-flag}
+use Rattle.quoting.proofs.record_small.Statement.{statement}
+use Rattle.quoting.proofs.record_small.Tie as tie
+
+flag-four-requires : tie.Need-flag-four-requires
+flag-four-requires c κs = search needs
+
+returns : tie.Need-returns
+returns c = sym (no-flag _ _ (sym (c .before .flag-four .ensures) ∙ not-true _ (c .if1 .taken)))
+
+read-node-requires : tie.Need-read-node-requires
+read-node-requires c κs = search needs
+
+enum-told : tie.Need-enum-told
+enum-told c = search needs
+
+enum-known-limit : tie.Need-enum-known-limit
+enum-known-limit c = search needs
+
+triangle-small-requires : tie.Need-triangle-small-requires
+triangle-small-requires c κs = search needs
+
+returns-2 : tie.Need-returns-2
+unfolding recordSmall limitHolds
+returns-2 c = rw (← c .before .before .read-node .ensures, c .enum-told .given .1) refl
+
+returns-3 : tie.Need-returns-3
+unfolding recordSmall limitHolds
+returns-3 c = let limit = c .before .before in rw (← limit .before .before .read-node .ensures, limit .limit .given .1) (c .triangle-small .ensures)
+
+pub record-small-spec : {M : Type 1} → statement M
+record-small-spec =
+    tie.close
+    (tie.spec
+    flag-four-requires
+    returns
+    read-node-requires
+    enum-told
+    enum-known-limit
+    triangle-small-requires
+    returns-2
+    returns-3)
