@@ -5,7 +5,7 @@ use mathlib.Core.List.{List}
 use Prim.Native.Nat.{ℕ, _*_, _≤_, suc}
 use lib.Dec.{T, eqb}
 use lib.ListN.{take}
-use Rattle.table.specs.Limits.{everyLimit}
+use Rattle.table.specs.Limits.{everyMost}
 use Rattle.table.specs.Trees.{Tree}
 use Rattle.table.specs.Table.{decode}
 use Rattle.table.specs.declared.Most.{Most}
@@ -30,7 +30,7 @@ pub record Promised (v : Values) (t : Tree) (x : ℕ) : Type 0 where
   -- with no limits in the table, some admitted run costs exactly that
   pub reached : T (limitFree t) → Costs v t x
   -- the limits that runs keep are document 02's
-  pub ruled : T (everyLimit (λ k m. byRule v m) t)
+  pub ruled : T (everyMost (byRule v) t)
 
 -- an answer that is no refusal promises this of its figure
 unfoldable pub Promises : (table values : List ℕ) → Quote → Type 0

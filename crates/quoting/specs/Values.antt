@@ -7,7 +7,7 @@ use lib.ListN.{getD, length}
 use Rattle.booleans.specs.Tests.{_and_}
 use Rattle.table.specs.Numbers.{howManyValues, firstTimeSymbol, mostCount, mostTime}
 use Rattle.table.specs.Asking.{Question, _asks_, firstNo}
-use Rattle.table.specs.Limits.{limitHolds}
+use Rattle.table.specs.Limits.{mostHolds}
 use Rattle.table.specs.Table.{each, firstNode, recordCount}
 use Rattle.table.specs.declared.Most.{Most}
 use Rattle.triangular.specs.Triangular.{mostTriangular}
@@ -34,7 +34,7 @@ triangleSmall v (Most.Triangular s) = leb (v s) mostTriangular
 
 -- 13. of the first record's limit
 unfoldable pub recordSmall : Values → List ℕ → Bool
-recordSmall v b = limitHolds (λ k m. triangleSmall v m) (firstNode b .limit)
+recordSmall v b = mostHolds (triangleSmall v) (firstNode b .limit)
 
 -- 13. every symbol that stands under flag 4 in this table, and no other
 unfoldable pub question13 : (table values : List ℕ) → Bool

@@ -16,3 +16,11 @@ unfoldable mutual
   pub everyLimitIn : (ℕ → Most → Bool) → Forest → Bool
   everyLimitIn p nil = true
   everyLimitIn p (t ▸ f) = everyLimit p t and everyLimitIn p f
+
+-- ---- a test of the number alone, whatever loop the limit names
+
+abbrev pub mostHolds : (Most → Bool) → Limit → Bool
+mostHolds q l = limitHolds (λ k m. q m) l
+
+abbrev pub everyMost : (Most → Bool) → Tree → Bool
+everyMost q t = everyLimit (λ k m. q m) t

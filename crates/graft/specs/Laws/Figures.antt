@@ -12,23 +12,24 @@ use borrow.Author.Tests.{eqb-true, eqb-false, le-ltb}
 use Rattle.booleans.specs.Laws.{both, join-and}
 use Rattle.table.specs.Numbers.{firstTimeSymbol, howManySymbols, howManyValues, mostTime}
 use Rattle.table.specs.Table.{decode, recordCount}
-use Rattle.table.specs.Asking.{_asks_, byRefusal, firstNo}
+use Rattle.table.specs.Limits.{everyMost}
 use Rattle.table.specs.Checking.{IsTable, refusal}
 use Rattle.table.specs.Laws.Asking.{answered}
 use Rattle.evaluate.specs.Evaluate.{figure, fits, valuesOf}
 use Rattle.evaluate.specs.Laws.Ranges.{figure-most}
-use Rattle.quoting.specs.Values.{ceiling, question9, ranged, valuesRefusal}
+use Rattle.quoting.specs.Values.{ceiling, question13, question9, ranged, triangleSmall}
 use Rattle.quoting.specs.Answers.{checkAnswer, figureAnswer, quotedFigure, quotedRefusal}
 use Rattle.quoting.specs.declared.Checked.{Checked}
 use Rattle.quoting.specs.declared.Quote.{Quote}
-use Rattle.quoting.specs.Laws.Figures.{figure-is, figure-of, figured}
-use Rattle.quoting.specs.Laws.Values.{nine-values, values-carry, values-nine}
+use Rattle.quoting.specs.Laws.Figures.{figure-asked, figure-is, figured}
+use Rattle.quoting.specs.Laws.Values.{thirteen-limits, values-carry, values-nine, values-thirteen}
 use Rattle.splice.specs.Graft.{graft, uses}
 use Rattle.graft.specs.Answers.{graftTable, question11, question12}
 use Rattle.graft.specs.Promises.{GraftPromised, Quoted, hostValues}
-use Rattle.graft.specs.Laws.Grafted.{graft-figure, graft-fits, graft-needs, setValue}
+use Rattle.graft.specs.Laws.Grafted.{graft-figure, graft-fits, graft-needs, set-other, setValue}
+use Rattle.graft.specs.Laws.Limits.{graft-limits, sent-limits, smalls-but}
 use Rattle.table.specs.Laws.Tables.{accepted-table}
-use Rattle.graft.specs.Laws.Result.{result-accepted, result-reads, result-unused, sent-is}
+use Rattle.graft.specs.Laws.Result.{result-accepted, result-reads, result-table, result-unused, sent-is}
 
 -- ---- a desk's values with one of them set
 
@@ -64,13 +65,15 @@ set-allowed vs s x g l h =
 
 -- ---- the three figures
 
--- what the figure call answers of two tables with values, all of them accepted
-quotes-alike : (b c vs ws : List ℕ) → refusal b ≡ 0 → refusal c ≡ 0 → valuesRefusal b vs ≡ 0 → valuesRefusal c ws ≡ 0 → fits (valuesOf vs) (decode b) ≡ fits (valuesOf ws) (decode c)
-    → figure (valuesOf vs) (decode b) ≡ figure (valuesOf ws) (decode c) → figureAnswer b vs ≡ figureAnswer c ws
-quotes-alike b c vs ws e f p q k l =
-    figure-of b vs e p ∙ ap₂ (λ x y. byRefusal (firstNo (10 asks x ∷ [])) (Quote.Figure y) Quote.Refused) k l ∙ sym (figure-of c ws f q)
+-- what the figure call answers of two tables with values, all of them accepted by questions 1 to 9
+quotes-alike : (b c vs ws : List ℕ) → refusal b ≡ 0 → refusal c ≡ 0 → T (question9 vs) → T (question9 ws) → question13 b vs ≡ question13 c ws
+    → fits (valuesOf vs) (decode b) ≡ fits (valuesOf ws) (decode c) → figure (valuesOf vs) (decode b) ≡ figure (valuesOf ws) (decode c) → figureAnswer b vs ≡ figureAnswer c ws
+quotes-alike b c vs ws e f p q j k l = figure-asked b vs e p ∙ rw (j, k, l) (sym (figure-asked c ws f q))
 
 module _ (h b vs : List ℕ) (s : ℕ) (H : IsTable h) (B : IsTable b) (eleven : T (question11 b s)) (twelve : T (question12 (graftTable h b s))) where
+  result-is : IsTable (graftTable h b s)
+  result-is = result-table h b s H B twelve
+
   -- Where the sent table has a figure, the figure call answers of the result what it answers of the host with the symbol set to that figure.
   pub graft-quoted : Quoted b vs → figureAnswer (graftTable h b s) vs ≡ figureAnswer h (hostValues b s vs)
   unfolding question11
@@ -91,7 +94,13 @@ module _ (h b vs : List ℕ) (s : ℕ) (H : IsTable h) (B : IsTable b) (eleven :
       let fig : figure (valuesOf vs) (graft s (decode b) (decode h)) ≡ figure (valuesOf (hostValues b s vs)) (decode h) =
       graft-figure (valuesOf vs) s g (decode b) o (decode h) l ∙ ap (λ v. figure v (decode h)) (sym w) in
       let reads = result-reads h b s H B in
-      quotes-alike (graftTable h b s) h vs _ (result-accepted h b s H B twelve) (accepted-table h H) (values-carry b _ vs (f .allowed)) (nine-values h _ (set-allowed vs s _ g small nine)) (ap (fits (valuesOf vs)) reads ∙ fit) (ap (figure (valuesOf vs)) reads ∙ fig)
+      let same : everyMost (triangleSmall (valuesOf vs)) (decode h) ≡ everyMost (triangleSmall (valuesOf (hostValues b s vs))) (decode h) =
+      rw w (smalls-but (valuesOf vs) _ s g (set-other (valuesOf vs) s (figure (valuesOf vs) (decode b))) (decode h) l) in
+      let sent = subst T (thirteen-limits b vs B) (values-thirteen b vs (f .allowed)) in
+      let thirteen : question13 (graftTable h b s) vs ≡ question13 h (hostValues b s vs) =
+      thirteen-limits _ vs result-is ∙ ap (everyMost (triangleSmall (valuesOf vs))) reads
+      ∙ graft-limits (triangleSmall (valuesOf vs)) s (decode b) sent (decode h) l ∙ same ∙ sym (thirteen-limits h _ H) in
+      quotes-alike (graftTable h b s) h vs _ (result-accepted h b s H B twelve) (accepted-table h H) nine (set-allowed vs s _ g small nine) thirteen (ap (fits (valuesOf vs)) reads ∙ fit) (ap (figure (valuesOf vs)) reads ∙ fig)
     where
       nine-long : T (question9 vs) → T (eqb (length vs) howManyValues)
       nine-long k = unfold question9 in both _ _ k .0
@@ -102,7 +111,7 @@ module _ (h b vs : List ℕ) (s : ℕ) (H : IsTable h) (B : IsTable b) (eleven :
   sent-quoted u z =
       let f = figured (graftTable h b s) vs z in
       let fit = graft-needs (valuesOf vs) s (decode b) (sent-is h b s H B) (decode h) u (rw (result-reads h b s H B) at (f .small)) in
-      ap quotedRefusal (figure-is b vs (accepted-table b B) (values-carry _ b vs (f .allowed)) fit)
+      ap quotedRefusal (figure-is b vs (accepted-table b B) (values-carry _ b vs result-is B (λ q x. sent-limits q s (decode b) (decode h) u (rw (result-reads h b s H B) at x)) (f .allowed)) fit)
 
 -- ---- the promise
 

@@ -227,7 +227,7 @@ module _ (v : Values) (s : ℕ) (g : firstTimeSymbol ≤ s) (u : Tree) (o : Fair
     graftIn-fits nil h = refl
     graftIn-fits (t ▸ f) h = let (a, b) = both _ _ h in ap₂ _and_ (graft-fits t a) (graftIn-fits f b)
 
-either : (a b : Bool) {Q : Type 0} → T (a || b) → (T a → Q) → (T b → Q) → Q
+pub either : (a b : Bool) {Q : Type 0} → T (a || b) → (T a → Q) → (T b → Q) → Q
 either true b h f g = f tt
 either false b h f g = g h
 

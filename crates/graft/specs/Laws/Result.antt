@@ -89,6 +89,10 @@ module _ (h b : List ℕ) (s : ℕ) (H : IsTable h) (B : IsTable b) where
   unfolding graftTable
   result-unused e = ap encode (graft-unused s (decode b) (decode h) e) ∙ H .back
 
+  pub result-table : T (question12 (graftTable h b s)) → IsTable (graftTable h b s)
+  unfolding graftTable
+  result-table z = record { accepted = rw result-reads (asked-accepted _ result-listed result-named z); back = ap encode result-reads }
+
   pub result-accepted : T (question12 (graftTable h b s)) → refusal (graftTable h b s) ≡ 0
   unfolding graftTable
   result-accepted z = not-refused _ (asked-accepted _ result-listed result-named z)

@@ -13,9 +13,9 @@ use Rattle.table.specs.Laws.Refusal.{check-passed, check-passes}
 use Rattle.evaluate.specs.Evaluate.{valuesOf, figure, fits}
 use Rattle.evaluate.specs.Laws.Monotone.{figure-mono}
 use Rattle.quoting.specs.declared.Quote.{Quote}
-use Rattle.quoting.specs.Values.{NoneLower, question9, ranged, valueQuestions, valuesRefusal}
+use Rattle.quoting.specs.Values.{NoneLower, question13, question9, ranged, valueQuestions, valuesRefusal}
 use Rattle.quoting.specs.Answers.{figureAnswer, figureRefusal, quoteOf, quoteQuestions, quotedFigure, quotedRefusal}
-use Rattle.quoting.specs.Laws.Values.{values-nine}
+use Rattle.quoting.specs.Laws.Values.{values-nine, values-thirteen}
 
 module _ (b vs : List ℕ) where
   -- a question about the values says no
@@ -28,15 +28,15 @@ module _ (b vs : List ℕ) where
   unfolding quoteQuestions valuesRefusal valueQuestions numbered
   quote-fits = passes (valueQuestions b vs) _ tt
 
-  -- the figure call on a table and values that are accepted
-  pub figure-of : refusal b ≡ 0 → valuesRefusal b vs ≡ 0
-      → figureAnswer b vs ≡ byRefusal (firstNo (10 asks fits (valuesOf vs) (decode b) ∷ [])) (quoteOf b vs) Quote.Refused
-  unfolding figureAnswer figureRefusal
-  figure-of e q = ap (λ n. byRefusal n (quoteOf b vs) Quote.Refused) (check-passes b _ e ∙ quote-fits q)
+  -- the figure call on a table and values that questions 1 to 9 accept
+  pub figure-asked : refusal b ≡ 0 → T (question9 vs)
+      → figureAnswer b vs ≡ byRefusal (firstNo (13 asks question13 b vs ∷ 10 asks fits (valuesOf vs) (decode b) ∷ [])) (quoteOf b vs) Quote.Refused
+  unfolding figureAnswer figureRefusal quoteQuestions valueQuestions firstNo
+  figure-asked e n = ap (λ x. byRefusal x (quoteOf b vs) Quote.Refused) (check-passes b _ e ∙ rw (T-is (question9 vs) n) refl)
 
   pub figure-is : refusal b ≡ 0 → valuesRefusal b vs ≡ 0 → T (fits (valuesOf vs) (decode b)) → figureAnswer b vs ≡ quoteOf b vs
   unfolding byRefusal firstNo
-  figure-is e q f = figure-of e q ∙ rw (T-is (fits (valuesOf vs) (decode b)) f) refl
+  figure-is e q f = figure-asked e (values-nine b vs q) ∙ rw (T-is (question13 b vs) (values-thirteen b vs q), T-is (fits (valuesOf vs) (decode b)) f) refl
 
   pub record Figured : Type 0 where
     pub accepted : refusal b ≡ 0

@@ -5,7 +5,7 @@ use Prim.Native.Nat.{ℕ, _*_, suc}
 use native.Mathlib.Omega.{arith}
 use lib.Dec.{T, eqb-refl, leb→le}
 use lib.ListN.{length, take}
-use Rattle.table.specs.Limits.{everyLimit}
+use Rattle.table.specs.Limits.{everyMost}
 use Rattle.table.specs.Trees.{Tree}
 use Rattle.table.specs.Bytes.{AreBytes}
 use Rattle.table.specs.Table.{decode}
@@ -39,7 +39,7 @@ small-ruled v (Most.Plain n) h = tt
 small-ruled v (Most.Symbol s) h = tt
 small-ruled v (Most.Triangular s) h = rw (triangular-is (v s) (leb→le (v s) mostTriangular h)) (eqb-refl (rule (v s)))
 
-figure-promised : (v : Values) (t : Tree) → Accepted t → T (everyLimit (λ k m. triangleSmall v m) t) → Promised v t (figure v t)
+figure-promised : (v : Values) (t : Tree) → Accepted t → T (everyMost (triangleSmall v) t) → Promised v t (figure v t)
 figure-promised v t a h = record {
   covered = covered v t;
   reached = λ f. reached v t f (a .listed);

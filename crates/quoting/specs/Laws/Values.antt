@@ -13,7 +13,7 @@ use Rattle.booleans.specs.Tests.{_and_}
 use Rattle.booleans.specs.Laws.{both}
 use Rattle.table.specs.Numbers.{howManyValues, firstTimeSymbol, mostCount}
 use Rattle.table.specs.Checking.{IsTable}
-use Rattle.table.specs.Limits.{everyLimit, limitHolds}
+use Rattle.table.specs.Limits.{everyMost, limitHolds, mostHolds}
 use Rattle.table.specs.Table.{decode, field, firstNode, flagFour, limitFrom, mostFrom}
 use Rattle.table.specs.declared.Most.{Most}
 use Rattle.table.specs.Laws.Limits.{table-limits}
@@ -30,12 +30,12 @@ unfolding valuesRefusal valueQuestions numbered Yes
 values-thirteen b vs e = all-yes (valueQuestions b vs) tt e .1 .0
 
 -- question 13, of the table's tree
-pub thirteen-limits : (b vs : List ℕ) → IsTable b → question13 b vs ≡ everyLimit (λ k m. triangleSmall (valuesOf vs) m) (decode b)
+pub thirteen-limits : (b vs : List ℕ) → IsTable b → question13 b vs ≡ everyMost (triangleSmall (valuesOf vs)) (decode b)
 unfolding question13 recordSmall
 thirteen-limits b vs i = table-limits (λ k m. triangleSmall (valuesOf vs) m) b i
 
--- Values that one table's questions let pass pass another's, where what holds of every limit of the one tree holds of every limit of the other.
-pub values-carry : (b c vs : List ℕ) → IsTable b → IsTable c → ((p : ℕ → Most → Bool) → T (everyLimit p (decode b)) → T (everyLimit p (decode c)))
+-- Values that one table's questions let pass pass another's, where what holds of the number of every limit of the one tree does of the other's.
+pub values-carry : (b c vs : List ℕ) → IsTable b → IsTable c → ((q : Most → Bool) → T (everyMost q (decode b)) → T (everyMost q (decode c)))
     → valuesRefusal b vs ≡ 0 → valuesRefusal c vs ≡ 0
 unfolding valuesRefusal valueQuestions Yes
 values-carry b c vs i j limits e =
@@ -43,7 +43,7 @@ values-carry b c vs i j limits e =
     yes-all (valueQuestions c vs) (values-nine b vs e, (small, tt))
 
 -- a record without flag 4 is not asked 13
-low-flags : (v : Values) (k s x : ℕ) → s < 2 → limitHolds (λ k m. triangleSmall v m) (limitFrom k (mostFrom s x)) ≡ true
+low-flags : (v : Values) (k s x : ℕ) → s < 2 → mostHolds (triangleSmall v) (limitFrom k (mostFrom s x)) ≡ true
 unfolding limitHolds limitFrom mostFrom triangleSmall
 low-flags v zero s x l = refl
 low-flags v (suc k) zero x l = refl

@@ -55,6 +55,7 @@ module _ (b : List ℕ) (n : ℕ) (v w : List ℕ) (h : AreBytes b) (e : refusal
       let k : Kept true (m .tree) t = steps-kept n t in
       let a : Accepted (m .tree) = k .stillAccepted (λ x. f) (i .accepted) in
       let back : decode (encode (m .tree)) ≡ m .tree = reads-back (m .tree) (a .listed) in
+      let j : IsTable (encode (m .tree)) = record { accepted = rw back a; back = ap encode back } in
       let ok : refusal (encode (m .tree)) ≡ 0 = not-refused (m .tree) a in
       let long : length (encode t) ≡ length b = ap length (i .back) in
       record {
@@ -70,7 +71,7 @@ module _ (b : List ℕ) (n : ℕ) (v w : List ℕ) (h : AreBytes b) (e : refusal
             omega (arith, figured b v p .is, figured _ w z .is, ap (figure (valuesOf w)) back, k .sameFigure (valuesOf w), figure-mono (valuesOf v) (valuesOf w) q t);
         sameFigure = λ q p.
             let f = figured b v p in
-            let allowed : valuesRefusal (encode (m .tree)) v ≡ 0 = values-carry b _ v (f .allowed) in
+            let allowed : valuesRefusal (encode (m .tree)) v ≡ 0 = values-carry b _ v i j (λ q x. rw back (k .limits (λ n m. q m) x)) (f .allowed) in
             let small : T (fits (valuesOf v) (decode (encode (m .tree)))) = rw back (k .stillFits (valuesOf v) (f .small)) in
             let same : figureAnswer (encode (m .tree)) w ≡ Quote.Figure (figure (valuesOf v) t) =
             ap (figureAnswer (encode (m .tree))) (sym q) ∙ figure-is _ v ok allowed small ∙ ap Quote.Figure (ap (figure (valuesOf v)) back ∙ k .sameFigure (valuesOf v)) in
