@@ -5,7 +5,7 @@ use Prim.Native.Nat.{ℕ}
 use Rattle.table.specs.Table.{decode}
 use Rattle.evaluate.specs.Evaluate.{valuesOf}
 use Rattle.quoting.specs.Answers.{checkedRecords, checkedRefusal, quotedFigure, quotedRefusal}
-use Rattle.quoting.specs.Promises.{Promised}
+use Rattle.quoting.specs.Promises.{NeverLowered, Promised}
 use Rattle.quoting.specs.declared.Checked.{Checked}
 use Rattle.quoting.specs.declared.Quote.{Quote}
 use Rattle.simplifying.specs.Answers.{simplifiedFinished, simplifiedLength, simplifiedRefusal, simplifiedSteps}
@@ -23,6 +23,10 @@ QuotedAs r answer = (r .refused ≡ quotedRefusal answer) × (r .figure ≡ quot
 -- demand 2's promise of a figure
 abbrev pub FigurePromised : (table values : List ℕ) → VfFigureAnswer → Type 0
 FigurePromised b vs r = r .refused ≡ 0 → Promised (valuesOf vs) (decode b) (r .figure)
+
+-- values none lower never lower it
+abbrev pub FigureRises : (table values : List ℕ) → VfFigureAnswer → Type 0
+FigureRises b vs r = r .refused ≡ 0 → NeverLowered b vs (r .figure)
 
 pub record SimplifiedAs (r : VfSimplified) (answer : Simplified) : Type 0 where
   pub refused : r .refused ≡ simplifiedRefusal answer

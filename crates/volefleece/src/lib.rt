@@ -16,7 +16,7 @@ ghost use Rattle.simplifying.specs.Answers.{finishedNumber, simplifyAnswer, sim
 ghost use Rattle.simplifying.specs.Demand.{Demand3};
 ghost use Rattle.graft.specs.Answers.{graftAnswer, graftWrites, graftedLength, graftedRefusal};
 ghost use Rattle.graft.specs.Promises.{GraftPromised};
-ghost use Rattle.volefleece.specs.Numbers.{CheckedAs, FigurePromised, QuotedAs, SimplifiedAs};
+ghost use Rattle.volefleece.specs.Numbers.{CheckedAs, FigurePromised, FigureRises, QuotedAs, SimplifiedAs};
 ghost use Rattle.volefleece.specs.BothDesks.{AskedInC, quotedBy, simplifiedBy};
 
 #[repr(C)]
@@ -52,6 +52,7 @@ pub struct VfFigureAnswer {
 pub extern "C" fn vf_figure(table: &[u8], values: &[u64]) -> VfFigureAnswer
     ensures promise { λ r. ⌜ FigurePromised (now (table .entry)) (now (values .entry)) r ⌝ }
     ensures answer { λ r. ⌜ QuotedAs r (figureAnswer (now (table .entry)) (now (values .entry))) ⌝ }
+    ensures rising { λ r. ⌜ FigureRises (now (table .entry)) (now (values .entry)) r ⌝ }
 {
     let answer = quoting::figure(table, values);
     match answer {

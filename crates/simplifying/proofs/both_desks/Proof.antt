@@ -45,7 +45,7 @@ returns c =
     let known = check .before .before .before .before in
     let bytes : AreBytes (known .before .args .table .now) = λ i. omega (arith, known .shared-slice-known .given i) in
     both-asked _ _ _ _ _ _ _ _ _ _ _ bytes (check .check .ensures) (call .simplify .ensures .0) (call .simplify .ensures .1) (quote .figure .ensures .0) (length .length-of .ensures) (c .figure2 .ensures .0)
-    (quote .figure .ensures .1) (c .figure2 .ensures .1)
+    (quote .figure .ensures .1 .0) (c .figure2 .ensures .1 .0)
 
 pub both-desks-spec : {M : Type 1} → statement M
 both-desks-spec =

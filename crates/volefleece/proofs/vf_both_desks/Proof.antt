@@ -39,7 +39,7 @@ returns c =
     let check = call .before .before in
     let known = check .before .before .before .before in
     let bytes : AreBytes (known .before .args .table .now) = λ i. omega (arith, known .shared-slice-known .given i) in
-    both-asked _ _ _ _ _ _ _ bytes (check .vf-check .ensures) (call .vf-simplify .ensures .0) (call .vf-simplify .ensures .1) (quote .vf-figure .ensures .1) (c .vf-figure2 .ensures .1)
+    both-asked _ _ _ _ _ _ _ bytes (check .vf-check .ensures) (call .vf-simplify .ensures .0) (call .vf-simplify .ensures .1) (quote .vf-figure .ensures .1 .0) (c .vf-figure2 .ensures .1 .0)
     (quote .vf-figure .ensures .0) (c .vf-figure2 .ensures .0)
 
 pub vf-both-desks-spec : {M : Type 1} → statement M

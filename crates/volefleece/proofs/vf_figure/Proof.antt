@@ -19,14 +19,14 @@ unfolding Promises quotedRefusal quotedFigure
 returns c =
     let h = c .before .before .before .figure .ensures in
     let told = c .before .answer .given .1 in
-    (rw told at (h .1), rw (sym (h .0) ∙ told) (refl, refl))
+    (rw told at (h .1 .0), (rw (sym (h .0) ∙ told) (refl, refl), rw told at (h .1 .1)))
 
 returns-2 : tie.Need-returns-2
 unfolding Promises quotedRefusal quotedFigure
 returns-2 c =
     let h = c .before .before .before .figure .ensures in
     let told = c .before .answer2 .given .1 in
-    (rw told at (h .1), rw (sym (h .0) ∙ told) (refl, refl))
+    (rw told at (h .1 .0), (rw (sym (h .0) ∙ told) (refl, refl), rw told at (h .1 .1)))
 
 pub vf-figure-spec : {M : Type 1} → statement M
 vf-figure-spec =
