@@ -127,14 +127,12 @@ fn triangles_small(table: &[u8], values: &[u64]) -> bool
 fn values_refusal(table: &[u8], values: &[u64]) -> u64
     ensures { λ r. ⌜ r ≡ valuesRefusal (now (table .entry)) (now (values .entry)) ⌝ }
 {
-    if !values_allowed(values) {
+    let allowed = values_allowed(values);
+    let small = triangles_small(table, values);
+    if !allowed {
         return 9;
     }
-    if triangles_small(table, values) {
-        0
-    } else {
-        13
-    }
+    if small { 0 } else { 13 }
 }
 
 // Writes the first n numbers of a list over the front of a buffer.

@@ -9,25 +9,25 @@ use Rattle.quoting.proofs.values_refusal.Tie as tie
 values-allowed-requires : tie.Need-values-allowed-requires
 values-allowed-requires c κs = search needs
 
-returns : tie.Need-returns
-unfolding valuesRefusal valueQuestions firstNo
-returns c = rw (sym (c .before .values-allowed .ensures) ∙ not-true _ (c .if1 .taken)) refl
-
 triangles-small-requires : tie.Need-triangles-small-requires
 triangles-small-requires c κs = search needs
+
+returns : tie.Need-returns
+unfolding valuesRefusal valueQuestions firstNo
+returns c = rw (sym (c .before .before .values-allowed .ensures) ∙ not-true _ (c .if1 .taken)) refl
 
 returns-2 : tie.Need-returns-2
 unfolding valuesRefusal valueQuestions firstNo
 returns-2 c =
-    let nine = c .before .before in
-    rw (sym (nine .before .values-allowed .ensures) ∙ not-false _ (nine .if1 .left), sym (c .before .triangles-small .ensures) ∙ c .if2 .taken) refl
+    let asked = c .before .before in
+    rw (sym (asked .before .values-allowed .ensures) ∙ not-false _ (c .before .if1 .left), sym (asked .triangles-small .ensures) ∙ c .if2 .taken) refl
 
 returns-3 : tie.Need-returns-3
 unfolding valuesRefusal valueQuestions firstNo
 returns-3 c =
-    let nine = c .before .before in
-    rw (sym (nine .before .values-allowed .ensures) ∙ not-false _ (nine .if1 .left), sym (c .before .triangles-small .ensures) ∙ c .if2 .left) refl
+    let asked = c .before .before in
+    rw (sym (asked .before .values-allowed .ensures) ∙ not-false _ (c .before .if1 .left), sym (asked .triangles-small .ensures) ∙ c .if2 .left) refl
 
 pub values-refusal-spec : {M : Type 1} → statement M
 values-refusal-spec =
-    tie.close (tie.spec values-allowed-requires returns triangles-small-requires returns-2 returns-3)
+    tie.close (tie.spec values-allowed-requires triangles-small-requires returns returns-2 returns-3)
