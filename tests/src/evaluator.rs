@@ -1,6 +1,7 @@
-//! The second evaluator: document 01's evaluation and questions 8 to 10, written apart from the
-//! library and in its own way. A named loop is its level, and a sequence or choice joins the lists
-//! of all its children at once. It is plain Rust, fast enough to be measured against the library.
+//! The second evaluator: document 01's evaluation and questions 8 to 10, and question 13 of document
+//! 02, written apart from the library and in its own way. A named loop is its level, and a sequence or
+//! choice joins the lists of all its children at once. It is plain Rust, fast enough to be measured
+//! against the library.
 
 use crate::format::*;
 use crate::reader;
@@ -10,14 +11,14 @@ use std::cmp::Reverse;
 /// A value and how often it stands in a list. The last pair's count is 0, meaning for ever.
 pub type Pair = (u64, u64);
 
-/// The figure call: questions 1 to 7, 9 and 10, then the figure.
+/// The figure call: questions 1 to 7, 9, 13 and 10, then the figure.
 pub fn figure(table: &[u8], values: &[u64]) -> Result<u64, u64> {
     let tree = reader::check(table)?;
     let root = evaluate(&tree, values)?;
     Ok(root.list.first())
 }
 
-/// The list call on a buffer of so many numbers: all ten questions, then the pairs.
+/// The list call on a buffer of so many numbers: questions 1 to 9, 13 and 10, then the pairs.
 pub fn list(table: &[u8], values: &[u64], room: usize) -> Result<Vec<Pair>, u64> {
     let tree = reader::check(table)?;
     if room < LIST_ROOM {
@@ -27,10 +28,13 @@ pub fn list(table: &[u8], values: &[u64], room: usize) -> Result<Vec<Pair>, u64>
     Ok(root.list.into_pairs())
 }
 
-/// Questions 9 and 10, then the root's list.
+/// Questions 9, 13 and 10, then the root's list.
 pub fn evaluate(tree: &Tree, values: &[u64]) -> Result<Evaluated, u64> {
     if !are_values(values) {
         return Err(9);
+    }
+    if !fits_flag_4(tree, values) {
+        return Err(13);
     }
     evaluate_at(tree, 0, values)
 }
@@ -49,6 +53,16 @@ fn ceiling(symbol: u64) -> u64 {
     }
 }
 
+/// Question 13: is the value of each symbol that stands under flag 4 in this tree at most 1,000?
+fn fits_flag_4(tree: &Tree, values: &[u64]) -> bool {
+    let fits = match tree.limit.map(|limit| limit.amount) {
+        Some(Amount::Triangular(symbol)) => values[symbol as usize] <= MOST_TRIANGULAR,
+        _ => true,
+    };
+    let mut children = tree.children.iter();
+    fits && children.all(|child| fits_flag_4(child, values))
+}
+
 /// A node's value.
 #[derive(Clone, Debug, PartialEq, Eq)]
 pub struct Evaluated {
@@ -59,7 +73,7 @@ pub struct Evaluated {
 }
 
 /// The value of a node that has so many loops around it, or 10, question 10's refusal. The values
-/// have passed question 9.
+/// have passed questions 9 and 13.
 pub fn evaluate_at(tree: &Tree, around: usize, values: &[u64]) -> Result<Evaluated, u64> {
     let before_limit = match tree.kind {
         Kind::Block(time) => Evaluated {
@@ -132,7 +146,13 @@ fn number(amount: Amount, values: &[u64]) -> u64 {
     match amount {
         Amount::Plain(number) => number,
         Amount::Symbol(symbol) => values[symbol as usize],
+        Amount::Triangular(symbol) => triangular(values[symbol as usize]),
     }
+}
+
+/// 0, 1, 3, 6 and so on.
+fn triangular(number: u64) -> u64 {
+    number * (number + 1) / 2
 }
 
 /// An endless list that never rises.

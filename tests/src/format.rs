@@ -1,5 +1,5 @@
-//! The numbers of document 01's tree table. The hand-written tests use plain literals instead, so
-//! that a slip here shows.
+//! The numbers of the tree table, document 01's and those that document 02 adds. The hand-written
+//! tests use plain literals instead, so that a slip here shows.
 
 use std::ops::RangeInclusive;
 
@@ -13,6 +13,8 @@ pub const LOOP: u8 = 3;
 
 pub const VALUE_IS_SYMBOL: u8 = 1;
 pub const LIMIT_IS_SYMBOL: u8 = 2;
+/// The limit is the triangular number of its symbol. This flag stands beside the one before alone.
+pub const LIMIT_IS_TRIANGULAR: u8 = 4;
 
 pub const MOST_CHILDREN: usize = 255;
 pub const LOOP_CHILDREN: usize = 2;
@@ -25,6 +27,9 @@ pub const MOST_COUNT: u64 = 1_000_000;
 pub const MOST_TIME: u64 = 1_000_000_000_000;
 pub const COUNT_SYMBOLS: RangeInclusive<u64> = 0..=15;
 pub const TIME_SYMBOLS: RangeInclusive<u64> = 16..=31;
+
+/// The ceiling of a value whose triangular number is a limit.
+pub const MOST_TRIANGULAR: u64 = 1_000;
 
 pub const MOST_DEPTH: usize = 32;
 pub const MOST_LOOPS: usize = 8;

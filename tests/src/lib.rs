@@ -4,7 +4,7 @@
 //! - `format`: the numbers of the table's format, each behind one name.
 //! - `trees`: a plain tree, its encoder and its random generators.
 //! - `reader`: the second reader, questions 1 to 7.
-//! - `evaluator`: the second evaluator, questions 8 to 10.
+//! - `evaluator`: the second evaluator, questions 8 to 10 and 13.
 //! - `simplifier`: the second simplifier.
 //! - `grafter`: the second grafter, questions 11 and 12.
 //! - `fits`: where the rules of simplifying fit, for small tables.

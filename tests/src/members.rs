@@ -106,5 +106,6 @@ fn number(amount: Amount, values: &[u64]) -> u64 {
     match amount {
         Amount::Plain(number) => number,
         Amount::Symbol(symbol) => values[symbol as usize],
+        Amount::Triangular(symbol) => (1..=values[symbol as usize]).sum(),
     }
 }

@@ -1,5 +1,6 @@
-//! Trees as docs/FORMAT.md writes them on a line, which are document 01's words with two signs more:
-//! `X16` is symbol 16, and braces hold a node together.
+//! Trees as docs/FORMAT.md writes them on a line, which are document 01's words with three signs more:
+//! `X16` is symbol 16, `T0` as a limit is the triangular number of symbol 0, and braces hold a node
+//! together.
 
 use crate::trees::{Amount, Kind, Limit, Tree};
 
@@ -62,7 +63,7 @@ impl<'t> Words<'t> {
     fn node(&mut self) -> Result<Tree, String> {
         let mut tree = self.unlimited()?;
         if self.take("/") {
-            let amount = amount(self.next()?)?;
+            let amount = limit_amount(self.next()?)?;
             self.want("@")?;
             let names = number(self.next()?)?;
             let limit = Limit { names, amount };
@@ -118,6 +119,13 @@ fn amount(word: &str) -> Result<Amount, String> {
     match word.strip_prefix('X') {
         Some(symbol) => number(symbol).map(Amount::Symbol),
         None => number(word).map(Amount::Plain),
+    }
+}
+
+fn limit_amount(word: &str) -> Result<Amount, String> {
+    match word.strip_prefix('T') {
+        Some(symbol) => number(symbol).map(Amount::Triangular),
+        None => amount(word),
     }
 }
 

@@ -1,5 +1,5 @@
 //! The second reader: document 01's questions 1 to 7 in its words and order, each put to the whole
-//! input before the next.
+//! input before the next, with the flag that CR 3 of document 02 adds.
 
 use crate::format::*;
 use crate::trees::{Amount, Kind, Limit, Tree};
@@ -77,7 +77,8 @@ fn is_length_right(table: &[u8]) -> bool {
 }
 
 /// Question 2: are kind, flags, children and byte 3 as listed, flag 1 only on blocks and loops,
-/// flag 2 only with a limit, limit 0 where byte 3 is 0, value 0 in sequences and choices?
+/// flag 2 only with a limit, limit 0 where byte 3 is 0, value 0 in sequences and choices? Flag 4
+/// without 2 is not listed.
 fn is_as_listed(record: &Record) -> bool {
     let children_as_listed = match record.kind {
         BLOCK => record.children == 0,
@@ -85,7 +86,7 @@ fn is_as_listed(record: &Record) -> bool {
         LOOP => record.children == LOOP_CHILDREN,
         _ => return false,
     };
-    let flags_as_listed = record.flags <= VALUE_IS_SYMBOL | LIMIT_IS_SYMBOL;
+    let flags_as_listed = matches!(record.flags, 0..=3 | 6 | 7);
     let names_as_listed = matches!(record.names, NO_LIMIT | 1..=8 | WHOLE_RUN);
     let has_value = matches!(record.kind, BLOCK | LOOP);
     let has_limit = record.names != NO_LIMIT;
@@ -107,6 +108,10 @@ fn limit_is_symbol(record: &Record) -> bool {
     record.flags & LIMIT_IS_SYMBOL != 0
 }
 
+fn limit_is_triangular(record: &Record) -> bool {
+    record.flags & LIMIT_IS_TRIANGULAR != 0
+}
+
 /// Question 3: are plain numbers and symbol numbers in range?
 fn is_in_range(record: &Record) -> bool {
     let value_in_range = match record.kind {
@@ -121,13 +126,14 @@ fn is_time(amount: Amount) -> bool {
     match amount {
         Amount::Plain(number) => number <= MOST_TIME,
         Amount::Symbol(symbol) => TIME_SYMBOLS.contains(&symbol),
+        Amount::Triangular(_) => false,
     }
 }
 
 fn is_count(amount: Amount) -> bool {
     match amount {
         Amount::Plain(number) => number <= MOST_COUNT,
-        Amount::Symbol(symbol) => COUNT_SYMBOLS.contains(&symbol),
+        Amount::Symbol(symbol) | Amount::Triangular(symbol) => COUNT_SYMBOLS.contains(&symbol),
     }
 }
 
@@ -138,7 +144,11 @@ fn value(record: &Record) -> Amount {
 fn limit(record: &Record) -> Option<Limit> {
     (record.names != NO_LIMIT).then(|| Limit {
         names: record.names,
-        amount: amount(record.limit, limit_is_symbol(record)),
+        amount: if limit_is_triangular(record) {
+            Amount::Triangular(record.limit)
+        } else {
+            amount(record.limit, limit_is_symbol(record))
+        },
     })
 }
 

@@ -63,6 +63,7 @@ impl Search<'_> {
         match amount {
             Amount::Plain(number) => number,
             Amount::Symbol(symbol) => self.values[symbol as usize],
+            Amount::Triangular(symbol) => rounds(self.values[symbol as usize]),
         }
     }
 
@@ -143,6 +144,11 @@ impl Search<'_> {
         }
         ways
     }
+}
+
+/// How often document 000's inner loop goes round: for i from 1 to n, for j from i to n.
+fn rounds(n: u64) -> u64 {
+    (1..=n).map(|i| (i..=n).count() as u64).sum()
 }
 
 /// The children with their records.

@@ -200,7 +200,7 @@ fn from_outside(names: u8, this: u8) -> u8 {
 
 /// Whether the node itself has a symbol.
 fn has_symbol(node: &Tree) -> bool {
-    let is_symbol = |amount| matches!(amount, Amount::Symbol(_));
+    let is_symbol = |amount| !matches!(amount, Amount::Plain(_));
     let value_is_symbol = match node.kind {
         Kind::Block(amount) | Kind::Loop(amount) => is_symbol(amount),
         Kind::Sequence | Kind::Choice => false,

@@ -42,6 +42,13 @@ pub fn symbol_limited(tree: Vec<u8>, symbol: u32, names: u8) -> Vec<u8> {
     tree
 }
 
+/// The tree with a limit on its top that is the triangular number of a symbol.
+pub fn triangular_limited(tree: Vec<u8>, symbol: u32, names: u8) -> Vec<u8> {
+    let mut tree = limited(tree, symbol, names);
+    tree[1] |= 6;
+    tree
+}
+
 /// So many loops of that bound, each the body of the one before, around `inner`. Exits cost nothing.
 pub fn in_loops(loops: usize, bound: u64, inner: Vec<u8>) -> Vec<u8> {
     (0..loops).fold(inner, |body, _| repeat(bound, body, block(0)))

@@ -1,5 +1,6 @@
 //! `vf_check` on hand-written tables: document 01's cases, every condition inside questions 1 to 7
-//! at and past its end, and the order of the questions. All numbers here are literals.
+//! at and past its end, with document 02's flag 4, and the order of the questions. All numbers here
+//! are literals.
 
 use volefleece_tests::compare::{lend, second_check, shown};
 use volefleece_tests::ffi::{self, Checked};
@@ -205,17 +206,40 @@ fn kinds_past_3_are_refused_2() {
     }
 }
 
+/// Each flags byte there is on that record: those listed are accepted, and all others refused 2.
+#[track_caller]
+fn flags_listed(listed: &[u8], record: Record, below: &[Record]) {
+    let (kind, _, children, names, limit, value) = record;
+    for flags in 0..=255 {
+        let record = (kind, flags, children, names, limit, value);
+        // A loop is around it, for byte 3 to name.
+        let records = in_bodies(1, &[&[record], below].concat());
+        if listed.contains(&flags) {
+            accepted(&records);
+        } else {
+            refused(2, &records);
+        }
+    }
+}
+
 #[test]
-fn flags_past_3_are_refused_2() {
-    for flags in 0..=3 {
-        accepted(&[(0, flags, 0, 255, 1, 16)]);
-        accepted(&[(3, flags, 2, 255, 1, 15), BLOCK, BLOCK]);
+fn flags_that_are_not_listed_are_refused_2() {
+    let both = [BLOCK, BLOCK];
+    for names in [1, 255] {
+        flags_listed(&[0, 1, 2, 3, 6, 7], (0, 0, 0, names, 1, 16), &[]);
+        flags_listed(&[0, 2, 6], (1, 0, 2, names, 1, 0), &both);
+        flags_listed(&[0, 2, 6], (2, 0, 2, names, 1, 0), &both);
+        flags_listed(&[0, 1, 2, 3, 6, 7], (3, 0, 2, names, 1, 15), &both);
     }
-    for flags in [4, 5, 6, 7, 8, 16, 128, 254, 255] {
-        refused(2, &[(0, flags, 0, 255, 1, 16)]);
-        refused(2, &[(3, flags, 2, 255, 1, 15), BLOCK, BLOCK]);
-        refused(2, &[(1, flags, 1, 255, 1, 0), BLOCK]);
-    }
+}
+
+#[test]
+fn flags_2_and_4_without_a_limit_are_refused_2() {
+    let both = [BLOCK, BLOCK];
+    flags_listed(&[0, 1], (0, 0, 0, 0, 0, 16), &[]);
+    flags_listed(&[0], (1, 0, 2, 0, 0, 0), &both);
+    flags_listed(&[0], (2, 0, 2, 0, 0, 0), &both);
+    flags_listed(&[0, 1], (3, 0, 2, 0, 0, 15), &both);
 }
 
 #[test]
@@ -254,26 +278,6 @@ fn byte_3_of_9_to_254_is_refused_2() {
         refused(2, &[(3, 0, 2, names, 0, 3), BLOCK, BLOCK]);
         refused(2, &in_bodies(8, &[limited(names)]));
     }
-}
-
-#[test]
-fn flag_1_on_a_sequence_or_choice_is_refused_2() {
-    for kind in [1, 2] {
-        refused(2, &[(kind, 1, 1, 0, 0, 0), BLOCK]);
-        refused(2, &[(kind, 1, 1, 255, 1, 0), BLOCK]);
-        refused(2, &[(kind, 3, 1, 255, 1, 0), BLOCK]);
-        accepted(&[(kind, 2, 1, 255, 1, 0), BLOCK]);
-    }
-}
-
-#[test]
-fn flag_2_without_a_limit_is_refused_2() {
-    refused(2, &[(0, 2, 0, 0, 0, 7)]);
-    refused(2, &[(0, 3, 0, 0, 0, 16)]);
-    refused(2, &[(1, 2, 1, 0, 0, 0), BLOCK]);
-    refused(2, &[(2, 2, 1, 0, 0, 0), BLOCK]);
-    refused(2, &[(3, 2, 2, 0, 0, 3), BLOCK, BLOCK]);
-    refused(2, &[(3, 3, 2, 0, 0, 3), BLOCK, BLOCK]);
 }
 
 #[test]
@@ -358,11 +362,15 @@ fn limits_past_the_ceiling_are_refused_3() {
 
 #[test]
 fn limit_symbols_past_15_are_refused_3() {
-    for symbol in 0..=15 {
-        each_kind_with_limit(2, symbol, accepted);
-    }
-    for symbol in [16, 17, 31, 32, 256, 65_536, 1 << 24, 1_000_000, u32::MAX] {
-        each_kind_with_limit(2, symbol, |records| refused(3, records));
+    // The limit is the symbol itself, or its triangular number.
+    for flags in [2, 6] {
+        for symbol in 0..=15 {
+            each_kind_with_limit(flags, symbol, accepted);
+        }
+        let larger = [256, 1_000, 65_536, 1_000_000, 1 << 24, u32::MAX];
+        for symbol in (16..=32).chain(larger) {
+            each_kind_with_limit(flags, symbol, |records| refused(3, records));
+        }
     }
 }
 
@@ -585,7 +593,9 @@ fn loops_left_by_their_exits_add_no_weight() {
 
 #[test]
 fn a_limit_weighs_the_same_whatever_it_is() {
-    for (flags, limit) in [(0, 0), (0, 1), (0, 1_000_000), (2, 0), (2, 15)] {
+    let numbers = [(0, 0), (0, 1), (0, 1_000_000)];
+    let symbols = [(2, 0), (2, 15), (6, 0), (6, 15)];
+    for (flags, limit) in numbers.into_iter().chain(symbols) {
         let block = (0, flags, 0, 255, limit, 0);
         accepted(&in_bodies(7, &[sequence(2), block, BLOCK]));
         refused(7, &in_bodies(7, &[sequence(2), block, block]));
@@ -635,8 +645,12 @@ fn the_lower_question_answers_wherever_it_fails() {
 fn records_that_fail_two_questions_answer_the_lower() {
     refused(2, &[(0, 0, 1, 0, 0, u64::MAX), BLOCK]);
     refused(2, &[(0, 2, 0, 0, 16, 7)]);
+    refused(2, &[(0, 6, 0, 0, 16, 7)]);
+    refused(2, &[(0, 4, 0, 255, 16, 7)]);
+    refused(2, &[(0, 4, 0, 1, 1, 7)]);
     refused(2, &[(4, 0, 1, 0, 0, 0)]);
     refused(3, &[(0, 0, 0, 1, 1_000_001, 7)]);
+    refused(3, &[(0, 6, 0, 1, 16, 7)]);
     refused(3, &[(3, 0, 2, 0, 0, 1_000_001)]);
     refused(4, &[limited(1), BLOCK]);
     refused(4, &vec![sequence(1); 40]);

@@ -1,10 +1,11 @@
 //! `vf_figure` and `vf_list` on hand-written tables: document 01's cases, each rule of evaluation,
-//! questions 8 to 10 at and past their ends, and the order of all ten. All numbers here are literals.
+//! triangular limits, questions 8 to 10 and 13 at and past their ends, and the order of all. All
+//! numbers here are literals.
 
 use volefleece_tests::cases::{self, cases};
 use volefleece_tests::compare::{lend, shown};
 use volefleece_tests::evaluator::{self, Pair};
-use volefleece_tests::ffi::{self, Figure, Listed};
+use volefleece_tests::ffi::{self, Checked, Figure, Listed};
 use volefleece_tests::quotes;
 use volefleece_tests::rng::Rng;
 use volefleece_tests::tables::*;
@@ -94,12 +95,18 @@ fn each_symbol_has_its_value() {
         expect(&limit, &values, 512, Ok(&[(1, value), (0, 0)]));
         let both = symbol_limited(symbol_repeat(15, block(1), block(0)), symbol, 255);
         expect(&both, &values, 512, Ok(&[(33, value), (0, 0)]));
+        // 3 has the triangular number 6, 5 has 15, and so on.
+        let limit = triangular_limited(block(1), symbol, 255);
+        let triangular = value * (value + 1) / 2;
+        expect(&limit, &values, 512, Ok(&[(1, triangular), (0, 0)]));
     }
     for symbol in 16..=31 {
         let value = 3 + 2 * symbol;
         expect(&symbol_block(symbol), &values, 512, Ok(&[(value, 0)]));
         let both = symbol_limited(symbol_block(symbol), 2, 255);
         expect(&both, &values, 512, Ok(&[(value, 7), (0, 0)]));
+        let both = triangular_limited(symbol_block(symbol), 2, 255);
+        expect(&both, &values, 512, Ok(&[(value, 28), (0, 0)]));
     }
 }
 
@@ -148,6 +155,125 @@ fn a_limit_past_the_last_member_above_0_changes_nothing() {
 fn limits_on_loops_count_whole_passes() {
     let passes = limited(repeat(3, run_block(5, 4), block(1)), 2, 255);
     listed(&passes, &[(16, 1), (6, 1), (0, 0)]);
+}
+
+// Triangular limits.
+
+/// Zeros, but for these symbols.
+fn values_of(symbols: &[(usize, u64)]) -> [u64; 32] {
+    let mut values = ZEROS;
+    for &(symbol, value) in symbols {
+        values[symbol] = value;
+    }
+    values
+}
+
+/// The constant list of that table where symbol 0 has that value.
+#[track_caller]
+fn figure_at(table: &[u8], value: u64, figure: u64) {
+    expect(table, &values_of(&[(0, value)]), 512, Ok(&[(figure, 0)]));
+}
+
+#[test]
+fn a_triangular_limit_keeps_so_many_members() {
+    for (value, kept) in [
+        (1, 1),
+        (2, 3),
+        (3, 6),
+        (4, 10),
+        (10, 55),
+        (999, 499_500),
+        (1_000, 500_500),
+    ] {
+        let values = values_of(&[(0, value)]);
+        let on_block = triangular_limited(block(5), 0, 255);
+        expect(&on_block, &values, 512, Ok(&[(5, kept), (0, 0)]));
+        let on_list = triangular_limited(sequence(&[block(5), block(2)]), 0, 255);
+        expect(&on_list, &values, 512, Ok(&[(7, kept), (0, 0)]));
+        let on_loop = triangular_limited(repeat(3, block(5), block(2)), 0, 255);
+        expect(&on_loop, &values, 512, Ok(&[(17, kept), (0, 0)]));
+        let plain = run_block(5, kept as u32);
+        expect(&plain, &values, 512, Ok(&[(5, kept), (0, 0)]));
+    }
+    listed(&triangular_limited(block(5), 0, 255), &[(0, 0)]);
+}
+
+/// Document 000's example: for i from 1 to 10, and in it for j from i to 10. The block in the inner
+/// loop has the annotation (Leaf(b), l_outer, 55), which is a limit of 55 and byte 3 = 2 here. Both
+/// loops have bound 10, so that without the limit the block would count 100 times.
+#[test]
+fn document_000s_triangular_loop_passes_its_block_55_times() {
+    let example = |block| in_loops(2, 10, block);
+    let time = 7;
+    figure(&example(block(time)), 100 * time);
+    figure(&example(limited(block(time), 55, 2)), 55 * time);
+    let by_symbol = example(triangular_limited(block(time), 0, 2));
+    figure_at(&by_symbol, 10, 55 * time);
+    // A round less of both loops, or one more where the bounds stay 10.
+    figure_at(&by_symbol, 9, 45 * time);
+    figure_at(&by_symbol, 11, 66 * time);
+    // The inner loop's own limit is never reached.
+    let inner = example(triangular_limited(block(time), 0, 1));
+    figure_at(&inner, 10, 100 * time);
+    // Where the block is one of two ways, the other 45 passes take the other.
+    let ways = |limited| example(choice(&[limited, block(2)]));
+    let (plain, by_symbol) = (limited(block(7), 55, 2), triangular_limited(block(7), 0, 2));
+    figure(&ways(plain), 55 * 7 + 45 * 2);
+    figure_at(&ways(by_symbol), 10, 55 * 7 + 45 * 2);
+    figure(&ways(block(7)), 100 * 7);
+}
+
+/// The same with every bound and the limit from one symbol: the card search.
+#[test]
+fn a_triangular_loop_of_any_size() {
+    let inner = symbol_repeat(0, triangular_limited(block(7), 0, 2), block(0));
+    let table = symbol_repeat(0, inner, block(3));
+    for (cards, passes) in [
+        (0, 0),
+        (1, 1),
+        (2, 3),
+        (10, 55),
+        (100, 5_050),
+        (1_000, 500_500),
+    ] {
+        figure_at(&table, cards, 7 * passes + 3);
+    }
+}
+
+#[test]
+fn a_symbol_may_be_a_limit_both_ways() {
+    let both = sequence(&[
+        triangular_limited(block(5), 3, 255),
+        symbol_limited(block(2), 3, 255),
+        triangular_limited(block(1), 4, 255),
+    ]);
+    let values = values_of(&[(3, 4), (4, 3)]);
+    expect(&both, &values, 512, Ok(&[(8, 4), (6, 2), (5, 4), (0, 0)]));
+}
+
+#[test]
+fn raising_a_triangular_symbol_never_lowers_a_figure() {
+    let ways = |names| choice(&[triangular_limited(block(9), 0, names), block(4)]);
+    let tables = [
+        in_loops(1, 1_000_000, ways(1)),
+        in_loops(2, 700, ways(2)),
+        in_loops(2, 700, ways(1)),
+        in_loops(2, 700, ways(255)),
+        in_loops(1, 40, triangular_limited(ways(1), 0, 1)),
+        symbol_repeat(0, ways(1), triangular_limited(block(8), 0, 255)),
+    ];
+    for table in tables {
+        let mut figures = Vec::new();
+        for value in 0..=1_000 {
+            let values = values_of(&[(0, value)]);
+            let figure = quotes::figure(&mut Rng::new(0), &table, &values);
+            assert_eq!(figure, evaluator::figure(&table, &values));
+            figures.push(figure.expect("small amounts"));
+        }
+        assert!(figures.is_sorted(), "{figures:?}");
+        assert!(figures[0] < figures[1_000], "{figures:?}");
+        expect(&table, &values_of(&[(0, 1_001)]), 512, Err(13));
+    }
 }
 
 // Sequences and choices.
@@ -573,6 +699,139 @@ fn each_value_has_its_ceiling() {
     }
 }
 
+// Question 13.
+
+#[test]
+fn values_past_1000_are_refused_13_under_flag_4() {
+    for symbol in 0..=15 {
+        let kinds = [
+            block(7),
+            symbol_block(16),
+            sequence(&[block(7)]),
+            choice(&[block(7)]),
+            repeat(1, block(7), block(0)),
+            symbol_repeat(symbol.into(), block(7), block(0)),
+        ];
+        for node in kinds {
+            let table = triangular_limited(node, symbol, 255);
+            let answer = |value| {
+                let values = values_of(&[(symbol as usize, value)]);
+                quotes::figure(&mut Rng::new(0), &table, &values).err()
+            };
+            assert_eq!([999, 1_000].map(answer), [None, None]);
+            for value in [1_001, 1_256, 65_536, 66_536, 1_000_000] {
+                let values = values_of(&[(symbol as usize, value)]);
+                expect(&table, &values, 512, Err(13));
+            }
+        }
+    }
+}
+
+#[test]
+fn other_symbols_are_not_asked() {
+    // Symbol 0 is a limit by flag 4, symbols 1 and 2 are a limit and a bound, and 3 is not used.
+    let limits = choice(&[
+        triangular_limited(block(9), 0, 1),
+        symbol_limited(block(8), 1, 1),
+        block(1),
+    ]);
+    let table = symbol_repeat(2, limits, block(0));
+    let high = |low| {
+        let mut values = ceilings();
+        values[0] = low;
+        values
+    };
+    // 500,500 times 9, and 8 for the rest of a million.
+    let at_most = 500_500 * 9 + 499_500 * 8;
+    expect(&table, &high(1_000), 512, Ok(&[(at_most, 0)]));
+    expect(&table, &high(0), 512, Ok(&[(8_000_000, 0)]));
+    expect(&table, &high(1_001), 512, Err(13));
+    // Without flag 4 no symbol is asked, and with it each one that has it.
+    let none = choice(&[symbol_limited(block(9), 0, 1), block(1)]);
+    let none = symbol_repeat(2, none, block(0));
+    expect(&none, &ceilings(), 512, Ok(&[(9_000_000, 0)]));
+    let two = |first, second| {
+        let blocks = [(7, 0), (6, 1)].map(|(time, of)| triangular_limited(block(time), of, 255));
+        let values = values_of(&[(0, first), (1, second), (2, 1_000_000)]);
+        (choice(&blocks), values)
+    };
+    for (first, second) in [(1_001, 5), (5, 1_001), (1_001, 1_001)] {
+        let (table, values) = two(first, second);
+        expect(&table, &values, 512, Err(13));
+    }
+    let (table, values) = two(1_000, 1);
+    expect(&table, &values, 512, Ok(&[(7, 500_500), (6, 1), (0, 0)]));
+}
+
+/// One place under flag 4 is enough, wherever the symbol stands besides.
+#[test]
+fn a_symbol_used_both_ways_is_asked() {
+    let plain: [fn() -> Vec<u8>; 2] = [
+        || symbol_limited(block(1), 5, 255),
+        || symbol_repeat(5, block(1), block(0)),
+    ];
+    for plain in plain {
+        let triangular = || triangular_limited(block(1), 5, 255);
+        for table in [
+            sequence(&[plain(), triangular()]),
+            sequence(&[triangular(), plain()]),
+        ] {
+            let figure = |value| {
+                let values = values_of(&[(5, value)]);
+                evaluator::figure(&table, &values)
+            };
+            assert!(figure(1_000).is_ok());
+            expect(&table, &values_of(&[(5, 1_001)]), 512, Err(13));
+        }
+        // Without that place it is not.
+        let values = values_of(&[(5, 1_001)]);
+        assert!(evaluator::figure(&plain(), &values).is_ok());
+        assert!(quotes::figure(&mut Rng::new(0), &plain(), &values).is_ok());
+    }
+}
+
+#[test]
+fn question_13_is_put_to_nodes_that_add_nothing_to_the_root() {
+    let tables: [fn(Vec<u8>) -> Vec<u8>; 5] = [
+        |node| sequence(&[limited(sequence(&[node]), 0, 255), block(7)]),
+        |node| choice(&[node, block(7)]),
+        |node| repeat(0, node, block(7)),
+        |node| repeat(7, block(1), limited(sequence(&[node]), 0, 255)),
+        |node| in_sequences(5, sequence(&[block(7), repeat(0, node, block(0))])),
+    ];
+    for table in tables {
+        let table = table(triangular_limited(block(0), 9, 255));
+        expect(&table, &values_of(&[(9, 1_000)]), 512, Ok(&[(7, 0)]));
+        expect(&table, &values_of(&[(9, 1_001)]), 512, Err(13));
+    }
+}
+
+#[test]
+fn question_13_comes_after_9_and_before_10() {
+    let past = repeat(1_000_000, block(1_000_000), block(1));
+    let table = sequence(&[past, triangular_limited(block(7), 0, 255)]);
+    expect(&table, &values_of(&[(0, 1_000)]), 512, Err(10));
+    expect(&table, &values_of(&[(0, 1_001)]), 512, Err(13));
+    expect(&table, &values_of(&[(0, 1_000_001)]), 512, Err(9));
+    // Another symbol's value, one that no node has, and the wrong number of values.
+    for at in [1, 15, 16, 31] {
+        let mut values = values_of(&[(0, 1_001)]);
+        values[at] = CEILING + 1;
+        expect(&table, &values, 512, Err(9));
+    }
+    expect(&table, &values_of(&[(0, 1_001)])[..31], 512, Err(9));
+    // The list call's buffer comes before both.
+    expect(&table, &values_of(&[(0, 1_001)]), 511, Err(8));
+    expect(&table, &values_of(&[(0, 1_000_001)]), 511, Err(8));
+}
+
+#[test]
+fn checking_does_not_ask_question_13() {
+    let table = triangular_limited(block(7), 0, 255);
+    expect(&table, &ceilings(), 512, Err(13));
+    assert_eq!(ffi::check(&table), Checked::accept(1));
+}
+
 // Question 8.
 
 #[test]
@@ -607,46 +866,53 @@ fn fault(question: u64) -> Vec<u8> {
         6 => limited(block(7), 1, 1),
         7 => in_loops(8, 3, limited(block(7), 1, 255)),
         10 => repeat(1_000_000, block(1_000_000), block(1)),
+        13 => triangular_limited(block(7), 15, 255),
         _ => block(7),
     }
 }
 
+/// The questions in the order in which they are put.
+const ORDER: [u64; 11] = [1, 2, 3, 4, 5, 6, 7, 8, 9, 13, 10];
+
 /// Both calls' refusals of a table, values and a buffer that fail these questions.
 #[track_caller]
-fn expect_lowest(faults: &[u64]) {
+fn expect_first(faults: &[u64]) {
     let children: Vec<_> = faults.iter().map(|&question| fault(question)).collect();
     let table = sequence(&children);
-    let values: &[u64] = if faults.contains(&9) {
-        &[CEILING; 32]
+    let values = if faults.contains(&9) {
+        [CEILING; 32]
+    } else if faults.contains(&13) {
+        values_of(&[(15, 1_001)])
     } else {
-        &ZEROS
+        ZEROS
     };
     let room = if faults.contains(&8) { 511 } else { 512 };
     let mut rng = Rng::new(0);
 
-    let lowest = faults.iter().min().expect("a fault");
-    let list = quotes::list(&mut rng, &table, values, room);
-    assert_eq!(list, Err(*lowest), "{faults:?}");
-    assert_eq!(evaluator::list(&table, values, room), list, "{faults:?}");
+    let mut put = ORDER.iter().filter(|&question| faults.contains(question));
+    let first = put.clone().next().expect("a fault");
+    let list = quotes::list(&mut rng, &table, &values, room);
+    assert_eq!(list, Err(*first), "{faults:?}");
+    assert_eq!(evaluator::list(&table, &values, room), list, "{faults:?}");
 
-    let figure = quotes::figure(&mut rng, &table, values);
-    match faults.iter().filter(|&&question| question != 8).min() {
-        Some(&lowest) => assert_eq!(figure, Err(lowest), "{faults:?}"),
+    let figure = quotes::figure(&mut rng, &table, &values);
+    match put.find(|&&question| question != 8) {
+        Some(&first) => assert_eq!(figure, Err(first), "{faults:?}"),
         None => assert_eq!(figure, Ok(7 * children.len() as u64)),
     }
-    assert_eq!(evaluator::figure(&table, values), figure, "{faults:?}");
+    assert_eq!(evaluator::figure(&table, &values), figure, "{faults:?}");
 }
 
 #[test]
-fn the_lowest_question_answers() {
-    for low in 1..=10 {
-        expect_lowest(&[low]);
-        for high in low + 1..=10 {
-            expect_lowest(&[low, high]);
-            expect_lowest(&[high, low]);
-            for highest in high + 1..=10 {
-                expect_lowest(&[low, high, highest]);
-                expect_lowest(&[highest, high, low]);
+fn the_first_question_that_fails_answers() {
+    for (at, &first) in ORDER.iter().enumerate() {
+        expect_first(&[first]);
+        for (at, &second) in ORDER.iter().enumerate().skip(at + 1) {
+            expect_first(&[first, second]);
+            expect_first(&[second, first]);
+            for &third in &ORDER[at + 1..] {
+                expect_first(&[first, second, third]);
+                expect_first(&[third, second, first]);
             }
         }
     }

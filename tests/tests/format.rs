@@ -353,7 +353,7 @@ fn a_wrong_answer_shows() {
 #[test]
 fn every_question_has_an_example() {
     let examples = examples();
-    for question in 1..=12 {
+    for question in 1..=13 {
         let start = format!("{question}. ");
         let refusal = format!(": {}", refused(question));
         let shows_it = examples.iter().any(|Example { heading, lines }| {
@@ -471,6 +471,11 @@ fn what_is_no_tree_is_told() {
         "7/1",
         "7/1@",
         "7/1@256",
+        "T0",
+        "loop T0 of 7",
+        "7/T@1",
+        "7/T-1@1",
+        "7/X@1",
         "7/1@1/2@2",
         "{7/1@1}/2@2",
         "{7",

@@ -87,7 +87,7 @@ fn a_block_becomes_a_loop() {
 
 #[test]
 fn the_loop_has_the_blocks_limit() {
-    // 5, a million and symbol 5.
+    // 5, a million, symbol 5 and its triangular number.
     let host = [0, 1, 0, 255, 5, 0, 0, 0, 16, 0, 0, 0, 0, 0, 0, 0];
     let put = [3, 0, 2, 255, 5, 0, 0, 0, 1, 0, 0, 0, 0, 0, 0, 0];
     writes(&host, &SEVEN, &[put, SEVEN, ZERO].concat());
@@ -96,6 +96,9 @@ fn the_loop_has_the_blocks_limit() {
     writes(&host, &SEVEN, &[put, SEVEN, ZERO].concat());
     let host = [0, 3, 0, 255, 5, 0, 0, 0, 16, 0, 0, 0, 0, 0, 0, 0];
     let put = [3, 2, 2, 255, 5, 0, 0, 0, 1, 0, 0, 0, 0, 0, 0, 0];
+    writes(&host, &SEVEN, &[put, SEVEN, ZERO].concat());
+    let host = [0, 7, 0, 255, 5, 0, 0, 0, 16, 0, 0, 0, 0, 0, 0, 0];
+    let put = [3, 6, 2, 255, 5, 0, 0, 0, 1, 0, 0, 0, 0, 0, 0, 0];
     writes(&host, &SEVEN, &[put, SEVEN, ZERO].concat());
 }
 
@@ -106,6 +109,10 @@ fn limits_of_the_run_name_the_loop() {
     let put = [3, 0, 2, 0, 0, 0, 0, 0, 1, 0, 0, 0, 0, 0, 0, 0];
     let named = [0, 0, 0, 1, 4, 0, 0, 0, 7, 0, 0, 0, 0, 0, 0, 0];
     writes(&X, &sent, &[put, named, ZERO].concat());
+    // The triangular number of symbol 4 as often.
+    let sent_6 = [0, 6, 0, 255, 4, 0, 0, 0, 7, 0, 0, 0, 0, 0, 0, 0];
+    let named_6 = [0, 6, 0, 1, 4, 0, 0, 0, 7, 0, 0, 0, 0, 0, 0, 0];
+    writes(&X, &sent_6, &[put, named_6, ZERO].concat());
     // The block's own limit still names the run.
     let host = [0, 1, 0, 255, 5, 0, 0, 0, 16, 0, 0, 0, 0, 0, 0, 0];
     let put = [3, 0, 2, 255, 5, 0, 0, 0, 1, 0, 0, 0, 0, 0, 0, 0];
@@ -193,13 +200,16 @@ fn the_hosts_limits_stay() {
     for names in [1, 2, 3, 4, 5, 6, 7] {
         let host = |place| in_loops(7, 3, sequence(&[block(1), limited(place, 9, names)]));
         writes(&host(x()), &sent, &host(put()));
-        let host = |place| in_loops(7, 3, symbol_limited(place, 9, names));
-        writes(&host(x()), &sent, &host(put()));
+        for limit in [symbol_limited, triangular_limited] {
+            let host = |place| in_loops(7, 3, limit(place, 9, names));
+            writes(&host(x()), &sent, &host(put()));
+        }
     }
     // Above it, beside it and below.
     let host = |place| {
-        let body = once(sequence(&[place, once(y(), 1)]), 255);
-        once(repeat(3, body, symbol_limited(block(2), 3, 255)), 255)
+        let body = once(sequence(&[place, triangular_limited(y(), 3, 1)]), 255);
+        let exit = symbol_limited(block(2), 3, 255);
+        triangular_limited(repeat(3, body, exit), 3, 255)
     };
     writes(&host(x()), &sent, &host(put()));
 }
@@ -221,6 +231,7 @@ fn a_host_without_the_symbol_is_written_as_it_is() {
         limited(y(), 16, 255),
         repeat(16, block(16), y()),
         symbol_repeat(15, symbol_limited(y(), 0, 1), once(block(16), 255)),
+        triangular_limited(y(), 15, 255),
         in_loops(8, 16, block(1)),
         in_sequences(31, y()),
     ];
@@ -272,8 +283,10 @@ fn limits_under_every_number_of_own_loops() {
     for loops in 0..=7 {
         let sent = |names| in_loops(loops, 3, limited(y(), 5, names));
         writes(&x(), &sent(255), &put(sent(loops as u8 + 1)));
-        let sent = |names| in_loops(loops, 3, in_sequences(9, symbol_limited(y(), 5, names)));
-        writes(&x(), &sent(255), &put(sent(loops as u8 + 1)));
+        for limit in [symbol_limited, triangular_limited] {
+            let sent = |names| in_loops(loops, 3, in_sequences(9, limit(y(), 5, names)));
+            writes(&x(), &sent(255), &put(sent(loops as u8 + 1)));
+        }
     }
     refuses(7, &x(), &in_loops(8, 3, limited(y(), 5, 255)));
     refuses(7, &block(7), &in_loops(8, 3, limited(y(), 5, 255)));
@@ -294,6 +307,10 @@ fn limits_on_every_kind_of_node() {
         writes(&x(), &sent(255), &put(sent(1)));
         let sent = |names| repeat(2, once(node(), names), block(5));
         writes(&x(), &sent(255), &put(sent(2)));
+        let sent = |names| repeat(2, triangular_limited(node(), 5, names), block(5));
+        writes(&x(), &sent(255), &put(sent(2)));
+        // One that names an own loop stays.
+        writes(&x(), &sent(1), &put(sent(1)));
     }
 }
 
@@ -396,6 +413,35 @@ fn figures_past_the_ceiling() {
     // Unless it is put nowhere.
     let written = graft(&y(), &past).expect("two small tables");
     assert_eq!(both_figures(&written, &values), Ok(0));
+}
+
+/// Grafting is lent no values. Those of the desks may be past 1,000 in either table, and are then in the
+/// written one.
+#[test]
+fn grafting_does_not_ask_question_13() {
+    let host = choice(&[triangular_limited(x(), 0, 255), y()]);
+    let sent = choice(&[triangular_limited(block(30), 1, 255), block(10)]);
+    let written = graft(&host, &sent).expect("two small tables");
+    let put = put(choice(&[triangular_limited(block(30), 1, 1), block(10)]));
+    let expected = choice(&[triangular_limited(put, 0, 255), y()]);
+    assert!(written == expected, "{}", shown(&written));
+    for (of_host, of_sent, figure) in [
+        (1_000, 1_000, Ok(30)),
+        (1_000, 0, Ok(20)),
+        (0, 1_000, Ok(20)),
+        (1_001, 1_000, Err(13)),
+        (1_000, 1_001, Err(13)),
+    ] {
+        let mut values = [0; 32];
+        (values[0], values[1], values[17]) = (of_host, of_sent, 20);
+        assert_eq!(both_figures(&written, &values), figure);
+        let sent_figure = both_figures(&sent, &values);
+        let host_figure = sent_figure.and_then(|figure| {
+            values[16] = figure;
+            both_figures(&host, &values)
+        });
+        assert_eq!(host_figure, figure);
+    }
 }
 
 // Question 11.

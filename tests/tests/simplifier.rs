@@ -1,10 +1,13 @@
 //! `vf_simplify` and the second simplifier on hand-written tables: document 01's cases, each rule where
-//! it fits and where it does not, the order of steps and of questions. All numbers here are literals.
+//! it fits and where it does not, also with flag 4, the order of steps and of questions. All numbers
+//! here are literals.
 
 use volefleece_tests::cases::cases;
 use volefleece_tests::compare::shown;
 use volefleece_tests::evaluator;
+use volefleece_tests::quotes;
 use volefleece_tests::reader;
+use volefleece_tests::rng::Rng;
 use volefleece_tests::simplifications::Simplifications;
 use volefleece_tests::simplifier::{step, Simplified};
 use volefleece_tests::tables::*;
@@ -171,6 +174,8 @@ fn rule_1_wants_no_symbol_and_no_such_block() {
     stays(&x());
     stays(&symbol_limited(block(7), 0, 255));
     stays(&symbol_limited(x(), 0, 255));
+    stays(&triangular_limited(block(7), 0, 255));
+    stays(&repeat(3, triangular_limited(block(7), 0, 1), block(0)));
     stays(&symbol_repeat(0, block(7), block(0)));
     stays(&limited(x(), 3, 255));
     // A part that is one limited block is not the table.
@@ -264,14 +269,24 @@ fn rule_3_keeps_the_only_child() {
         );
         becomes(&list(&[once(x(), 255)]), 3, &once(x(), 255));
         becomes(&limited(list(&[x()]), 0, 255), 3, &limited(x(), 0, 255));
-        let flagged = symbol_limited(list(&[x()]), 7, 255);
-        becomes(&flagged, 3, &symbol_limited(x(), 7, 255));
-        let in_loop = |body| in_loops(2, 3, sequence(&[y(), body]));
-        becomes(
-            &in_loop(symbol_limited(list(&[x()]), 7, 2)),
-            3,
-            &in_loop(symbol_limited(x(), 7, 2)),
-        );
+        // Flags 2 and 4 move with the limit, down to the child or up with it.
+        for limit in [symbol_limited, triangular_limited] {
+            becomes(&limit(list(&[x()]), 7, 255), 3, &limit(x(), 7, 255));
+            becomes(
+                &limit(list(&[block(7)]), 7, 255),
+                3,
+                &limit(block(7), 7, 255),
+            );
+            becomes(&list(&[limit(x(), 7, 255)]), 3, &limit(x(), 7, 255));
+            let in_loop = |body| in_loops(2, 3, sequence(&[y(), body]));
+            becomes(
+                &in_loop(limit(list(&[x()]), 7, 2)),
+                3,
+                &in_loop(limit(x(), 7, 2)),
+            );
+            let bound = || symbol_repeat(7, x(), y());
+            becomes(&limit(list(&[bound()]), 7, 255), 3, &limit(bound(), 7, 255));
+        }
     }
     becomes(&sequence(&[choice(&[x(), y()])]), 3, &choice(&[x(), y()]));
     becomes(&choice(&[sequence(&[x()])]), 3, &sequence(&[x()]));
@@ -283,6 +298,8 @@ fn rule_3_wants_one_child_and_one_limit_at_most() {
         stays(&list(&[x(), y()]));
         stays(&once(list(&[once(x(), 255)]), 255));
         stays(&limited(list(&[symbol_limited(x(), 1, 255)]), 0, 255));
+        stays(&limited(list(&[triangular_limited(x(), 1, 255)]), 0, 255));
+        stays(&triangular_limited(list(&[once(x(), 255)]), 0, 255));
         // A limited list of its own kind has a limit too many for rules 2 and 3.
         let inner = once(list(&[x(), y()]), 255);
         stays(&once(list(&[inner]), 255));
@@ -356,10 +373,12 @@ fn rule_4_wants_children_closed() {
 fn rule_4_wants_no_symbol() {
     stays(&sequence(&[x(), repeat(3, x(), block(1))]));
     stays(&sequence(&[x(), symbol_repeat(0, block(3), block(1))]));
-    let limited_by_symbol = symbol_limited(repeat(3, block(3), block(1)), 0, 255);
-    stays(&sequence(&[x(), limited_by_symbol]));
-    let inside = repeat(3, symbol_limited(block(3), 0, 1), block(1));
-    stays(&sequence(&[x(), inside]));
+    for limit in [symbol_limited, triangular_limited] {
+        let limited_by_symbol = limit(repeat(3, block(3), block(1)), 0, 255);
+        stays(&sequence(&[x(), limited_by_symbol]));
+        let inside = repeat(3, limit(block(3), 0, 1), block(1));
+        stays(&sequence(&[x(), inside]));
+    }
 }
 
 // Rule 5.
@@ -395,6 +414,7 @@ fn rule_5_wants_an_unlimited_plain_zero_in_a_list() {
         stays(&list(&[x(), once(block(0), 255)]));
         stays(&list(&[x(), limited(block(0), 0, 255)]));
         stays(&list(&[x(), symbol_limited(block(0), 0, 255)]));
+        stays(&list(&[x(), triangular_limited(block(0), 0, 255)]));
         stays(&list(&[x(), y()]));
         stays(&list(&[x(), block(1)]));
         stays(&repeat(3, list(&[x(), y()]), block(0)));
@@ -438,6 +458,7 @@ fn rule_6_wants_two_unlimited_plain_blocks() {
         x(),
         block(5),
         symbol_limited(block(4), 0, 255),
+        triangular_limited(block(4), 0, 255),
     ]));
     stays(&sequence(&[x(), once(block(5), 255), once(block(4), 255)]));
     stays(&symbol_repeat(0, block(5), block(4)));
@@ -468,6 +489,11 @@ fn rule_7_wants_two_unlimited_plain_blocks() {
     stays(&choice(&[x(), block(5)]));
     stays(&choice(&[x(), block(5), once(block(4), 255)]));
     stays(&choice(&[x(), once(block(5), 255), once(block(5), 255)]));
+    stays(&choice(&[
+        x(),
+        block(5),
+        triangular_limited(block(4), 0, 255),
+    ]));
     // Equal alternatives that are no plain blocks remain two.
     stays(&choice(&[x(), x()]));
     stays(&choice(&[once(x(), 255), once(x(), 255)]));
@@ -483,17 +509,24 @@ fn rule_8_shares_the_second_child() {
         sequence(&[x(), y()]),
         repeat(3, choice(&[once(x(), 1), y()]), block(0)),
         symbol_repeat(0, repeat(2, once(x(), 2), y()), z()),
+        repeat(3, choice(&[triangular_limited(x(), 0, 1), y()]), block(0)),
+        repeat(9, triangular_limited(block(4), 0, 1), block(0)),
     ];
     // First children may have any limits.
-    let firsts = [x(), once(y(), 255), x()];
+    let firsts = [x(), once(y(), 255), triangular_limited(x(), 4, 255)];
     for second in closed {
         let pair = |first| sequence(&[first, second.clone()]);
         let pairs = choice(&firsts.clone().map(pair));
         let shared = pair(choice(&firsts));
         becomes(&pairs, 8, &shared);
-        // The choice's limit goes to the sequence, with its loop byte and flag.
-        let in_loop = |node| in_loops(2, 3, sequence(&[z(), symbol_limited(node, 5, 2)]));
-        becomes(&in_loop(pairs), 8, &in_loop(shared));
+        // The choice's limit goes to the sequence, with its loop byte and flags.
+        for limit in [limited, symbol_limited, triangular_limited] {
+            let in_loop = |node: &[u8]| {
+                let node = limit(node.to_vec(), 5, 2);
+                in_loops(2, 3, sequence(&[z(), node]))
+            };
+            becomes(&in_loop(&pairs), 8, &in_loop(&shared));
+        }
     }
 }
 
@@ -524,6 +557,25 @@ fn rule_8_wants_second_children_equal_and_closed() {
     stays(&of([symbol_block(16), block(16)]));
     let repeated = |bound| repeat(bound, x(), y());
     stays(&of([repeated(2), repeated(3)]));
+    // All bytes count, that of the flags too.
+    let seconds = [
+        limited(x(), 5, 1),
+        symbol_limited(x(), 5, 1),
+        triangular_limited(x(), 5, 1),
+        triangular_limited(x(), 6, 1),
+    ];
+    let seconds = seconds.map(|body| repeat(3, body, y()));
+    for one in &seconds {
+        for other in &seconds {
+            let pairs = of([one.clone(), other.clone()]);
+            if one == other {
+                let shared = sequence(&[choice(&[x(), z()]), one.clone()]);
+                becomes(&pairs, 8, &shared);
+            } else {
+                stays(&pairs);
+            }
+        }
+    }
     // First children that are equal are no reason.
     let firsts = choice(&[sequence(&[x(), y()]), sequence(&[x(), z()])]);
     stays(&firsts);
@@ -560,6 +612,12 @@ fn rule_9_keeps_the_exit() {
         9,
         &repeat(2, x(), block(0)),
     );
+    let exit = || triangular_limited(y(), 7, 255);
+    becomes(
+        &repeat(0, triangular_limited(x(), 7, 1), exit()),
+        9,
+        &exit(),
+    );
     // The exit may name the loops around.
     becomes(
         &repeat(2, repeat(0, x(), once(y(), 1)), block(0)),
@@ -574,6 +632,7 @@ fn rule_9_wants_an_unlimited_loop_of_plain_bound_0() {
     stays(&symbol_repeat(0, x(), y()));
     stays(&once(repeat(0, x(), y()), 255));
     stays(&limited(repeat(0, x(), y()), 0, 255));
+    stays(&triangular_limited(repeat(0, x(), y()), 0, 255));
 }
 
 #[test]
@@ -581,6 +640,7 @@ fn rule_9_wants_no_outer_loop_named() {
     let in_loop = |body| repeat(2, repeat(0, body, y()), block(0));
     stays(&in_loop(once(x(), 2)));
     stays(&in_loop(limited(x(), 0, 2)));
+    stays(&in_loop(triangular_limited(x(), 0, 2)));
     stays(&in_loop(symbol_repeat(0, once(x(), 3), y())));
     stays(&in_loop(symbol_repeat(0, x(), once(y(), 2))));
     let run_and_outer = sequence(&[once(x(), 2), once(y(), 255)]);
@@ -653,10 +713,51 @@ fn questions_are_put_in_order() {
     let heavy = in_loops(8, 3, once(block(7), 255));
     assert_eq!(simplify(&heavy, 0, 0), Err(7));
     assert_eq!(simplify(&[], 0, 0), Err(1));
-    // Symbols are 0 for question 10.
-    let at_ceiling = sequence(&[block(1_000_000_000_000), x()]);
-    assert_eq!(
-        simplify(&at_ceiling, 9, 48),
-        simplified(0, &at_ceiling, true)
+    // Symbols are 0 for question 10, and so are their triangular numbers.
+    let one = || block(1);
+    let at_ceiling = [
+        x(),
+        symbol_limited(one(), 15, 255),
+        triangular_limited(one(), 15, 255),
+        symbol_repeat(15, one(), block(0)),
+    ];
+    for node in at_ceiling {
+        let table = sequence(&[block(1_000_000_000_000), node]);
+        let answer = simplify(&table, 9, table.len());
+        assert_eq!(answer, simplified(0, &table, true));
+    }
+    let limited = sequence(&[block(1_000_000_000_000), once(one(), 255)]);
+    assert_eq!(simplify(&limited, 9, 48), Err(10));
+}
+
+/// Question 13 is about values, and simplifying is lent none.
+#[test]
+fn the_desks_ask_question_13_and_simplifying_does_not() {
+    let body = choice(&[triangular_limited(block(9), 0, 1), block(4), block(3)]);
+    let table = repeat(1_000_000, sequence(&[body]), block(0));
+    let simple = repeat(
+        1_000_000,
+        choice(&[triangular_limited(block(9), 0, 1), block(4)]),
+        block(0),
     );
+    ends(&table, 2, &simple);
+    let mut values = ZEROS;
+    for (value, figure) in [
+        (0, Ok(4_000_000)),
+        (1_000, Ok(500_500 * 9 + 499_500 * 4)),
+        (1_001, Err(13)),
+        (1_000_000, Err(13)),
+    ] {
+        values[0] = value;
+        for table in [&table, &simple] {
+            let answer = quotes::figure(&mut Rng::new(0), table, &values);
+            assert_eq!(answer, figure);
+            assert_eq!(evaluator::figure(table, &values), figure);
+        }
+    }
+    // Where a step drops the limit, what is left of the table has a figure all the same.
+    let table = repeat(0, triangular_limited(x(), 0, 1), block(5));
+    ends(&table, 1, &block(5));
+    let answers = [table, block(5)].map(|table| quotes::figure(&mut Rng::new(0), &table, &values));
+    assert_eq!(answers, [Err(13), Ok(5)]);
 }

@@ -91,6 +91,7 @@ impl Program<'_> {
         match amount {
             Amount::Plain(number) => number,
             Amount::Symbol(symbol) => self.values[symbol as usize],
+            Amount::Triangular(symbol) => (0..=self.values[symbol as usize]).sum(),
         }
     }
 }

@@ -38,13 +38,13 @@ extern "C" {
     ) -> Listed;
 }
 
-/// Puts questions 1 to 7, 9 and 10 and answers the figure.
+/// Puts questions 1 to 7, 9, 13 and 10 and answers the figure.
 pub fn figure(table: &[u8], values: &[u64]) -> Figure {
     // SAFETY: the pointers and lengths are those of live slices, which the call only reads.
     unsafe { vf_figure(table.as_ptr(), table.len(), values.as_ptr(), values.len()) }
 }
 
-/// Puts questions 1 to 10 and writes the root's list.
+/// Puts questions 1 to 9, 13 and 10 and writes the root's list.
 pub fn list(table: &[u8], values: &[u64], out: &mut [u64]) -> Listed {
     // SAFETY: the pointers and lengths are those of live slices, and only the one that is lent
     // mutably is written.

@@ -16,6 +16,8 @@ pub use redundant::{crowded, deepest, redundant};
 pub enum Amount {
     Plain(u64),
     Symbol(u64),
+    /// The triangular number of a symbol, which limits alone may be.
+    Triangular(u64),
 }
 
 #[derive(Clone, Copy, Debug, PartialEq, Eq)]
@@ -100,38 +102,49 @@ impl Tree {
     }
 
     fn record(&self) -> [u8; RECORD_BYTES] {
-        let (kind, (value, value_is_symbol)) = match self.kind {
-            Kind::Block(time) => (BLOCK, number(time)),
-            Kind::Sequence => (SEQUENCE, (0, false)),
-            Kind::Choice => (CHOICE, (0, false)),
-            Kind::Loop(bound) => (LOOP, number(bound)),
+        let nothing = Amount::Plain(0);
+        let (kind, value) = match self.kind {
+            Kind::Block(time) => (BLOCK, time),
+            Kind::Sequence => (SEQUENCE, nothing),
+            Kind::Choice => (CHOICE, nothing),
+            Kind::Loop(bound) => (LOOP, bound),
         };
-        let names = self.limit.map_or(NO_LIMIT, |limit| limit.names);
-        let (limit, limit_is_symbol) = self.limit.map_or((0, false), |limit| number(limit.amount));
+        let (names, limit) = match self.limit {
+            None => (NO_LIMIT, nothing),
+            Some(limit) => (limit.names, limit.amount),
+        };
 
         let mut record = [0; RECORD_BYTES];
         record[0] = kind;
-        record[1] = flag(VALUE_IS_SYMBOL, value_is_symbol) | flag(LIMIT_IS_SYMBOL, limit_is_symbol);
+        record[1] = value_flags(value) | limit_flags(limit);
         record[2] = u8::try_from(self.children.len()).expect("at most 255 children");
         record[3] = names;
-        let limit = u32::try_from(limit).expect("a limit of 32 bits");
+        let limit = u32::try_from(number(limit)).expect("a limit of 32 bits");
         record[4..8].copy_from_slice(&limit.to_le_bytes());
-        record[8..16].copy_from_slice(&value.to_le_bytes());
+        record[8..16].copy_from_slice(&number(value).to_le_bytes());
         record
     }
 }
 
-fn number(amount: Amount) -> (u64, bool) {
+/// What the amount's field holds.
+fn number(amount: Amount) -> u64 {
     match amount {
-        Amount::Plain(number) => (number, false),
-        Amount::Symbol(symbol) => (symbol, true),
+        Amount::Plain(number) | Amount::Symbol(number) | Amount::Triangular(number) => number,
     }
 }
 
-fn flag(flag: u8, set: bool) -> u8 {
-    if set {
-        flag
-    } else {
-        0
+fn value_flags(value: Amount) -> u8 {
+    match value {
+        Amount::Plain(_) => 0,
+        Amount::Symbol(_) => VALUE_IS_SYMBOL,
+        Amount::Triangular(_) => panic!("no value is triangular"),
+    }
+}
+
+fn limit_flags(limit: Amount) -> u8 {
+    match limit {
+        Amount::Plain(_) => 0,
+        Amount::Symbol(_) => LIMIT_IS_SYMBOL,
+        Amount::Triangular(_) => LIMIT_IS_SYMBOL | LIMIT_IS_TRIANGULAR,
     }
 }
