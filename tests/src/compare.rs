@@ -2,7 +2,7 @@
 //! Whatever is lent to a call, to be read or written, stands between bytes that it may not change.
 
 use crate::ffi::{self, Checked};
-use crate::format::RECORD_BYTES;
+use crate::format::{LIMIT_IS_TRIANGULAR, RECORD_BYTES};
 use crate::reader;
 use crate::rng::Rng;
 use std::fmt::Debug;
@@ -69,6 +69,8 @@ fn pattern(rng: &mut Rng, length: usize) -> Vec<u8> {
 pub struct Comparison {
     rng: Rng,
     refused: [u64; 8],
+    /// The accepted tables with flag 4.
+    triangular: u64,
 }
 
 impl Comparison {
@@ -77,6 +79,7 @@ impl Comparison {
         Comparison {
             rng: Rng::new(!seed),
             refused: [0; 8],
+            triangular: 0,
         }
     }
 
@@ -92,6 +95,7 @@ impl Comparison {
             shown(table)
         );
         self.refused[answer.refused as usize] += 1;
+        self.triangular += u64::from(answer.refused == 0 && has_flag_4(table));
         answer
     }
 
@@ -115,6 +119,17 @@ impl Comparison {
             );
         }
     }
+
+    /// Asserts that so many tables with flag 4 were accepted.
+    pub fn assert_triangular(&self, times: u64) {
+        assert!(self.triangular >= times, "{}", self.triangular);
+    }
+}
+
+/// Whether a record of the table has flag 4.
+pub fn has_flag_4(table: &[u8]) -> bool {
+    let mut records = table.chunks_exact(RECORD_BYTES);
+    records.any(|record| record[1] & LIMIT_IS_TRIANGULAR != 0)
 }
 
 /// The table, a record to a line.

@@ -38,7 +38,7 @@ impl Edit {
 }
 
 pub const KINDS: [u8; 6] = [0, 1, 2, 3, 4, 255];
-pub const FLAGS: [u8; 8] = [0, 1, 2, 3, 4, 5, 128, 255];
+pub const FLAGS: [u8; 13] = [0, 1, 2, 3, 4, 5, 6, 7, 8, 10, 14, 128, 255];
 pub const CHILDREN: [u8; 6] = [0, 1, 2, 3, 254, 255];
 pub const NAMES: [u8; 12] = [0, 1, 2, 3, 4, 5, 6, 7, 8, 9, 254, 255];
 
@@ -100,7 +100,7 @@ pub fn field_ends() -> Vec<Edit> {
 /// their ends together.
 pub fn joined_ends() -> Vec<Vec<Edit>> {
     let mut edits = Vec::new();
-    for flags in [0, 1, 2, 3, 4].map(Edit::Flags) {
+    for flags in [0, 1, 2, 3, 4, 5, 6, 7, 8].map(Edit::Flags) {
         for value in VALUES.map(Edit::Value) {
             edits.push(vec![flags, value]);
         }

@@ -50,7 +50,9 @@ pub fn table(rng: &mut Rng, tree: &Tree, faults: &[u64]) -> Vec<u8> {
             1 => fail_length(rng, &mut table),
             2 | 3 | 6 => {
                 let block = blocks.pop().expect("a block for each");
-                block_fault(rng, question, around[block]).apply(&mut table, block);
+                for edit in block_fault(rng, question, around[block]) {
+                    edit.apply(&mut table, block);
+                }
             }
             4 => fail_tree(rng, &mut table),
             _ => {}
@@ -60,16 +62,19 @@ pub fn table(rng: &mut Rng, tree: &Tree, faults: &[u64]) -> Vec<u8> {
 }
 
 /// What makes a block with so many loops around it fail that question.
-fn block_fault(rng: &mut Rng, question: u64, around: usize) -> Edit {
-    match question {
-        2 => rng.pick(&[
-            Edit::Kind(4),
-            Edit::Flags(4),
-            Edit::Children(1),
-            Edit::Names(9),
-        ]),
-        3 => rng.pick(&[Edit::Value(1_000_000_000_001), Edit::Value(u64::MAX)]),
-        _ => Edit::Names(around as u8 + 1),
+fn block_fault(rng: &mut Rng, question: u64, around: usize) -> Vec<Edit> {
+    match (question, rng.index(4)) {
+        (2, 0) => vec![Edit::Kind(4)],
+        (2, 1) => vec![Edit::Flags(rng.pick(&[4, 5, 8, 12, 128]))],
+        (2, 2) => vec![Edit::Children(1)],
+        (2, _) => vec![Edit::Names(9)],
+        (3, 0) => {
+            let past = rng.pick(&[16, 31, 32, 1_000, u32::MAX]);
+            vec![Edit::Flags(6), Edit::Names(255), Edit::Limit(past)]
+        }
+        (3, 1) => vec![Edit::Value(u64::MAX)],
+        (3, _) => vec![Edit::Value(1_000_000_000_001)],
+        _ => vec![Edit::Names(around as u8 + 1)],
     }
 }
 

@@ -39,7 +39,7 @@ pub fn small_bytes(rng: &mut Rng) -> Vec<u8> {
 
 fn small_byte(rng: &mut Rng, zeros: u64) -> u8 {
     if rng.once_in(zeros) {
-        rng.within(1..=4) as u8
+        rng.within(1..=7) as u8
     } else {
         0
     }
@@ -104,7 +104,7 @@ fn good_record(rng: &mut Rng, mix: &Mix) -> [u8; RECORD_BYTES] {
     record[2] = children;
     record[8] = value;
     if rng.once_in(mix.limits) {
-        record[1] |= flag(rng, LIMIT_IS_SYMBOL, true);
+        record[1] |= rng.pick(&[0, LIMIT_IS_SYMBOL, LIMIT_IS_SYMBOL | LIMIT_IS_TRIANGULAR]);
         record[3] = names(rng, mix);
         record[4] = rng.within(COUNT_SYMBOLS) as u8;
     }

@@ -1,7 +1,7 @@
 //! One table with values, both evaluators: the answers of the figure and list calls must be the
 //! second evaluator's, and neither call may change anything but the front of the list's buffer.
 
-use crate::compare::{lend, shown};
+use crate::compare::{has_flag_4, lend, shown};
 use crate::evaluator::{self, Pair};
 use crate::ffi::{self, Figure, Listed};
 use crate::format::LIST_ROOM;
@@ -81,12 +81,16 @@ pub struct Quote {
     pub list: Result<Vec<Pair>, u64>,
 }
 
+/// How often each answer, 0 or a refusal's number, occurred.
+type Answers = [u64; 14];
+
 /// Compares quotes and counts the answers, so that a test can assert what it has reached.
 pub struct Quotes {
     rng: Rng,
-    /// The answers of both calls, 0 or a refusal's number.
-    figures: [u64; 11],
-    lists: [u64; 11],
+    figures: Answers,
+    lists: Answers,
+    /// The figures and refusals of tables with flag 4.
+    triangular: Answers,
     /// How many lists had so many pairs; those refused had none.
     pairs: [u64; 257],
 }
@@ -96,8 +100,9 @@ impl Quotes {
     pub fn new(seed: u64) -> Self {
         Quotes {
             rng: Rng::new(!seed),
-            figures: [0; 11],
-            lists: [0; 11],
+            figures: [0; 14],
+            lists: [0; 14],
+            triangular: [0; 14],
             pairs: [0; 257],
         }
     }
@@ -126,6 +131,7 @@ impl Quotes {
         );
         self.figures[refusal(&figure)] += 1;
         self.lists[refusal(&list)] += 1;
+        self.triangular[refusal(&figure)] += u64::from(has_flag_4(table));
         self.pairs[list.as_ref().map_or(0, Vec::len)] += 1;
         Quote { figure, list }
     }
@@ -140,6 +146,11 @@ impl Quotes {
     /// The same of the list call alone.
     pub fn assert_lists(&self, least: &[(usize, u64)]) {
         assert_occurred("list", &self.lists, least);
+    }
+
+    /// The same of the figure call on tables with flag 4.
+    pub fn assert_triangular(&self, least: &[(usize, u64)]) {
+        assert_occurred("flag 4's figure", &self.triangular, least);
     }
 
     /// Asserts that so many lists had a number of pairs in that range.
@@ -161,11 +172,11 @@ fn refusal<A>(answer: &Result<A, u64>) -> usize {
         .map_or(0, |&question| question as usize)
 }
 
-fn assert_occurred(call: &str, answers: &[u64; 11], least: &[(usize, u64)]) {
+fn assert_occurred(call: &str, answers: &Answers, least: &[(usize, u64)]) {
     for &(refused, times) in least {
         assert!(
             answers[refused] >= times,
-            "{call} answer {refused} must occur {times} times; answers 0 to 10 occurred {answers:?}"
+            "{call} answer {refused} must occur {times} times; answers 0 to 13 occurred {answers:?}"
         );
     }
 }

@@ -18,6 +18,11 @@ impl Rng {
         z ^ (z >> 31)
     }
 
+    /// A generator of other numbers, with which this one's own stay the same.
+    pub fn aside(&self) -> Rng {
+        Rng(!self.0)
+    }
+
     /// A number of the range. The bias of the remainder does not matter here.
     pub fn within(&mut self, range: RangeInclusive<u64>) -> u64 {
         let (low, high) = range.into_inner();

@@ -1,7 +1,7 @@
 //! One table with an allowance and a buffer, both simplifiers: the call's answer and every byte that it
 //! writes must be the second simplifier's, and it may change nothing but the front of its buffer.
 
-use crate::compare::{lend, lend_out, shown};
+use crate::compare::{has_flag_4, lend, lend_out, shown};
 use crate::ffi;
 use crate::rng::Rng;
 use crate::simplifier::{self, Simplified, Trace};
@@ -50,6 +50,8 @@ pub struct Simplifications {
     refused: [u64; 11],
     finished: u64,
     spent: u64,
+    /// The tables written after some steps that have flag 4.
+    triangular: u64,
     /// How often each rule was on the way of a table that was compared at many allowances.
     rules: [u64; 10],
 }
@@ -62,6 +64,7 @@ impl Simplifications {
             refused: [0; 11],
             finished: 0,
             spent: 0,
+            triangular: 0,
             rules: [0; 10],
         }
     }
@@ -94,10 +97,10 @@ impl Simplifications {
             shown_answer(expected),
             shown(table)
         );
-        match answer {
-            Ok(Simplified { finished: true, .. }) => self.finished += 1,
-            Ok(_) => self.spent += 1,
-            Err(_) => {}
+        if let Ok(made) = &answer {
+            self.finished += u64::from(made.finished);
+            self.spent += u64::from(!made.finished);
+            self.triangular += u64::from(made.steps > 0 && has_flag_4(&made.bytes));
         }
         self.refused[answer.err().unwrap_or(0) as usize] += 1;
     }
@@ -150,6 +153,11 @@ impl Simplifications {
     /// Asserts that so many answers were finished, and as many spent.
     pub fn assert_finished_and_spent(&self, times: u64) {
         assert!(self.finished >= times && self.spent >= times, "{self:?}");
+    }
+
+    /// Asserts that so many tables written after some steps had flag 4.
+    pub fn assert_triangular(&self, times: u64) {
+        assert!(self.triangular >= times, "{self:?}");
     }
 
     /// Asserts that each of these rules was on the way so often.

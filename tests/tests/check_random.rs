@@ -41,6 +41,7 @@ fn trees_within_limits_are_accepted() {
         comparison.expect(&table, Checked::accept(tree.records()));
         assert!(reader::check(&table) == Ok(tree), "read back");
     }
+    comparison.assert_triangular(15_000);
 }
 
 #[test]
@@ -195,6 +196,7 @@ fn each_field_at_its_ends() {
         }
     }
     comparison.assert_reached(&[(0, 5_000), (2, 5_000), (3, 3_000), (4, 300), (6, 1_000)]);
+    comparison.assert_triangular(10_000);
 }
 
 #[test]
@@ -210,6 +212,7 @@ fn flags_with_values_and_limits_at_their_ends() {
         }
     }
     comparison.assert_reached(&[(0, 5_000), (2, 5_000), (3, 3_000), (6, 1_000)]);
+    comparison.assert_triangular(10_000);
 }
 
 /// A tree of a few records, on some rounds one with 8 loops.
@@ -368,4 +371,5 @@ fn noise_of_good_records() {
         comparison.check(&noise::first_tree(&mut rng));
     }
     comparison.assert_reached(&[(0, 1_000), (4, 1_000), (5, 100), (6, 1_000), (7, 10)]);
+    comparison.assert_triangular(1_000);
 }

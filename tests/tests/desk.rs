@@ -290,6 +290,44 @@ fn absent_values_may_be_too_large_for_a_figure() {
     quotes(&and_one, &zeros, "figure 1");
 }
 
+/// An absent count is 1,000,000, which is past 1,000.
+#[test]
+fn absent_values_under_flag_4_are_refused_13() {
+    for symbol in 0..16 {
+        let body = choice(&[triangular_limited(block(1), symbol as u32, 1), block(0)]);
+        let tree = repeat(1_000_000, body, block(0));
+        let folder = Folder::with_tree(DESK, &tree);
+        says(&folder, "refused 13");
+        let mut values = ceilings();
+        values[symbol] = 1_000;
+        for written in 0..=symbol {
+            quotes(&tree, &values_file(&values[..written]), "refused 13");
+        }
+        for written in symbol + 1..=32 {
+            quotes(&tree, &values_file(&values[..written]), "figure 500500");
+        }
+    }
+}
+
+#[test]
+fn only_values_under_flag_4_are_asked() {
+    // Symbols 1 and 2 are a limit and a bound, and may be absent.
+    let ways = [
+        triangular_limited(block(3), 0, 1),
+        symbol_limited(block(2), 1, 1),
+    ];
+    let tree = symbol_repeat(2, choice(&ways), block(0));
+    quotes(&tree, &values_file(&[10]), "figure 2000055");
+    quotes(&tree, &values_file(&[10, 20]), "figure 205");
+    quotes(
+        &tree,
+        &values_file(&[1_000, 0, 1_000_000]),
+        "figure 1501500",
+    );
+    quotes(&tree, &values_file(&[1_001, 0, 0]), "refused 13");
+    quotes(&tree, &[], "refused 13");
+}
+
 // Questions.
 
 #[test]
@@ -328,6 +366,23 @@ fn too_large_values_are_refused_9() {
 }
 
 #[test]
+fn question_13_comes_after_9_and_before_10() {
+    let past = sequence(&[block(1_000_000_000_000), block(1)]);
+    let tree = sequence(&[past, triangular_limited(block(1), 0, 255)]);
+    let mut values = [0; 32];
+    quotes(&tree, &values_file(&values), "refused 10");
+    values[0] = 1_001;
+    let file = values_file(&values);
+    quotes(&tree, &file, "refused 13");
+    quotes(&tree, &file[..8], "refused 13");
+    quotes(&tree, &file[..7], "refused 9");
+    quotes(&tree, &[&file[..], &[0]].concat(), "refused 9");
+    values[31] = u64::MAX;
+    quotes(&tree, &values_file(&values), "refused 9");
+    quotes(&tree, &values_file(&[1_000_001]), "refused 9");
+}
+
+#[test]
 fn question_10_comes_last() {
     let tree = sequence(&[block(1_000_000_000_000), symbol_block(16)]);
     let mut values = [0; 32];
@@ -354,20 +409,33 @@ fn cases_are_quoted() {
 #[test]
 fn random_tables_are_quoted() {
     let mut rng = Rng::new(501);
-    let (mut figures, mut too_large) = (0, 0);
-    for _ in 0..400 {
+    let (mut figures, mut triangular, mut too_large, mut past_1000) = (0, 0, 0, 0);
+    for _ in 0..500 {
         let records = rng.size(1..=60);
         let mut tree = trees::within_limits(&mut rng, records);
         MIDDLING.set(&mut rng, &mut tree);
         let absent = rng.pick(&[0, 0, 8, 16, 32]);
         let count = 32 - rng.size(0..=absent);
-        let values = values_file(&MIDDLING.values(&mut rng)[..count]);
+        let mut values = MIDDLING.values(&mut rng);
+        if rng.once_in(2) {
+            trees::put_about_1000(&mut rng, &mut values);
+        }
+        let values = values_file(&values[..count]);
         match expect(&tree.encode(), &values) {
-            Ok(figure) => figures += u64::from(figure > 0),
-            Err(question) => too_large += u64::from(question == 10),
+            Ok(figure) => {
+                figures += u64::from(figure > 0);
+                triangular += u64::from(figure > 0 && !tree.triangles().is_empty());
+            }
+            Err(10) => too_large += 1,
+            Err(question) => {
+                assert_eq!(question, 13);
+                past_1000 += 1;
+            }
         }
     }
     assert!(figures > 100 && too_large > 20, "{figures}, {too_large}");
+    let flag_4 = triangular > 50 && past_1000 > 20;
+    assert!(flag_4, "{triangular}, {past_1000}");
 }
 
 #[test]
@@ -399,7 +467,7 @@ fn random_lengths_of_values() {
 fn leaving_values_out_never_lowers_a_quote() {
     let mut rng = Rng::new(504);
     let (mut same, mut higher) = (0, 0);
-    for _ in 0..400 {
+    for _ in 0..600 {
         let records = rng.size(1..=4);
         let mut tree = trees::within_limits(&mut rng, records);
         SMALL.set(&mut rng, &mut tree);

@@ -1,11 +1,12 @@
-//! The second evaluator itself: document 01's cases, lists written out member by member, and the runs
-//! that a figure covers. The library is not called.
+//! The second evaluator itself: document 01's cases, triangular numbers, lists written out member by
+//! member, and the runs that a figure covers. The library is not called.
 
 use volefleece_tests::cases::{self, cases};
 use volefleece_tests::evaluator::{self, evaluate_at, List};
 use volefleece_tests::members;
 use volefleece_tests::rng::Rng;
 use volefleece_tests::runs;
+use volefleece_tests::tables::*;
 use volefleece_tests::trees::{self, Amount, Amounts, Kind, Limit, Tree};
 
 #[test]
@@ -16,6 +17,26 @@ fn cases_have_the_lists_of_document_01() {
         let figure = evaluator::figure(&case.table, &cases::VALUES);
         let first = case.answer.map(|pairs| pairs[0].0);
         assert_eq!(figure, first, "case {}", case.name);
+    }
+}
+
+#[test]
+fn triangular_limits_are_sums_of_all_numbers_up_to_the_value() {
+    let table = triangular_limited(block(7), 3, 255);
+    let mut values = [0; 32];
+    assert_eq!(evaluator::list(&table, &values, 512), Ok(vec![(0, 0)]));
+    let mut sum = 0;
+    for number in 1..=1_000 {
+        sum += number;
+        values[3] = number;
+        let list = evaluator::list(&table, &values, 512);
+        assert_eq!(list, Ok(vec![(7, sum), (0, 0)]));
+    }
+    assert_eq!(sum, 500_500);
+    for past in [1_001, 1_000_000] {
+        values[3] = past;
+        assert_eq!(evaluator::list(&table, &values, 512), Err(13));
+        assert_eq!(evaluator::figure(&table, &values), Err(13));
     }
 }
 
@@ -33,6 +54,7 @@ fn every_node_has_its_members_and_its_named_loop() {
     let mut rng = Rng::new(101);
     // How often a loop of each level, or the whole run, was named.
     let mut named = [0; 4];
+    let mut triangular = 0;
     for _ in 0..20_000 {
         let mut tree = tiny_tree(&mut rng, 40);
         TINY.set(&mut rng, &mut tree);
@@ -43,8 +65,10 @@ fn every_node_has_its_members_and_its_named_loop() {
             let level = compare_members(node, around, &values).expect("small numbers");
             named[level] += 1;
         }
+        triangular += tree.triangles().len();
     }
     assert!(named.iter().all(|&times| times > 1_000), "{named:?}");
+    assert!(triangular > 10_000, "{triangular}");
 }
 
 /// A tree of few records with at most 3 loops around a node, and limits up to that weight.
@@ -134,6 +158,7 @@ fn figure(tree: &Tree, values: &[u64]) -> u64 {
 fn no_admitted_run_costs_more_than_the_figure() {
     let mut rng = Rng::new(103);
     let (mut none, mut below, mut equal) = (0, 0, 0);
+    let mut triangular = 0;
     for _ in 0..30_000 {
         let mut tree = tiny_tree(&mut rng, 6);
         FEW.set(&mut rng, &mut tree);
@@ -145,11 +170,13 @@ fn no_admitted_run_costs_more_than_the_figure() {
             Some(cost) => {
                 assert_eq!(cost, figure, "{tree:?}, {values:?}");
                 equal += 1;
+                triangular += tree.triangles().len();
             }
         }
     }
     let reached = [none, below, equal];
     assert!(reached.iter().all(|&times| times > 1_000), "{reached:?}");
+    assert!(triangular > 2_000, "{triangular}");
 }
 
 #[test]
@@ -171,7 +198,7 @@ fn without_limits_some_run_costs_the_figure() {
 #[test]
 fn limits_on_innermost_loops_beside_unlimited_children_are_exact() {
     let mut rng = Rng::new(105);
-    let mut lowered = 0;
+    let (mut lowered, mut triangular) = (0, 0);
     for _ in 0..60_000 {
         let mut tree = tiny_tree(&mut rng, 0);
         FEW.set(&mut rng, &mut tree);
@@ -182,8 +209,10 @@ fn limits_on_innermost_loops_beside_unlimited_children_are_exact() {
         let dearest = runs::dearest(&tree, &values);
         assert_eq!(dearest, Some(limited), "{tree:?}, {values:?}");
         lowered += u64::from(limited < unlimited);
+        triangular += u64::from(limited < unlimited && !tree.triangles().is_empty());
     }
     assert!(lowered > 1_000, "{lowered}");
+    assert!(triangular > 500, "{triangular}");
 }
 
 /// Limits some children of choices inside loops, each in its innermost loop, and leaves one child of
@@ -194,10 +223,9 @@ fn put_innermost_limits(rng: &mut Rng, tree: &mut Tree, around: usize) {
     let unlimited = rng.index(tree.children.len().max(1));
     for (place, child) in tree.children.iter_mut().enumerate() {
         if is_choice && around > 0 && place != unlimited && rng.once_in(2) {
-            child.limit = Some(Limit {
-                names: 1,
-                amount: Amount::Plain(rng.within(0..=2)),
-            });
+            let count = rng.within(0..=2);
+            let amount = rng.pick(&[Amount::Plain(count), Amount::Triangular(count)]);
+            child.limit = Some(Limit { names: 1, amount });
         }
         let is_body = is_loop && place == 0;
         put_innermost_limits(rng, child, around + usize::from(is_body));

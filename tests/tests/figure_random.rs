@@ -100,6 +100,7 @@ fn trees_of_small_amounts() {
     quotes.assert_pairs(2..=2, 5_000);
     quotes.assert_pairs(3..=9, 5_000);
     quotes.assert_pairs(10..=99, 1_000);
+    quotes.assert_triangular(&[(0, 30_000)]);
 }
 
 /// What the bodies of loops name.
@@ -148,6 +149,7 @@ fn trees_of_middling_amounts() {
     quotes.assert_reached(&[(0, 20_000), (10, 5_000)]);
     quotes.assert_pairs(10..=99, 1_000);
     quotes.assert_pairs(100..=256, 20);
+    quotes.assert_triangular(&[(0, 10_000), (10, 2_000)]);
 }
 
 #[test]
@@ -171,10 +173,14 @@ fn trees_of_large_amounts() {
         let records = rng.size(1..=8);
         let mut tree = trees::within_limits(&mut rng, records);
         LARGE.set(&mut rng, &mut tree);
-        let values = LARGE.values(&mut rng);
+        let mut values = LARGE.values(&mut rng);
+        if rng.once_in(2) {
+            trees::put_about_1000(&mut rng, &mut values);
+        }
         quotes.compare(&tree.encode(), &values);
     }
     quotes.assert_reached(&[(0, 10_000), (10, 10_000)]);
+    quotes.assert_triangular(&[(0, 2_000), (10, 2_000), (13, 5_000)]);
 }
 
 #[test]
@@ -190,6 +196,7 @@ fn values_at_their_ceilings() {
         quotes.compare(&tree.encode(), &values);
     }
     quotes.assert_reached(&[(0, 10_000), (10, 3_000)]);
+    quotes.assert_triangular(&[(0, 5_000), (10, 1_000), (13, 1_000)]);
 }
 
 #[test]
@@ -269,6 +276,7 @@ fn largest_tables() {
     quotes.assert_pairs(1..=1, 100);
     quotes.assert_pairs(10..=99, 200);
     quotes.assert_pairs(100..=256, 5);
+    quotes.assert_triangular(&[(0, 800), (10, 200)]);
 }
 
 fn has_255_children(tree: &Tree) -> bool {
@@ -292,6 +300,7 @@ fn deepest_tables() {
     }
     quotes.assert_reached(&[(0, 5_000), (10, 500)]);
     quotes.assert_pairs(2..=256, 1_000);
+    quotes.assert_triangular(&[(0, 4_000), (10, 1_000)]);
 }
 
 // Question 10.
@@ -365,6 +374,113 @@ fn hidden(rng: &mut Rng, mut tree: Tree, around: usize) -> Tree {
     tree
 }
 
+// Triangular limits and question 13.
+
+#[test]
+fn values_about_1000() {
+    let (mut rng, mut quotes) = start(215);
+    for round in 0..40_000 {
+        let amounts = [SMALL, MIDDLING][round % 2];
+        let tree = good_tree(&mut rng, amounts);
+        let mut values = amounts.values(&mut rng);
+        trees::put_about_1000(&mut rng, &mut values);
+        let quote = quotes.compare(&tree.encode(), &values);
+        assert_eq!(quote.figure == Err(13), is_past_1000(&tree, &values));
+    }
+    quotes.assert_triangular(&[(0, 10_000), (10, 1_000), (13, 1_500)]);
+}
+
+/// Whether a symbol that stands under flag 4 has a value past 1,000.
+fn is_past_1000(tree: &Tree, values: &[u64]) -> bool {
+    let mut symbols = tree.triangles().into_iter();
+    symbols.any(|symbol| values[symbol as usize] > 1_000)
+}
+
+#[test]
+fn symbols_under_flag_4_and_elsewhere() {
+    let (mut rng, mut quotes) = start(216);
+    // With flag 4 in the table: passed although a count elsewhere is past 1,000; passed and refused by
+    // a symbol that is used both ways, at its end.
+    let (mut elsewhere, mut at_end, mut past_end) = (0, 0, 0);
+    for _ in 0..40_000 {
+        let mut tree = good_tree(&mut rng, SMALL);
+        let mut symbols: [u64; 16] = std::array::from_fn(|symbol| symbol as u64);
+        rng.shuffle(&mut symbols);
+        // The first stands under flag 4 alone, the last only elsewhere.
+        let symbols = [symbols[0], symbols[1], symbols[2]];
+        share_symbols(&mut rng, &mut tree, symbols);
+        let mut values = SMALL.values(&mut rng);
+        for symbol in symbols {
+            values[symbol as usize] =
+                rng.pick(&[0, 1, 2, 3, 7, 999, 1_000, 1_000, 1_001, 1_000_000]);
+        }
+        let quote = quotes.compare(&tree.encode(), &values);
+        assert_eq!(quote.figure == Err(13), is_past_1000(&tree, &values));
+
+        let [first, both, last] = symbols.map(|symbol| values[symbol as usize]);
+        let plain = tree.plain_counts();
+        let is_both = tree.triangles().contains(&symbols[1]) && plain.contains(&symbols[1]);
+        if tree.triangles().is_empty() {
+            continue;
+        }
+        elsewhere += u64::from(quote.figure.is_ok() && last > 1_000 && plain.contains(&symbols[2]));
+        at_end += u64::from(is_both && quote.figure.is_ok() && both == 1_000);
+        past_end += u64::from(is_both && first <= 1_000 && both == 1_001);
+    }
+    let reached = [elsewhere, at_end, past_end];
+    assert!(reached.iter().all(|&times| times > 500), "{reached:?}");
+    quotes.assert_triangular(&[(0, 5_000), (13, 2_000)]);
+}
+
+/// Gives limits under flag 4 the first or second of these symbols, and other counts the second or
+/// third.
+fn share_symbols(rng: &mut Rng, tree: &mut Tree, symbols: [u64; 3]) {
+    if let Kind::Loop(Amount::Symbol(symbol)) = &mut tree.kind {
+        *symbol = rng.pick(&symbols[1..]);
+    }
+    match tree.limit.as_mut().map(|limit| &mut limit.amount) {
+        Some(Amount::Symbol(symbol)) => *symbol = rng.pick(&symbols[1..]),
+        Some(Amount::Triangular(symbol)) => *symbol = rng.pick(&symbols[..2]),
+        _ => {}
+    }
+    for child in &mut tree.children {
+        share_symbols(rng, child, symbols);
+    }
+}
+
+#[test]
+fn raising_a_symbol_under_flag_4_never_lowers_a_figure() {
+    let (mut rng, mut quotes) = start(217);
+    let (mut same, mut higher) = (0, 0);
+    for _ in 0..30_000 {
+        let tree = good_tree(&mut rng, SMALL);
+        let symbols = tree.triangles();
+        if symbols.is_empty() {
+            continue;
+        }
+        let symbol = rng.pick(&symbols) as usize;
+        let table = tree.encode();
+        let mut values = SMALL.values(&mut rng);
+        let low = quotes.compare(&table, &values);
+        let low = low.figure.expect("small amounts");
+        values[symbol] += rng.pick(&[1, 1, 2, 5, 30, 990]);
+        values[symbol] = values[symbol].min(1_000);
+        // It may be a bound as well, and the figure too large then.
+        match quotes.compare(&table, &values).figure {
+            Ok(high) => {
+                assert!(high >= low, "{low}, {high}");
+                same += u64::from(high == low);
+                higher += u64::from(high > low);
+            }
+            Err(question) => assert_eq!(question, 10),
+        }
+        values[symbol] = 1_001;
+        assert_eq!(quotes.compare(&table, &values).figure, Err(13));
+    }
+    assert!(same > 5_000 && higher > 1_000, "{same}, {higher}");
+    quotes.assert_triangular(&[(13, 10_000)]);
+}
+
 // Questions 8 and 9, and the order of all.
 
 #[test]
@@ -372,15 +488,15 @@ fn wrong_values_are_refused_9() {
     let (mut rng, mut quotes) = start(211);
     for _ in 0..40_000 {
         let tree = good_tree(&mut rng, MIDDLING);
-        let values = wrong_values(&mut rng);
+        let mut values = SMALL.values(&mut rng);
+        spoil(&mut rng, &mut values);
         let quote = quotes.compare(&tree.encode(), &values);
         assert_eq!((quote.figure, quote.list), (Err(9), Err(9)));
     }
 }
 
-/// Too few, too many, or some past their ceilings.
-fn wrong_values(rng: &mut Rng) -> Vec<u64> {
-    let mut values = SMALL.values(rng);
+/// Leaves too few, too many, or some past their ceilings.
+fn spoil(rng: &mut Rng, values: &mut Vec<u64>) {
     match rng.index(4) {
         0 => values.truncate(rng.pick(&[0, 1, 16, 30, 31])),
         1 => values.resize(rng.pick(&[33, 34, 64, 100]), 0),
@@ -392,7 +508,6 @@ fn wrong_values(rng: &mut Rng) -> Vec<u64> {
             }
         }
     }
-    values
 }
 
 #[test]
@@ -413,17 +528,20 @@ fn buffers_of_every_length() {
 }
 
 #[test]
-fn of_many_faults_the_lowest_number_answers() {
+fn of_many_faults_the_first_answers() {
     let (mut rng, mut quotes) = start(213);
     for _ in 0..60_000 {
         let often = rng.within(1..=10);
-        let faults: Vec<u64> = (1..=10).filter(|_| rng.once_in(often)).collect();
+        let order = [1, 2, 3, 4, 5, 6, 7, 8, 9, 13, 10].into_iter();
+        let faults: Vec<u64> = order.filter(|_| rng.once_in(often)).collect();
         let table = faulty_table(&mut rng, &faults);
-        let values = if faults.contains(&9) {
-            wrong_values(&mut rng)
-        } else {
-            SMALL.values(&mut rng)
-        };
+        let mut values = SMALL.values(&mut rng);
+        if faults.contains(&13) {
+            values[PAST_1000] = rng.pick(&[1_001, 1_002, 1_000_000]);
+        }
+        if faults.contains(&9) {
+            spoil(&mut rng, &mut values);
+        }
         let room = if faults.contains(&8) {
             rng.pick(&[0, 100, 511])
         } else {
@@ -434,18 +552,31 @@ fn of_many_faults_the_lowest_number_answers() {
         let mut put = faults.into_iter().filter(|&question| question != 8);
         assert_eq!(quote.figure.err(), put.next(), "no question 8");
     }
-    quotes.assert_reached(&[0, 1, 2, 3, 4, 5, 6, 7, 9, 10].map(|answer| (answer, 1_000)));
+    let answers = [0, 1, 2, 3, 4, 5, 6, 7, 9, 10, 13];
+    quotes.assert_reached(&answers.map(|answer| (answer, 1_000)));
     quotes.assert_lists(&[(8, 1_000)]);
 }
 
-/// A table of small amounts that fails these of questions 1 to 7 and 10.
+/// The symbol whose value fails question 13.
+const PAST_1000: usize = 11;
+
+/// A table of small amounts that fails these of questions 1 to 7 and 10, and 13 with that value.
 fn faulty_table(rng: &mut Rng, faults: &[u64]) -> Vec<u8> {
     let mut tree = faults::tree(rng, faults);
     SMALL.set(rng, &mut tree);
+    let mut more = Vec::new();
     if faults.contains(&10) {
-        let past = around_ceiling(rng, &Tree::block(0), 0, &[0; 32], 1);
+        more.push(around_ceiling(rng, &Tree::block(0), 0, &[0; 32], 1));
+    }
+    if faults.contains(&13) {
+        let mut block = Tree::block(7);
+        let amount = Amount::Triangular(PAST_1000 as u64);
+        block.limit = Some(Limit { names: 255, amount });
+        more.push(block);
+    }
+    for node in more {
         let place = rng.size(0..=tree.children.len());
-        tree.children.insert(place, past);
+        tree.children.insert(place, node);
     }
     faults::table(rng, &tree, faults)
 }
@@ -455,8 +586,12 @@ fn noise_of_good_records() {
     let (mut rng, mut quotes) = start(214);
     for _ in 0..20_000 {
         let table = noise::first_tree(&mut rng);
-        let values = LARGE.values(&mut rng);
+        let mut values = LARGE.values(&mut rng);
+        if rng.once_in(2) {
+            trees::put_about_1000(&mut rng, &mut values);
+        }
         quotes.compare(&table, &values);
     }
     quotes.assert_reached(&[(0, 10_000), (4, 500), (5, 100), (6, 1_000), (10, 1_000)]);
+    quotes.assert_triangular(&[(0, 300), (10, 100), (13, 500)]);
 }

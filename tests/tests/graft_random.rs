@@ -3,7 +3,7 @@
 //! what it is for. The seeds are fixed: every run makes the same tables.
 
 use std::ops::Range;
-use volefleece_tests::compare::shown;
+use volefleece_tests::compare::{has_flag_4, shown};
 use volefleece_tests::damage;
 use volefleece_tests::faults;
 use volefleece_tests::ffi;
@@ -121,7 +121,8 @@ fn block_under(rng: &mut Rng, tree: &Tree, loops: usize) -> usize {
 
 fn random_limit(rng: &mut Rng, names: u8) -> Limit {
     let count = rng.within(0..=15);
-    let amount = rng.pick(&[Amount::Plain(count), Amount::Symbol(count)]);
+    let amounts = [Amount::Plain, Amount::Symbol, Amount::Triangular];
+    let amount = rng.pick(&amounts)(count);
     Limit { names, amount }
 }
 
@@ -153,14 +154,16 @@ fn tables_of_any_shape() {
 struct Reached {
     /// The places that were the root, in a sequence, in a choice, a body and an exit.
     places: [u64; 5],
-    /// Those without a limit, with a plain one and with a symbol.
-    limits: [u64; 3],
+    /// Those without a limit, with a plain one, with a symbol and with its triangular number.
+    limits: [u64; 4],
     /// Those with no limit above them, and those with some.
     above: [u64; 2],
     /// The limits on places that named the run, the first loop around, the second, and further ones.
     names: [u64; 4],
     /// The sent tables' whole-run limits under no loop of their own, under one, two, and more.
     own_loops: [u64; 4],
+    /// The sent tables with flag 4, and the hosts with it elsewhere than at a place.
+    triangular: [u64; 2],
 }
 
 impl Reached {
@@ -171,7 +174,11 @@ impl Reached {
             for (record, loops) in pair.sent.encode().chunks(16).zip(around) {
                 self.own_loops[loops.min(3)] += u64::from(record[3] == 255);
             }
+            self.triangular[0] += u64::from(!pair.sent.triangles().is_empty());
         }
+        let is_elsewhere = |record: &[u8]| record[1] & 4 != 0 && !is_place(record, pair.symbol);
+        let is_triangular = pair.host.encode().chunks(16).any(is_elsewhere);
+        self.triangular[1] += u64::from(is_triangular);
     }
 
     /// `place` is where the node stands, as `places` has it.
@@ -182,8 +189,11 @@ impl Reached {
             match node.limit {
                 None => self.limits[0] += 1,
                 Some(Limit { names, amount }) => {
-                    let is_symbol = matches!(amount, Amount::Symbol(_));
-                    self.limits[1 + usize::from(is_symbol)] += 1;
+                    self.limits[match amount {
+                        Amount::Plain(_) => 1,
+                        Amount::Symbol(_) => 2,
+                        Amount::Triangular(_) => 3,
+                    }] += 1;
                     let names = if names == 255 { 0 } else { names.min(3) };
                     self.names[usize::from(names)] += 1;
                 }
@@ -202,9 +212,14 @@ impl Reached {
 
     fn assert_all(&self, times: u64) {
         let counts = [&self.places[..], &self.limits, &self.above, &self.names];
-        let counts = [counts.concat(), self.own_loops.to_vec()].concat();
+        let counts = [&counts.concat()[..], &self.own_loops, &self.triangular].concat();
         assert!(counts.iter().all(|&count| count >= times), "{self:?}");
     }
+}
+
+/// Whether a record is that of a block with that symbol as its time.
+fn is_place(record: &[u8], symbol: u64) -> bool {
+    record[0] == 0 && record[1] & 1 != 0 && u64::from(record[8]) == symbol
 }
 
 #[test]
@@ -257,7 +272,7 @@ fn limits_under_every_number_of_loops_on_both_sides() {
 fn spliced(host: &[u8], place: usize, body: &[u8]) -> Vec<u8> {
     let (before, rest) = host.split_at(16 * place);
     let (block, after) = rest.split_at(16);
-    let top = [3, block[1] & 2, 2];
+    let top = [3, block[1] & 6, 2];
     let limit = &block[3..8];
     let bound = [1, 0, 0, 0, 0, 0, 0, 0];
     [before, &top, limit, &bound, body, &[0; 16], after].concat()
@@ -648,10 +663,14 @@ struct Promise {
     too_large: u64,
     /// Refusals 10 of the written table and the sent one.
     sent_too_large: u64,
-    /// Refusals 10 of the sent table alone, which was put nowhere.
+    /// Refusals of the sent table alone, which was put nowhere.
     put_nowhere: u64,
     /// Refusals 9.
     wrong_values: u64,
+    /// Refusals 13 of the written table.
+    past_1000: u64,
+    /// The figures of written tables with flag 4.
+    triangular: u64,
 }
 
 impl Promise {
@@ -672,13 +691,18 @@ impl Promise {
                 self.raised += u64::from(figure.is_ok() && figure > without);
                 self.too_large += u64::from(figure == Err(10));
             }
-            Err(10) if written == host => self.put_nowhere += u64::from(figure.is_ok()),
+            Err(10 | 13) if written == host => self.put_nowhere += u64::from(figure.is_ok()),
             Err(question) => {
-                assert_eq!(figure, Err(question), "{}", shown(written));
-                self.sent_too_large += u64::from(question == 10);
-                self.wrong_values += u64::from(question == 9);
+                // Question 13 is put to all of the written table before 10.
+                let host_figure = quotes::figure(rng, &host, values);
+                let first = if host_figure == Err(13) { 13 } else { question };
+                assert_eq!(figure, Err(first), "{}", shown(written));
+                self.sent_too_large += u64::from(first == 10);
+                self.wrong_values += u64::from(first == 9);
             }
         }
+        self.past_1000 += u64::from(figure == Err(13));
+        self.triangular += u64::from(figure.is_ok() && has_flag_4(written));
         // The written table has no block of the symbol.
         if figure != Err(9) {
             let values = set(rng.pick(&[0, 1, CEILING]));
@@ -694,6 +718,8 @@ impl Promise {
             self.sent_too_large,
             self.put_nowhere,
             self.wrong_values,
+            self.past_1000,
+            self.triangular,
         ];
         assert!(met.iter().all(|&met| met >= times), "{self:?}");
     }
@@ -716,8 +742,10 @@ fn figures_with_many_values() {
     grafts.assert_places(3_000);
 }
 
-/// Values of these amounts, some of them at their ceilings, and one past it.
-fn desks(rng: &mut Rng, amounts: Amounts) -> [Vec<u64>; 3] {
+/// Values of these amounts, counts about flag 4's ceiling, some values at theirs, and one past it.
+fn desks(rng: &mut Rng, amounts: Amounts) -> [Vec<u64>; 4] {
+    let mut about_1000 = amounts.values(rng);
+    trees::put_about_1000(rng, &mut about_1000);
     let mut high = amounts.values(rng);
     for _ in 0..rng.size(1..=6) {
         let at = rng.index(32);
@@ -726,7 +754,7 @@ fn desks(rng: &mut Rng, amounts: Amounts) -> [Vec<u64>; 3] {
     let mut past = high.clone();
     let at = rng.index(32);
     past[at] = ceiling(at) + 1;
-    [amounts.values(rng), high, past]
+    [amounts.values(rng), about_1000, high, past]
 }
 
 fn ceiling(symbol: usize) -> u64 {

@@ -6,7 +6,7 @@ use std::ffi::{OsStr, OsString};
 use std::os::unix::ffi::OsStringExt;
 use std::os::unix::fs::symlink;
 use volefleece_tests::cases::cases;
-use volefleece_tests::compare::shown;
+use volefleece_tests::compare::{has_flag_4, shown};
 use volefleece_tests::faults;
 use volefleece_tests::programs::{sample, Folder, NONE, TREE, VALUES};
 use volefleece_tests::rng::Rng;
@@ -226,6 +226,17 @@ fn refusals_leave_no_file() {
     refused(10, &sequence(&[block(1_000_000_000_000), block(1)]));
 }
 
+/// The flag moves with its limit, and no value of its symbol is asked for.
+#[test]
+fn triangular_limits_are_kept() {
+    let limit = |node| triangular_limited(node, 15, 255);
+    let folder = with_tree(&sequence(&[limit(sequence(&[block(5)])), block(0)]));
+    folder.write(VALUES, &[255; 256]);
+    let written = folder.run(&NONE);
+    assert_eq!(written.output, "simplified 16 steps 3 finished\n");
+    assert_eq!(folder.read(SIMPLE), Some(limit(block(5))));
+}
+
 /// Question 10 is put with every symbol 0.
 #[test]
 fn values_are_not_read() {
@@ -271,7 +282,7 @@ fn cases_are_simplified() {
 #[test]
 fn random_tables_are_simplified() {
     let mut rng = Rng::new(401);
-    let mut spent = 0;
+    let (mut spent, mut triangular) = (0, 0);
     for _ in 0..400 {
         let records = rng.size(1..=60);
         let table = trees::redundant(&mut rng, records).encode();
@@ -281,8 +292,14 @@ fn random_tables_are_simplified() {
         let folder = with_tree(&table);
         expect(&folder, &[allowance.to_string()], allowance);
         expect(&folder, &NONE, u64::MAX);
+        triangular += u64::from(
+            folder
+                .read(SIMPLE)
+                .is_some_and(|simple| has_flag_4(&simple)),
+        );
     }
     assert!(spent > 100, "{spent} allowances were spent");
+    assert!(triangular > 50, "{triangular} have flag 4");
 }
 
 #[test]

@@ -2,7 +2,7 @@
 //! count steps, and the tables on the way meet demand 3, for which the library checks and quotes them.
 //! Each test asserts that it has reached what it is for. The seeds are fixed.
 
-use volefleece_tests::compare::shown;
+use volefleece_tests::compare::{has_flag_4, shown};
 use volefleece_tests::ffi::{self, Checked, Figure};
 use volefleece_tests::fits;
 use volefleece_tests::rng::Rng;
@@ -22,11 +22,17 @@ fn records(rng: &mut Rng) -> usize {
 #[test]
 fn every_step_is_the_lowest_rule_at_the_earliest_record() {
     let mut rng = Rng::new(301);
-    // How often each rule was taken at the root, and below.
+    // How often each rule was taken at the root, and below, and at a node whose limit has flag 4.
     let mut taken = [[0; 10]; 2];
-    for _ in 0..30_000 {
+    let mut triangular = [0; 10];
+    // And how often what rule 8 shares has it.
+    let mut shared = 0;
+    for round in 0..36_000 {
         let records = records(&mut rng);
-        let tree = trees::redundant(&mut rng, records);
+        let tree = match round % 6 {
+            0 => trees::ending_in_loops(&mut rng),
+            _ => trees::redundant(&mut rng, records),
+        };
         let Trace { tables, rules } = trace(tree);
         for (pair, &rule) in tables.windows(2).zip(&rules) {
             let Some((record, lowest)) = fits::first(&pair[0]) else {
@@ -35,6 +41,8 @@ fn every_step_is_the_lowest_rule_at_the_earliest_record() {
             assert_eq!(rule, lowest, "record {record} of {}", shown(&pair[0]));
             assert_changed_at(record, &pair[0], &pair[1]);
             taken[record.min(1)][rule] += 1;
+            triangular[rule] += u64::from(has_flag_4(&pair[0][16 * record..][..16]));
+            shared += u64::from(rule == 8 && has_flag_4(second_child(&pair[0], record)));
         }
         let last = &tables[rules.len()];
         assert_eq!(fits::first(last), None, "{}", shown(last));
@@ -44,6 +52,19 @@ fn every_step_is_the_lowest_rule_at_the_earliest_record() {
     assert!(root.iter().all(|&times| times > 500), "{taken:?}");
     let below = &taken[1][2..];
     assert!(below.iter().all(|&times| times > 1_000), "{taken:?}");
+    // The others want no symbol there, or no limit.
+    let lists = [2, 3, 5, 6, 7, 8].map(|rule| triangular[rule]);
+    assert!(lists.iter().all(|&times| times > 100), "{triangular:?}");
+    let others = [1, 4, 9].map(|rule| triangular[rule]);
+    assert_eq!(others, [0; 3]);
+    assert!(shared > 500, "{shared}");
+}
+
+/// The second child of the first child of the choice at that record.
+fn second_child(table: &[u8], record: usize) -> &[u8] {
+    let first = fits::subtree(table, record + 2);
+    let second = fits::subtree(table, first.end);
+    &table[16 * second.start..16 * second.end]
 }
 
 /// Neither what is before the subtree of that record has changed nor what is after it, but the
@@ -86,9 +107,12 @@ fn every_allowance_takes_as_many_single_steps() {
 struct Demand3 {
     /// How often each rule was taken.
     rules: [u64; 10],
-    /// How often a desk got a figure from the tree, and how often none.
+    /// How often a desk got a figure from the tree, how often with flag 4 in it, and how often none.
     figures: u64,
+    triangular: u64,
     without: u64,
+    /// How often of these a value was past 1,000 under flag 4.
+    past_1000: u64,
     /// How often another desk's figure with raised values was the same, and how often higher.
     same: u64,
     higher: u64,
@@ -112,9 +136,11 @@ impl Demand3 {
     fn compare_figures(&mut self, rng: &mut Rng, tables: &[Vec<u8>], values: &[u64]) {
         let Some(reception) = figure(&tables[0], values) else {
             self.without += 1;
+            self.past_1000 += u64::from(ffi::figure(&tables[0], values).refused == 13);
             return;
         };
         self.figures += 1;
+        self.triangular += u64::from(has_flag_4(&tables[0]));
         for table in some_of(rng, tables) {
             let accepted = Checked::accept(table.len() / 16);
             assert_eq!(ffi::check(table), accepted, "{}", shown(table));
@@ -134,13 +160,21 @@ impl Demand3 {
         let figures = [self.figures, self.without, self.same, self.higher];
         assert!(figures.iter().all(|&met| met >= times), "{self:?}");
     }
+
+    /// Figures with flag 4, and refusals 13.
+    fn assert_triangular(&self, figures: u64, refused: u64) {
+        let met = self.triangular >= figures && self.past_1000 >= refused;
+        assert!(met, "{self:?}");
+    }
 }
 
-/// The library's figure, unless it is too large.
+/// The library's figure, unless it is too large, or a value is for flag 4.
 fn figure(table: &[u8], values: &[u64]) -> Option<u64> {
     match ffi::figure(table, values) {
         Figure { refused: 0, figure } => Some(figure),
-        Figure { refused: 10, .. } => None,
+        Figure {
+            refused: 10 | 13, ..
+        } => None,
         answer => panic!("{answer:?}: {}", shown(table)),
     }
 }
@@ -180,7 +214,7 @@ fn raised(rng: &mut Rng, values: &[u64]) -> Vec<u64> {
     values
 }
 
-/// No value, small ones, and one or more at its ceiling.
+/// No value, small ones, and one or more at its ceiling or, of counts, at that of flag 4.
 fn desks(rng: &mut Rng) -> [Vec<u64>; 3] {
     const SMALL: Amounts = Amounts {
         time: 9,
@@ -192,6 +226,9 @@ fn desks(rng: &mut Rng) -> [Vec<u64>; 3] {
     for _ in 0..rng.size(1..=3) {
         let symbol = 16 * rng.index(2) + rng.index(3);
         large[symbol] = ceiling(symbol);
+        if symbol < 16 {
+            large[symbol] = rng.pick(&[999, 1_000, 1_000, 1_001, ceiling(symbol)]);
+        }
     }
     [ZEROS.to_vec(), SMALL.values(rng), large]
 }
@@ -207,6 +244,7 @@ fn small_tables_keep_their_figures() {
         demand.compare(&mut rng, tree, &desks);
     }
     demand.assert_reached(5_000);
+    demand.assert_triangular(10_000, 1_000);
 }
 
 #[test]
@@ -219,6 +257,7 @@ fn largest_tables_keep_their_figures() {
         demand.compare(&mut rng, tree, &desks);
     }
     demand.assert_reached(120);
+    demand.assert_triangular(1_000, 100);
 }
 
 #[test]
@@ -238,6 +277,7 @@ fn crowded_lists_keep_their_figures() {
         demand.compare(&mut rng, tree, &desks);
     }
     assert!(full > 50 && over > 50, "{full}, {over}");
+    demand.assert_triangular(1_000, 100);
 }
 
 #[test]
@@ -251,6 +291,7 @@ fn deepest_tables_keep_their_figures() {
     }
     let deep = [2, 3, 4, 5, 6, 7, 9].map(|rule| demand.rules[rule]);
     assert!(deep.iter().all(|&taken| taken > 300), "{demand:?}");
+    demand.assert_triangular(3_000, 50);
 }
 
 #[test]
@@ -279,6 +320,7 @@ fn tables_that_are_too_large_get_no_figure_at_any_desk() {
     }
     assert!(refused > 5_000, "{refused}");
     demand.assert_reached(300);
+    demand.assert_triangular(5_000, 300);
 }
 
 /// Makes times so large that few of them reach the ceiling.

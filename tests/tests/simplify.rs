@@ -6,8 +6,9 @@ use volefleece_tests::cases::cases;
 use volefleece_tests::compare::shown;
 use volefleece_tests::evaluator;
 use volefleece_tests::faults;
-use volefleece_tests::ffi::{self, Figure, Simplified};
+use volefleece_tests::ffi::{self, Simplified};
 use volefleece_tests::noise;
+use volefleece_tests::quotes;
 use volefleece_tests::reader;
 use volefleece_tests::rng::Rng;
 use volefleece_tests::simplifications::{self, Simplifications};
@@ -16,12 +17,6 @@ use volefleece_tests::trees::{self, Amount, Amounts, Kind, Tree};
 
 const CEILING: u64 = 1_000_000_000_000;
 const ALL_RULES: [usize; 9] = [1, 2, 3, 4, 5, 6, 7, 8, 9];
-
-/// A figure call's refusal 10.
-const TOO_LARGE: Figure = Figure {
-    refused: 10,
-    figure: 0,
-};
 
 const SMALL: Amounts = Amounts {
     time: 9,
@@ -70,6 +65,7 @@ fn small_tables_at_every_allowance() {
     }
     simplifications.assert_rules(&ALL_RULES, 5_000);
     simplifications.assert_finished_and_spent(200_000);
+    simplifications.assert_triangular(30_000);
 }
 
 #[test]
@@ -83,6 +79,17 @@ fn small_tables_of_any_shape_at_every_allowance() {
     }
     simplifications.assert_rules(&[1, 2, 3, 4, 5, 6, 7, 9], 1_000);
     simplifications.assert_finished_and_spent(20_000);
+    simplifications.assert_triangular(1_500);
+}
+
+#[test]
+fn choices_that_end_in_loops_at_every_allowance() {
+    let (mut rng, mut simplifications) = start(417);
+    for _ in 0..20_000 {
+        simplifications.compare_all(trees::ending_in_loops(&mut rng));
+    }
+    simplifications.assert_rules(&[2, 3, 8], 10_000);
+    simplifications.assert_triangular(50_000);
 }
 
 #[test]
@@ -94,6 +101,7 @@ fn tables_of_any_size_at_some_allowances() {
     }
     simplifications.assert_rules(&ALL_RULES, 1_000);
     simplifications.assert_finished_and_spent(30_000);
+    simplifications.assert_triangular(8_000);
 }
 
 #[test]
@@ -104,6 +112,7 @@ fn largest_tables() {
     }
     simplifications.assert_rules(&ALL_RULES, 30);
     simplifications.assert_finished_and_spent(500);
+    simplifications.assert_triangular(1_000);
 }
 
 #[test]
@@ -114,6 +123,7 @@ fn crowded_lists() {
     }
     simplifications.assert_rules(&[2, 5, 6, 7], 50);
     simplifications.assert_finished_and_spent(500);
+    simplifications.assert_triangular(1_000);
 }
 
 #[test]
@@ -125,6 +135,7 @@ fn deepest_tables() {
     }
     simplifications.assert_rules(&[1, 2, 3, 4, 5, 6, 7, 9], 100);
     simplifications.assert_finished_and_spent(3_000);
+    simplifications.assert_triangular(2_500);
 }
 
 #[test]
@@ -228,9 +239,15 @@ fn no_desk_gets_a_figure_of_a_tree_that_is_too_large() {
                 assert_eq!(question, 10, "{}", shown(&table));
                 refused += 1;
                 let small = SMALL.values(&mut rng);
-                let large = LARGE.values(&mut rng);
-                for values in [&[0; 32][..], &small, &raised(&mut rng, &small), &large] {
-                    assert_eq!(ffi::figure(&table, values), TOO_LARGE, "{}", shown(&table));
+                for values in [&[0; 32], &small[..]] {
+                    let answer = quotes::figure(&mut rng, &table, values);
+                    assert_eq!(answer, Err(10), "{}", shown(&table));
+                }
+                // These may be past 1,000 under flag 4.
+                for values in [raised(&mut rng, &small), LARGE.values(&mut rng)] {
+                    let answer = quotes::figure(&mut rng, &table, &values);
+                    let refused = [Err(10), Err(13)];
+                    assert!(refused.contains(&answer), "{}", shown(&table));
                 }
             }
         }

@@ -110,6 +110,8 @@ fn random_pair(rng: &mut Rng, host: usize, sent: usize, places: usize) -> Option
     let [mut host, mut sent] = [host, sent].map(|records| trees::grow(rng, records, 16, 3));
     trees::put_limits(rng, &mut host, 55);
     trees::put_limits(rng, &mut sent, 200 / places as u64);
+    trees::drop_triangles(&mut host);
+    trees::drop_triangles(&mut sent);
     trees::put_symbol(rng, &mut host, SYMBOL, places);
     trees::drop_symbol(&mut sent, SYMBOL);
     (host.places(SYMBOL) == places).then(|| Pair {

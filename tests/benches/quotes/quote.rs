@@ -113,6 +113,7 @@ pub fn quotes(count: usize, records: usize, limits: Limits) -> Vec<Quote> {
 fn random(rng: &mut Rng, records: usize, limits: Limits) -> Option<Quote> {
     let mut tree = limits.random_tree(rng, records);
     AMOUNTS.set(rng, &mut tree);
+    trees::drop_triangles(&mut tree);
     let values = AMOUNTS.values(rng);
     let pairs = evaluator::evaluate(&tree, &values).ok()?.list.into_pairs();
     let figure = pairs[0].0;

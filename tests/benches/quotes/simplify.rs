@@ -43,7 +43,11 @@ pub fn measure() {
 /// Tables of so many records that take some steps, the same in every run.
 fn redundant(records: usize) -> Vec<Vec<u8>> {
     let mut rng = Rng::new(records as u64);
-    let random = || trees::redundant(&mut rng, records).encode();
+    let random = || {
+        let mut tree = trees::redundant(&mut rng, records);
+        trees::drop_triangles(&mut tree);
+        tree.encode()
+    };
     let takes_steps = |table: &Vec<u8>| second(table).steps >= records as u64 / 8;
     let tables = std::iter::repeat_with(random).filter(takes_steps);
     tables.take(TABLES).collect()

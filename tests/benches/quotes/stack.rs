@@ -90,6 +90,7 @@ fn spine(rng: &mut Rng, depth: usize, loops: usize, weight: u64) -> Tree {
     let mut tree = trees::spine(rng, depth, loops);
     trees::put_limits(rng, &mut tree, weight);
     small.set(rng, &mut tree);
+    trees::drop_triangles(&mut tree);
     tree
 }
 

@@ -1,5 +1,6 @@
 //! Times, bounds and limits for random trees, and values for their symbols, up to given sizes.
 
+use super::triangles::often_triangular;
 use super::{Amount, Kind, Tree};
 use crate::format::*;
 use crate::rng::Rng;
@@ -24,7 +25,8 @@ impl Amounts {
             Kind::Sequence | Kind::Choice => {}
         }
         if let Some(limit) = &mut tree.limit {
-            limit.amount = self.amount(rng, self.limit, COUNT_SYMBOLS);
+            let amount = self.amount(rng, self.limit, COUNT_SYMBOLS);
+            limit.amount = often_triangular(rng, amount);
         }
         for child in &mut tree.children {
             self.set(rng, child);

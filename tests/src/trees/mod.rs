@@ -5,12 +5,14 @@ mod amounts;
 mod places;
 mod random;
 mod redundant;
+mod triangles;
 
 use crate::format::*;
 pub use amounts::Amounts;
 pub use places::{deepest_block, drop_symbol, put_symbol};
 pub use random::{grow, loops_around, pad, put_limits, spine, within_limits, without_limits};
-pub use redundant::{crowded, deepest, redundant};
+pub use redundant::{crowded, deepest, ending_in_loops, redundant};
+pub use triangles::{drop_triangles, put_about_1000};
 
 #[derive(Clone, Copy, Debug, PartialEq, Eq)]
 pub enum Amount {

@@ -1,5 +1,6 @@
 //! Random trees whose size, depth, loops and weight are known by construction.
 
+use super::triangles::often_triangular;
 use super::{Amount, Kind, Limit, Tree};
 use crate::format::*;
 use crate::rng::Rng;
@@ -193,6 +194,7 @@ pub fn put_limits(rng: &mut Rng, tree: &mut Tree, wanted: u64) -> u64 {
     for node in order {
         if let Some((names, weight)) = fitting_name(rng, around[node], left) {
             let amount = count(rng);
+            let amount = often_triangular(rng, amount);
             limits[node] = Some(Limit { names, amount });
             left -= weight;
         }

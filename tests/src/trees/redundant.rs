@@ -3,6 +3,7 @@
 //! symbols here and there.
 
 use super::random::{capacity, pad, put_limits, random_parts, sequence_or_choice, spine, split};
+use super::triangles::{flip_first_triangle, often_triangular};
 use super::{Amount, Amounts, Kind, Limit, Tree};
 use crate::format::*;
 use crate::rng::Rng;
@@ -31,6 +32,36 @@ pub fn crowded(rng: &mut Rng) -> Tree {
         children.insert(place, growth.list(records, 3, 0, kind));
     }
     lightened(Tree::new(kind, children))
+}
+
+/// A choice of sequences of two that end in equal loops with a limit inside, so that nothing reaches
+/// out of them, or at times in loops that differ by flag 4 alone.
+pub fn ending_in_loops(rng: &mut Rng) -> Tree {
+    let mut growth = Growth {
+        rng,
+        loops: 2,
+        symbols: 2,
+        limits: 4,
+    };
+    let kind = Kind::Loop(growth.amount(3, COUNT_SYMBOLS));
+    let [mut body, exit] = [0; 2].map(|_| growth.node(1, 1, 1, kind));
+    let Limit { amount, .. } = growth.limit(1);
+    body.limit = Some(Limit { names: 1, amount });
+    let second = Tree::new(kind, vec![body, exit]);
+    let mut pairs = Vec::new();
+    for _ in 0..growth.rng.size(2..=4) {
+        let records = growth.rng.size(1..=4);
+        let first = growth.limited_node(records, 5, 0, Kind::Sequence);
+        pairs.push(Tree::new(Kind::Sequence, vec![first, second.clone()]));
+    }
+    if growth.rng.once_in(3) {
+        flip_first_triangle(&mut pairs[growth.rng.index(2)].children[1]);
+    }
+    let mut choice = Tree::new(Kind::Choice, pairs);
+    if growth.rng.once_in(2) {
+        choice.limit = Some(growth.limit(0));
+    }
+    lightened(choice)
 }
 
 /// How a tree is grown. A chance is one in so many, and none at all if this is 0.
@@ -128,6 +159,10 @@ impl<'r> Growth<'r> {
                 _ => other.children[1] = self.node(size, depth - 2, around, Kind::Sequence),
             }
         }
+        // Nor are they equal where one has flag 4 and the other not.
+        if self.rng.aside().once_in(4) {
+            flip_first_triangle(&mut pairs[0].children[1]);
+        }
         Tree::new(Kind::Choice, pairs)
     }
 
@@ -139,6 +174,7 @@ impl<'r> Growth<'r> {
             _ => WHOLE_RUN,
         };
         let amount = self.amount(3, COUNT_SYMBOLS);
+        let amount = often_triangular(self.rng, amount);
         Limit { names, amount }
     }
 
