@@ -11,8 +11,8 @@ const TABLES: usize = 16;
 const REPETITIONS: usize = 301;
 
 const HEADING: &str = "
-                      |        check        |        figure       |         list        |      evaluation
-records limits  pairs |    lib   Rust ratio |    lib   Rust ratio |    lib   Rust ratio |    lib   Rust ratio";
+                          |        check        |        figure       |         list        |      evaluation
+records limits      pairs |    lib   Rust ratio |    lib   Rust ratio |    lib   Rust ratio |    lib   Rust ratio";
 
 pub fn measure() {
     println!(
@@ -31,7 +31,7 @@ pub fn measure() {
             let quotes = quotes(TABLES, records, limits);
             assert_agreed(&quotes);
             print!(
-                "{records:7} {:6} {:6} ",
+                "{records:7} {:10} {:6} ",
                 limits.name(),
                 median_pairs(&quotes)
             );

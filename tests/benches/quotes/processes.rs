@@ -26,7 +26,7 @@ pub fn measure() {
         for limits in LIMITS {
             let quote = &quotes(1, records, limits)[0];
             write_files(&folder, quote);
-            print!("{records:7} {:6}", limits.name());
+            print!("{records:7} {:10}", limits.name());
             measure_quote(&solvers, &folder, quote, limits);
         }
     }

@@ -1,13 +1,13 @@
 //! What is measured: random tables that every call accepts.
 
 use volefleece_tests::evaluator;
-use volefleece_tests::format::{MOST_CHILDREN, MOST_DEPTH, MOST_WEIGHT, WHOLE_RUN};
+use volefleece_tests::format::{COUNT_SYMBOLS, MOST_CHILDREN, MOST_DEPTH, MOST_WEIGHT, WHOLE_RUN};
 use volefleece_tests::rng::Rng;
 use volefleece_tests::trees::{self, Amount, Amounts, Kind, Limit, Tree};
 
 pub const SIZES: [usize; 4] = [64, 128, 256, 512];
 
-/// What limits a tree has.
+/// What limits a tree has. None has flag 4, but for the one kind.
 #[derive(Clone, Copy, PartialEq, Eq)]
 pub enum Limits {
     None,
@@ -15,16 +15,19 @@ pub enum Limits {
     Few,
     /// On as many nodes as question 7 lets through.
     Many,
+    /// The same, half of them triangular numbers.
+    Triangular,
     /// In the run, on as many blocks as question 7 lets through, without loops: long lists.
     Long,
     /// The same with the blocks side by side, so that every child is joined to a long list.
     Flat,
 }
 
-pub const LIMITS: [Limits; 5] = [
+pub const LIMITS: [Limits; 6] = [
     Limits::None,
     Limits::Few,
     Limits::Many,
+    Limits::Triangular,
     Limits::Long,
     Limits::Flat,
 ];
@@ -35,6 +38,7 @@ impl Limits {
             Limits::None => "none",
             Limits::Few => "few",
             Limits::Many => "many",
+            Limits::Triangular => "triangular",
             Limits::Long => "long",
             Limits::Flat => "flat",
         }
@@ -44,7 +48,7 @@ impl Limits {
         match self {
             Limits::None => trees::without_limits(rng, records),
             Limits::Few => limited_tree(rng, records, 8),
-            Limits::Many => limited_tree(rng, records, MOST_WEIGHT),
+            Limits::Many | Limits::Triangular => limited_tree(rng, records, MOST_WEIGHT),
             Limits::Long => with_limited_blocks(trees::grow(rng, records, MOST_DEPTH, 0)),
             Limits::Flat => with_limited_blocks(flat_tree(rng, records)),
         }
@@ -86,6 +90,18 @@ fn limit_blocks(tree: &mut Tree, left: &mut u64) {
     }
 }
 
+/// Makes half of the limits triangular numbers.
+fn put_triangles(rng: &mut Rng, tree: &mut Tree) {
+    if let Some(limit) = &mut tree.limit {
+        if rng.once_in(2) {
+            limit.amount = Amount::Triangular(rng.within(COUNT_SYMBOLS));
+        }
+    }
+    for child in &mut tree.children {
+        put_triangles(rng, child);
+    }
+}
+
 pub struct Quote {
     pub tree: Tree,
     pub table: Vec<u8>,
@@ -114,6 +130,9 @@ fn random(rng: &mut Rng, records: usize, limits: Limits) -> Option<Quote> {
     let mut tree = limits.random_tree(rng, records);
     AMOUNTS.set(rng, &mut tree);
     trees::drop_triangles(&mut tree);
+    if limits == Limits::Triangular {
+        put_triangles(rng, &mut tree);
+    }
     let values = AMOUNTS.values(rng);
     let pairs = evaluator::evaluate(&tree, &values).ok()?.list.into_pairs();
     let figure = pairs[0].0;

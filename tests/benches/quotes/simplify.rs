@@ -12,8 +12,8 @@ const TABLES: usize = 16;
 const REPETITIONS: usize = 31;
 
 const HEADING: &str = "
-                                |          simplify
-records trees      steps   left |      lib     Rust ratio";
+                                 |          simplify
+records trees       steps   left |      lib     Rust ratio";
 
 pub fn measure() {
     println!(
@@ -83,7 +83,7 @@ fn measure_tables(records: usize, name: &str, tables: &[Vec<u8>]) {
         panic!("one time for each call");
     };
     println!(
-        "{records:7} {name:9} {steps:6} {left:6} | {library:8.2} {rust:8.2} {:5.2}",
+        "{records:7} {name:10} {steps:6} {left:6} | {library:8.2} {rust:8.2} {:5.2}",
         library / rust
     );
 }
