@@ -37,7 +37,7 @@ fn printed() -> Vec<u64> {
 fn constant() -> Vec<u64> {
     let text = read("crates/triangular/src/lib.rt");
     let (_, rest) = text
-        .split_once("const TRIANGULAR: [u64; 1001] = [")
+        .split_once("const TRIANGULAR: [u32; 1001] = [")
         .expect("the table");
     let (numbers, _) = rest.split_once("];").expect("its end");
     let numbers = numbers.split(',').map(str::trim);

@@ -11,7 +11,7 @@ use Rattle.table.specs.Bytes.{toBytes, fromBytes}
 use Rattle.table.specs.Table.{flag, mostFlags, mostFrom, numFrom, kindByte, valueNum, kindFrom, loopByte, limitNum, limitFrom, recordBytes, encode, firstNode, childByte, firstOnes, afterOnes, forest, top, decode, formTrees, each}
 use Rattle.table.specs.Checking.{question1, question2, limitCount, recordInRange, question3, question4, question5, question6, question7, questions}
 use Rattle.table.specs.Asking.{byRefusal, firstNo}
-use Rattle.table.specs.Notation.{_/_at_, allHold, block, both, either, loop, sequence, symbol}
+use Rattle.table.specs.Notation.{_/T_at_, _/_at_, allHold, block, both, either, loop, sequence, symbol}
 use Rattle.lists.specs.Streams.{S, const, add, cap, group, shift, merge, next, taken}
 use Rattle.lists.specs.Pairs.{Pairs, ever, run, inFront, tail, pairs}
 use Rattle.evaluate.specs.Evaluate.{allowed, amount, inner, outward, seen, name, limit, rounds, turns, join, start, list, figure, fits, zeros}
@@ -39,7 +39,11 @@ samePairs (run v c r) (run w d s) = eqb v w and eqb c d and samePairs r s
 pub lists : Tree → Pairs → Bool
 lists t ps = samePairs ps (listPairs zeros t)
 
+pub isRefused : ℕ → Quote → Bool
+isRefused q (Quote.Figure y) = false
+isRefused q (Quote.Refused r) = eqb q r
+
 -- to unfold this is to unfold all that the cases compute with
 unfoldable pub computed : ℕ
-unfolding block symbol _/_at_ sequence both either loop allHold isFigure quotes samePairs lists _and_ _⧺_ size rest around records S const add cap group shift merge next taken allowed amount inner outward seen name limit rounds turns join start list figure fits arity timeInRange countInRange mostInRange kindInRange limitInRange listed depth loops nameOk named share weight toBytes fromBytes flag mostFlags mostFrom numFrom kindByte valueNum kindFrom loopByte limitNum limitFrom recordBytes encode firstNode childByte firstOnes afterOnes forest top decode formTrees each limitCount recordInRange question1 question2 question3 question4 question5 question6 question7 questions firstNo byRefusal placeOf turned place inFront tail pairs listPairs ceiling ranged question9 limitHolds triangleSmall recordSmall question13 valueQuestions quoteQuestions figureRefusal figureAnswer
+unfolding block symbol _/_at_ _/T_at_ sequence both either loop allHold isFigure isRefused quotes samePairs lists _and_ _⧺_ size rest around records S const add cap group shift merge next taken allowed amount inner outward seen name limit rounds turns join start list figure fits arity timeInRange countInRange mostInRange kindInRange limitInRange listed depth loops nameOk named share weight toBytes fromBytes flag mostFlags mostFrom numFrom kindByte valueNum kindFrom loopByte limitNum limitFrom recordBytes encode firstNode childByte firstOnes afterOnes forest top decode formTrees each limitCount recordInRange question1 question2 question3 question4 question5 question6 question7 questions firstNo byRefusal placeOf turned place inFront tail pairs listPairs ceiling ranged question9 limitHolds triangleSmall recordSmall question13 valueQuestions quoteQuestions figureRefusal figureAnswer
 computed = 0

@@ -3,5 +3,6 @@ pub mod Values
 pub mod Answers
 pub mod Promises
 pub mod Cases
+pub mod Triangles
 -- What is proved of them.
 pub mod Laws

@@ -18,6 +18,11 @@ infixl 60 _/_at_
 unfoldable pub _/_at_ : Tree → ℕ → ℕ → Tree
 (node n f) / m at k = node (record { kind = n .kind; limit = AtMost k (Most.Plain m) }) f
 
+infixl 60 _/T_at_
+-- a/m@k, where m is the triangular number of symbol s
+unfoldable pub _/T_at_ : Tree → ℕ → ℕ → Tree
+(node n f) /T s at k = node (record { kind = n .kind; limit = AtMost k (Most.Triangular s) }) f
+
 -- (a, b, ..)
 unfoldable pub sequence : Forest → Tree
 sequence f = node (record { kind = Sequence; limit = Unlimited }) f
