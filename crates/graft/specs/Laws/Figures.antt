@@ -29,7 +29,7 @@ use Rattle.graft.specs.Promises.{GraftPromised, Quoted, hostValues}
 use Rattle.graft.specs.Laws.Grafted.{graft-figure, graft-fits, graft-needs, set-other, setValue}
 use Rattle.graft.specs.Laws.Limits.{graft-limits, sent-limits, smalls-but}
 use Rattle.table.specs.Laws.Tables.{accepted-table}
-use Rattle.graft.specs.Laws.Result.{result-accepted, result-reads, result-table, result-unused, sent-is}
+use Rattle.graft.specs.Laws.Result.{result-reads, result-table, result-unused, sent-is}
 
 -- ---- a desk's values with one of them set
 
@@ -100,7 +100,7 @@ module _ (h b vs : List ℕ) (s : ℕ) (H : IsTable h) (B : IsTable b) (eleven :
       let thirteen : question13 (graftTable h b s) vs ≡ question13 h (hostValues b s vs) =
       thirteen-limits _ vs result-is ∙ ap (everyMost (triangleSmall (valuesOf vs))) reads
       ∙ graft-limits (triangleSmall (valuesOf vs)) s (decode b) sent (decode h) l ∙ same ∙ sym (thirteen-limits h _ H) in
-      quotes-alike (graftTable h b s) h vs _ (result-accepted h b s H B twelve) (accepted-table h H) nine (set-allowed vs s _ g small nine) thirteen (ap (fits (valuesOf vs)) reads ∙ fit) (ap (figure (valuesOf vs)) reads ∙ fig)
+      quotes-alike (graftTable h b s) h vs _ (accepted-table _ result-is) (accepted-table h H) nine (set-allowed vs s _ g small nine) thirteen (ap (fits (valuesOf vs)) reads ∙ fit) (ap (figure (valuesOf vs)) reads ∙ fig)
     where
       nine-long : T (question9 vs) → T (eqb (length vs) howManyValues)
       nine-long k = unfold question9 in both _ _ k .0
@@ -121,7 +121,7 @@ checked-accepted b e = answered (refusal b) _ Checked.Refused e
 
 pub graft-promised : (h b : List ℕ) (s : ℕ) → IsTable h → IsTable b → T (question11 b s) → T (question12 (graftTable h b s)) → GraftPromised h b s (graftTable h b s)
 graft-promised h b s H B eleven twelve = record {
-  checked = checked-accepted (graftTable h b s) (result-accepted h b s H B twelve);
+  checked = checked-accepted (graftTable h b s) (accepted-table _ (result-table h b s H B twelve));
   unused = result-unused h b s H B;
   figures = λ vs x y z. ap quotedFigure (graft-quoted h b vs s H B eleven twelve x);
   answers = λ vs x. graft-quoted h b vs s H B eleven twelve x;

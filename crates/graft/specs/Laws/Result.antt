@@ -15,10 +15,11 @@ use Rattle.table.specs.Table.{decode, encode}
 use Rattle.table.specs.Trees.{Tree, records}
 use Rattle.table.specs.Survey.{surveyNode, surveyRefusal, unfit}
 use Rattle.table.specs.Asking.{_asks_, firstNo}
-use Rattle.table.specs.Checking.{IsTable, question1, question5, question7, refusal}
-use Rattle.table.specs.Laws.NotRefused.{not-refused, reads-back}
+use Rattle.table.specs.Checking.{IsTable, question1, question5, question7}
+use Rattle.table.specs.Laws.NotRefused.{reads-back}
 use Rattle.table.specs.Laws.RoundTrip.{length-encode}
 use Rattle.table.specs.Laws.Survey.{fitting, surveyOf, tree-surveyed}
+use Rattle.table.specs.Laws.Tables.{written-table}
 use Rattle.table.specs.Laws.Trees.{some-records}
 use Rattle.evaluate.specs.Laws.Evaluator.{Fair}
 use Rattle.splice.specs.Graft.{graft, uses}
@@ -91,11 +92,7 @@ module _ (h b : List ℕ) (s : ℕ) (H : IsTable h) (B : IsTable b) where
 
   pub result-table : T (question12 (graftTable h b s)) → IsTable (graftTable h b s)
   unfolding graftTable
-  result-table z = record { accepted = rw result-reads (asked-accepted _ result-listed result-named z); back = ap encode result-reads }
-
-  pub result-accepted : T (question12 (graftTable h b s)) → refusal (graftTable h b s) ≡ 0
-  unfolding graftTable
-  result-accepted z = not-refused _ (asked-accepted _ result-listed result-named z)
+  result-table z = written-table _ (asked-accepted _ result-listed result-named z)
 
   pub result-surveyed : records (graft s (decode b) (decode h)) ≤ mostRecords → eqb (surveyRefusal (surveyNode mostDepth 0 (graftTable h b s))) 0 ≡ question12 (graftTable h b s)
   unfolding graftTable

@@ -16,7 +16,8 @@ use Rattle.table.specs.Laws.Reading.{part-to}
 use Rattle.table.specs.Laws.Refusal.{check-passes}
 use Rattle.table.specs.Laws.RoundTrip.{length-encode}
 use Rattle.table.specs.Laws.Accepted.{is-table}
-use Rattle.table.specs.Laws.NotRefused.{reads-back, not-refused}
+use Rattle.table.specs.Laws.NotRefused.{reads-back}
+use Rattle.table.specs.Laws.Tables.{accepted-table, written-table}
 use Rattle.evaluate.specs.Evaluate.{valuesOf, figure, fits, zeros}
 use Rattle.evaluate.specs.Laws.Monotone.{figure-mono, fits-zeros}
 use Rattle.simplify.specs.Steps.{Made, isNone, step, steps}
@@ -55,8 +56,8 @@ module _ (b : List ℕ) (n : ℕ) (v w : List ℕ) (h : AreBytes b) (e : refusal
       let k : Kept true (m .tree) t = steps-kept n t in
       let a : Accepted (m .tree) = k .stillAccepted (λ x. f) (i .accepted) in
       let back : decode (encode (m .tree)) ≡ m .tree = reads-back (m .tree) (a .listed) in
-      let j : IsTable (encode (m .tree)) = record { accepted = rw back a; back = ap encode back } in
-      let ok : refusal (encode (m .tree)) ≡ 0 = not-refused (m .tree) a in
+      let j : IsTable (encode (m .tree)) = written-table (m .tree) a in
+      let ok : refusal (encode (m .tree)) ≡ 0 = accepted-table _ j in
       let long : length (encode t) ≡ length b = ap length (i .back) in
       record {
         tree = m .tree;

@@ -1,4 +1,4 @@
--- A table by its tree: how many records it has, and how long it is.
+-- A table by its tree: that it is one, how many records it has, and how long it is.
 use mathlib.Core.Path.{_≡_, ap, sym, _∙_}
 use mathlib.Core.List.{List, [], _++_, append-nil}
 use Prim.Native.Nat.{ℕ, _*_, _≤_}
@@ -7,9 +7,13 @@ use lib.ListN.{length}
 use Rattle.table.specs.Checking.{IsTable, refusal}
 use Rattle.table.specs.Numbers.{mostRecords, recordLength}
 use Rattle.table.specs.Table.{decode, encode, recordCount}
-use Rattle.table.specs.Trees.{records}
-use Rattle.table.specs.Laws.NotRefused.{not-refused}
+use Rattle.table.specs.Questions.{Accepted}
+use Rattle.table.specs.Trees.{Tree, records}
+use Rattle.table.specs.Laws.NotRefused.{not-refused, reads-back}
 use Rattle.table.specs.Laws.RoundTrip.{length-encode}
+
+pub written-table : (t : Tree) → Accepted t → IsTable (encode t)
+written-table t a = let e = reads-back t (a .listed) in record { accepted = rw e a; back = ap encode e }
 
 module _ (b : List ℕ) (t : IsTable b) where
   pub accepted-table : refusal b ≡ 0
