@@ -41,8 +41,9 @@ typedef struct {
     uint64_t pairs;   /* how many pairs were written, 0 if it is refused */
 } vf_list_answer;
 
-/* Puts questions 1 to 9, 13 and 10 and writes the list of a table's tree over the front of out, which holds at least 512 numbers: a value
-   and how often it comes, pair by pair from the largest value down, where 0 says for ever and stands in the last pair alone.
+/* Puts questions 1 to 9, 13 and 10 and writes the list of a table's tree over the front of out, which holds at least 512
+   numbers: a value and how often it comes, pair by pair from the largest value down, where 0 says for ever and stands in the
+   last pair alone.
    Nothing of out past them changes, and nothing at all on a refusal. */
 vf_list_answer vf_list(const uint8_t *table, size_t table_len, const uint64_t *values, size_t values_len, uint64_t *out,
                        size_t out_len);

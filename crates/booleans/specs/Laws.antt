@@ -65,6 +65,10 @@ pub or-else : (a b : Bool) → T (a || b) → a ≡ false → T b
 or-else true b h e = absurd (subst T e tt)
 or-else false b h e = h
 
+pub either : (a b : Bool) {Q : Type 0} → T (a || b) → (T a → Q) → (T b → Q) → Q
+either true b h f g = f tt
+either false b h f g = g h
+
 -- ---- the code's `&` is the definitions' `and`
 
 pub and-is : (x y : Bool) → (x && y) ≡ (x and y)

@@ -1,12 +1,14 @@
 -- Trees of document 01's cases C, D, E, F, H and I, and admitted runs of them. Each costs the figure, except that case I's figure is 66: Laws/CaseI shows that
--- 46 is the most that is admitted there. Two more trees show what these cases do not. No tree here has a symbol, so all of it holds at all values.
+-- 46 is the most that is admitted there. Three more trees show what these cases do not. No tree but the last has a symbol, so all of it but that tree's run
+-- holds at all values.
 use mathlib.Core.Path.{refl}
 use mathlib.Core.List.{List, [], _∷_, map}
 use mathlib.Core.Logic.{_⊎_, inl, inr}
 use Prim.Native.Nat.{ℕ}
 use native.Mathlib.Omega.{arith}
 use Rattle.booleans.specs.Tests.{_and_}
-use Rattle.table.specs.Notation.{_/_at_, block, both, either, loop, sequence}
+use Rattle.table.specs.Notation.{_/T_at_, _/_at_, block, both, either, loop, sequence}
+use Rattle.triangular.specs.Triangular.{rule, triangular}
 use Rattle.table.specs.Trees.{Tree, nil, _▸_, rest}
 use Rattle.evaluate.specs.Nodes.{AtMost, Most}
 use Rattle.evaluate.specs.Evaluate.{Values, amount, outward, allowed}
@@ -47,9 +49,13 @@ limitedExit = loop 2 (loop 1 (block 0) (block 10 / 1 at 1)) (block 0)
 unfoldable pub limitedLoop : Tree
 limitedLoop = loop 2 (loop 3 (block 5) (block 0) / 1 at 1) (block 4 / 1 at 255)
 
+-- document 02's triangular loop: at most the triangular number of symbol 0 passes of the block in the outer loop's pass
+unfoldable pub shrinking : Tree
+shrinking = loop 2 (loop 2 (block 7 /T 0 at 2) (block 0)) (block 0)
+
 -- to unfold this is to unfold all that the trees, and a run's test and cost, compute with
 unfoldable pub computed : ℕ
-unfolding caseC caseE term caseH caseI limitedZero limitedExit limitedLoop block _/_at_ sequence both either loop _and_ rest allowed amount outward out seenLimit limitAt count total cost keepsLimit keepsHere everyNode every admits isRun
+unfolding caseC caseE term caseH caseI limitedZero limitedExit limitedLoop shrinking block _/_at_ _/T_at_ triangular rule sequence both either loop _and_ rest allowed amount outward out seenLimit limitAt count total cost keepsLimit keepsHere everyNode every admits isRun
 computed = 0
 
 -- ---- their passes
@@ -134,3 +140,8 @@ module _ (v : Values) where
   exit-outside h =
       let held : here v (AtMost 1 (Most.Plain 1)) 2 = h .inside .1 (inr (inr (inl (inl tt)))) in
       absurd (omega (arith, held (omega arith)))
+
+-- with symbol 0 at 2, three passes of the block: two in the first round, and one in the second
+pub run-shrinking : Costs (λ k. 2) shrinking 21
+unfolding computed
+run-shrinking = run-costs (λ k. 2) shrinking (goingRound (goingRound (tt ∷ tt ∷ []) ∷ goingRound (tt ∷ []) ∷ [])) 21 tt refl

@@ -29,7 +29,7 @@ pub record Promised (v : Values) (t : Tree) (x : ℕ) : Type 0 where
   pub covered : (r : Pass t) → Run v t r → cost v t r ≤ x
   -- with no limits in the table, some admitted run costs exactly that
   pub reached : T (limitFree t) → Costs v t x
-  -- the limits that runs keep are document 02's
+  -- each limit under flag 4 comes to document 02's number
   pub ruled : T (everyMost (byRule v) t)
 
 -- an answer that is no refusal promises this of its figure

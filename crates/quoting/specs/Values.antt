@@ -1,4 +1,4 @@
--- A desk's values: what is asked of them (document 01, "Questions put to a call"), and when none is lower.
+-- A desk's values: what is asked of them (document 01, "Questions put to a call"; document 02, CR 3), and when none is lower.
 use mathlib.Core.Bool.{Bool, true, cond}
 use mathlib.Core.List.{List, [], _∷_}
 use Prim.Native.Nat.{ℕ, suc, _≤_}

@@ -112,7 +112,7 @@ fn number_from(flag: u8, x: u64) -> Number
     }
 }
 
-// A limit's field with its flags, which are 0 for a plain number and 1 for a symbol.
+// A limit's field with its flags, halved: 0 for a plain number, 1 for a symbol, any other for a symbol's triangular number.
 fn most_from(flags: u8, x: u64) -> Most
     ensures { λ r. ⌜ r ≡ mostFrom flags x ⌝ }
 {

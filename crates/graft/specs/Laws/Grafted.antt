@@ -3,7 +3,7 @@ use mathlib.Core.Path.{_≡_, refl, ap, ap₂, _∙_, sym, subst}
 use mathlib.Core.Bool.{Bool, true, false, cond, _||_}
 use Prim.Native.Nat.{ℕ, suc, min, _≤_}
 use native.Mathlib.Omega.{arith}
-use lib.Dec.{T, eqb, leb, le→leb, ltb→lt}
+use lib.Dec.{T, eqb, leb, le→leb, ltb, ltb→lt}
 use borrow.Author.Tests.{eq-eqb, ne-eqb}
 use Rattle.triangular.specs.Triangular.{triangular}
 use Rattle.table.specs.declared.Most.{Most}
@@ -14,7 +14,7 @@ use Rattle.table.specs.declared.Limit.the-variants.{Unlimited, AtMost}
 use Rattle.table.specs.declared.Kind.{Kind}
 use Rattle.table.specs.declared.Kind.the-variants.{Block, Sequence, Choice, Loop}
 use Rattle.booleans.specs.Tests.{_and_}
-use Rattle.booleans.specs.Laws.{both, join-and, by-cond, or-else, is-T, T-is}
+use Rattle.booleans.specs.Laws.{both, join-and, by-cond, either, or-else, is-T, T-is}
 use Rattle.table.specs.Numbers.{firstTimeSymbol, mostTime, wholeRun}
 use Rattle.table.specs.Trees.{Tree, node, Forest, nil, _▸_, size, rest, around}
 use Rattle.table.specs.Questions.{Accepted, arity, countInRange, kindInRange, limitInRange, listed, listedIn, nameOk, named, namedIn, timeInRange, mostInRange}
@@ -110,16 +110,19 @@ place-list v u l s =
 -- ---- values that agree but for symbol s: of symbols from 16 on, only times read them
 
 module _ (v w : Values) (s : ℕ) (h : firstTimeSymbol ≤ s) (same : (k : ℕ) → eqb k s ≡ false → v k ≡ w k) where
+  pub count-but : (k : ℕ) → T (ltb k firstTimeSymbol) → v k ≡ w k
+  count-but k r = same k (ne-eqb k s (λ e. omega (arith, ltb→lt k firstTimeSymbol r)))
+
   amount-but : (m : Number) → T (countInRange m) → amount v m ≡ amount w m
   unfolding amount countInRange
   amount-but (Plain n) r = refl
-  amount-but (Symbol k) r = same k (ne-eqb k s (λ e. omega (arith, ltb→lt k firstTimeSymbol r)))
+  amount-but (Symbol k) r = count-but k r
 
   allowed-but : (m : Most) → T (mostInRange m) → allowed v m ≡ allowed w m
   unfolding allowed mostInRange
   allowed-but (Most.Plain n) r = refl
-  allowed-but (Most.Symbol k) r = same k (ne-eqb k s (λ e. omega (arith, ltb→lt k firstTimeSymbol r)))
-  allowed-but (Most.Triangular k) r = ap triangular (same k (ne-eqb k s (λ e. omega (arith, ltb→lt k firstTimeSymbol r))))
+  allowed-but (Most.Symbol k) r = count-but k r
+  allowed-but (Most.Triangular k) r = ap triangular (count-but k r)
 
   limit-but : (l : Limit) (f : Stream) → T (limitInRange l) → limit v l f ≡ limit w l f
   unfolding limit limitInRange
@@ -226,10 +229,6 @@ module _ (v : Values) (s : ℕ) (g : firstTimeSymbol ≤ s) (u : Tree) (o : Fair
     graftIn-fits : (f : Forest) → T (listedIn f) → fitsIn v (graftIn s u f) ≡ fitsIn (setValue v s (figure v u)) f
     graftIn-fits nil h = refl
     graftIn-fits (t ▸ f) h = let (a, b) = both _ _ h in ap₂ _and_ (graft-fits t a) (graftIn-fits f b)
-
-pub either : (a b : Bool) {Q : Type 0} → T (a || b) → (T a → Q) → (T b → Q) → Q
-either true b h f g = f tt
-either false b h f g = g h
 
 module _ (v : Values) (s : ℕ) (u : Tree) (o : Fair u 0) where
   mutual

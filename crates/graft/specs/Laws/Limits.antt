@@ -2,11 +2,9 @@
 use mathlib.Core.Path.{_≡_, refl, ap, ap₂, sym, subst, _∙_}
 use mathlib.Core.Bool.{Bool, false}
 use Prim.Native.Nat.{ℕ, _≤_}
-use native.Mathlib.Omega.{arith}
-use lib.Dec.{T, eqb, leb, ltb→lt}
-use borrow.Author.Tests.{ne-eqb}
+use lib.Dec.{T, eqb, leb}
 use Rattle.booleans.specs.Tests.{_and_}
-use Rattle.booleans.specs.Laws.{and-true, both, by-cond, or-else, T-is}
+use Rattle.booleans.specs.Laws.{and-true, both, by-cond, either, or-else, T-is}
 use Rattle.table.specs.declared.Most.{Most}
 use Rattle.table.specs.declared.Limit.{Limit}
 use Rattle.table.specs.declared.Limit.the-variants.{Unlimited, AtMost}
@@ -20,7 +18,7 @@ use Rattle.triangular.specs.Triangular.{mostTriangular}
 use Rattle.quoting.specs.Values.{triangleSmall}
 use Rattle.splice.specs.Graft.{graft, graftIn, inPlace, isSymbol, rename, renameIn, renamedLimit, uses, usesIn}
 use Rattle.splice.specs.Laws.Sizes.{symbol-only}
-use Rattle.graft.specs.Laws.Grafted.{either}
+use Rattle.graft.specs.Laws.Grafted.{count-but}
 
 module _ (q : Most → Bool) where
   abbrev everyIn : Forest → Bool
@@ -84,7 +82,7 @@ module _ (v w : Values) (s : ℕ) (h : firstTimeSymbol ≤ s) (same : (k : ℕ) 
   small-but Unlimited r = refl
   small-but (AtMost k (Most.Plain n)) r = refl
   small-but (AtMost k (Most.Symbol j)) r = refl
-  small-but (AtMost k (Most.Triangular j)) r = ap (λ x. leb x mostTriangular) (same j (ne-eqb j s (λ e. omega (arith, ltb→lt j firstTimeSymbol (both _ _ r .1)))))
+  small-but (AtMost k (Most.Triangular j)) r = ap (λ x. leb x mostTriangular) (count-but v w s h same j (both _ _ r .1))
 
   mutual
     unfolding listed everyLimit

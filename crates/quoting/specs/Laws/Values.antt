@@ -1,4 +1,4 @@
--- The questions about values. Question 9 as a program puts it, value by value, and what it says of each.
+-- The questions about values: question 13 by the table's tree, and question 9 as a program puts it, value by value, with what it says of each.
 use mathlib.Core.Path.{_≡_, refl, sym, subst, _∙_}
 use mathlib.Core.Bool.{Bool, true, false}
 use mathlib.Core.List.{List, [], _∷_}
