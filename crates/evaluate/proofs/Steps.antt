@@ -13,10 +13,12 @@ use Rattle.table.specs.Trees.{rest}
 use Rattle.table.specs.declared.Kind.{Kind}
 use Rattle.table.specs.declared.Limit.the-variants.{AtMost}
 use Rattle.table.specs.declared.Most.{Most}
+use Rattle.table.specs.declared.Number.{Number}
+use Rattle.table.specs.declared.Number.the-variants.{Plain, Symbol}
 use Rattle.lists.specs.Operations.{capPairs, first, groupPairs}
 use Rattle.lists.specs.Pairs.{Pairs, ever, top, width}
-use Rattle.evaluate.specs.Evaluate.{Values, outward, allowed}
-use Rattle.evaluate.specs.Evaluator.{Found, andThen, checked, evaluateBelow, evaluateMore, evaluateNode, found, goneRound, joinPairs, joined, limited, looped, unfit}
+use Rattle.evaluate.specs.Evaluate.{Values, allowed, amount, outward}
+use Rattle.evaluate.specs.Evaluator.{Found, andThen, asMost, checked, evaluateBelow, evaluateMore, evaluateNode, found, goneRound, joinPairs, joined, limited, looped, unfit}
 use Rattle.evaluate.specs.Shown.{withNext}
 
 -- ---- steps
@@ -52,6 +54,11 @@ module _ (n : ℕ) (c : Found) where
   pub looped-room : n ≤ mostCount → 1 < c .named → 2 * width (c .pairs) ≤ mostWeight → looped n c ≡ checked (groupPairs n (c .pairs)) (outward (c .named)) (c .records)
   unfolding looped
   looped-room m o l = rw (le-leb n mostCount m, lt-leb (c .named) 1 o, le-leb (2 * width (c .pairs)) mostWeight l) refl
+
+pub allowed-bound : (v : Values) (n : Number) → allowed v (asMost n) ≡ amount v n
+unfolding allowed amount asMost
+allowed-bound v (Plain n) = refl
+allowed-bound v (Symbol s) = refl
 
 module _ (v : Values) (k : ℕ) (m : Most) (s : Found) where
   pub limited-many : mostCount < allowed v m → limited v (AtMost k m) s ≡ unfit

@@ -10,7 +10,7 @@ use Rattle.table.specs.Table.{firstNode, childByte}
 use Rattle.table.specs.Trees.{rest}
 use Rattle.lists.specs.Operations.{addPairs, mergePairs, groupPairs, first, capPairs}
 use Rattle.lists.specs.Pairs.{Pairs, ever, top, width}
-use Rattle.evaluate.specs.Nodes.{Kind, Block, Sequence, Choice, Loop, Limit, Unlimited, AtMost}
+use Rattle.evaluate.specs.Nodes.{Kind, Block, Sequence, Choice, Loop, Limit, Unlimited, AtMost, Most, Number, Plain, Symbol}
 use Rattle.evaluate.specs.Evaluate.{outward, Values, allowed, amount}
 
 -- what a walk finds of a tree, or of a node's children so far: the pairs of the list, the loop it names, how many records, and whether question 10 says yes
@@ -52,6 +52,11 @@ looped n c =
     (cond (leb (c .named) 1) (checked (ever (first (c .pairs) n)) (outward (c .named)) (c .records))
     (cond (leb (2 * width (c .pairs)) mostWeight) (checked (groupPairs n (c .pairs)) (outward (c .named)) (c .records)) unfit))
     unfit
+
+-- a bound as a limit's number: both say how many passes are allowed
+unfoldable pub asMost : Number → Most
+asMost (Plain n) = Most.Plain n
+asMost (Symbol s) = Most.Symbol s
 
 -- the first child, as its parent takes it
 unfoldable pub goneRound : Values → Kind → Found → Found

@@ -8,7 +8,7 @@ ghost use Rattle.table.specs.Trees.{rest};
 ghost use Rattle.lists.specs.Pairs.{ever};
 ghost use Rattle.lists.specs.Reading.{Addable, Is, Mergeable, Proper, listIn, pairsOf};
 ghost use Rattle.evaluate.specs.Evaluate.{allowed, amount, outward, valuesOf};
-ghost use Rattle.evaluate.specs.Evaluator.{andThen, checked, evaluateNode, goneRound, joinPairs, joined, limited, looped};
+ghost use Rattle.evaluate.specs.Evaluator.{andThen, asMost, checked, evaluateNode, goneRound, joinPairs, joined, limited, looped};
 ghost use Rattle.evaluate.specs.Shown.{Ready, Roomy, Shows, evaluateChildren, foundIn, withNext};
 use lists::List;
 use lists::MOST_PAIRS;
@@ -53,7 +53,7 @@ pub fn value_of(symbol: u64, values: &[u64]) -> u64
     if at < values.len() { values[at] } else { 0 }
 }
 
-// What a time or bound comes to.
+// What a time comes to.
 fn amount_of(number: Number, values: &[u64]) -> u64
     ensures { λ r. ⌜ r ≡ amount (valuesOf (now (values .entry))) number ⌝ }
 {
@@ -63,7 +63,18 @@ fn amount_of(number: Number, values: &[u64]) -> u64
     }
 }
 
-// What a limit comes to.
+// A bound as a limit's number: both say how many passes are allowed.
+fn as_most(bound: Number) -> Most
+    ensures { λ r. ⌜ r ≡ asMost bound ⌝ }
+{
+    match bound {
+        Number::Plain(n) => Most::Plain(n),
+        Number::Symbol(s) => Most::Symbol(s),
+    }
+}
+
+// How many passes a bound or limit allows. Both ask here, so that the compiler keeps this apart: with the table of triangular numbers, which stands on the
+// stack, in the walk every node took a fifth longer.
 fn allowed_by(most: Most, values: &[u64]) -> u64
     ensures { λ r. ⌜ r ≡ allowed (valuesOf (now (values .entry))) most ⌝ }
 {
@@ -167,7 +178,7 @@ fn go_round(
     let Kind::Loop(bound) = kind else {
         return child;
     };
-    loop_in(amount_of(bound, values), child, list, spare)
+    loop_in(allowed_by(as_most(bound), values), child, list, spare)
 }
 
 // A choice takes the lists' members together; the others are added.
