@@ -26,7 +26,7 @@ limitListed k s m = (leb 1 k && leb k mostLoops) || eqb k wholeRun || (eqb k 0 &
 
 -- 2. Flag 4 stands only with flag 2, and there is no other flag. Byte 1 without flag 1, halved: flag 2 is its low bit and flag 4 the next.
 abbrev pub flagsListed : ℕ → Bool
-flagsListed s = eqb s 0 || eqb s 1 || eqb s 3
+flagsListed s = leb s 1 || eqb s 3
 
 -- 2. of the first record; flag 1 is the low bit of byte 1
 abbrev pub recordListed : List ℕ → Bool

@@ -7,7 +7,7 @@ use native.Mathlib.Omega.{arith}
 use lib.Dec.{T, eqb→eq, eqb, leb}
 use lib.ListN.{take, drop, length, length-drop, getD}
 use lib.Seq.{take-add, getD-drop, length-take-le, take-length}
-use borrow.Author.Tests.{ne-eqb}
+use borrow.Author.Tests.{lt-leb, ne-eqb}
 use Rattle.booleans.specs.Laws.{&&-both, both}
 use Rattle.table.specs.Numbers.{recordLength}
 use Rattle.table.specs.Trees.{size, Forest, nil, _▸_}
@@ -65,7 +65,7 @@ flags-most : (s x : ℕ) → T (flagsListed s) → mostFlags (mostFrom s x) ≡ 
 unfolding mostFlags mostFrom
 flags-most zero x h = refl
 flags-most (suc zero) x h = refl
-flags-most (suc (suc s)) x h = sym (eqb→eq (suc (suc s)) 3 (simp (ne-eqb (suc (suc s)) 0 (omega arith), ne-eqb (suc (suc s)) 1 (omega arith)) at h))
+flags-most (suc (suc s)) x h = sym (eqb→eq (suc (suc s)) 3 (simp (lt-leb (suc (suc s)) 1 (omega arith)) at h))
 
 field-most : (s x : ℕ) → mostField (mostFrom s x) ≡ x
 unfolding mostFrom
