@@ -3,7 +3,7 @@ ghost use mathlib.Core.Path.{_≡_};
 ghost use Prim.Native.Nat.{_+_, _*_, _^_, _<_, _≤_};
 ghost use lib.ListN.{drop, length};
 ghost use Rattle.table.specs.Numbers.{recordLength, mostRecords};
-ghost use Rattle.table.specs.Table.{childByte, field, firstNode, flagFour, flagless, kindFrom, loopByte, mostFrom, numFrom, recordCount};
+ghost use Rattle.table.specs.Table.{childByte, field, firstNode, flagFour, flagless, kindFrom, limitFrom, loopByte, mostFrom, numFrom, recordCount};
 ghost use Rattle.table.specs.Questions.{timeInRange, countInRange, kindInRange, mostInRange};
 ghost use Rattle.table.specs.Checking.{flagsListed, kindListed, limitCount, limitListed, question1, question2, question3, question4, recordInRange, recordListed, refusal};
 ghost use Rattle.table.specs.Numbers.{mostLoops, mostDepth};
@@ -135,17 +135,15 @@ fn kind_from(byte: u8, value: Number) -> Kind
     }
 }
 
-// The limit of the record at the front of `b`. Its number is read only where there is one: most nodes have none.
-fn read_limit(b: &[u8]) -> Limit
-    requires { ⌜ recordLength ≤ length (now b) ⌝ }
-    ensures { λ r. ⌜ r ≡ firstNode (now (b .entry)) .limit ⌝ }
+// The limit by byte 3, with its number.
+fn limit_from(byte: u8, most: Most) -> Limit
+    ensures { λ r. ⌜ r ≡ limitFrom byte most ⌝ }
 {
-    let name = b[3];
-    if name == 0 {
-        return Limit::Unlimited;
+    if byte == 0 {
+        Limit::Unlimited
+    } else {
+        Limit::AtMost(byte, most)
     }
-    let most = most_from(b[1] / 2, read_u32(b, 4));
-    Limit::AtMost(name, most)
 }
 
 // The node of the record at the front of `b`, the part of the table that starts there.
@@ -153,9 +151,11 @@ pub fn read_node(b: &[u8]) -> Node
     requires { ⌜ recordLength ≤ length (now b) ⌝ }
     ensures { λ r. ⌜ r ≡ firstNode (now (b .entry)) ⌝ }
 {
-    let value = number_from(b[1] % 2, read_u64(b, 8));
+    let flags = b[1];
+    let value = number_from(flags % 2, read_u64(b, 8));
+    let most = most_from(flags / 2, read_u32(b, 4));
     let kind = kind_from(b[0], value);
-    let limit = read_limit(b);
+    let limit = limit_from(b[3], most);
     Node {
         kind: kind,
         limit: limit,
