@@ -13,12 +13,10 @@ use Rattle.table.specs.Trees.{rest}
 use Rattle.table.specs.declared.Kind.{Kind}
 use Rattle.table.specs.declared.Limit.the-variants.{AtMost}
 use Rattle.table.specs.declared.Most.{Most}
-use Rattle.table.specs.declared.Number.{Number}
-use Rattle.table.specs.declared.Number.the-variants.{Plain, Symbol}
 use Rattle.lists.specs.Operations.{capPairs, first, groupPairs}
 use Rattle.lists.specs.Pairs.{Pairs, ever, top, width}
-use Rattle.evaluate.specs.Evaluate.{Values, allowed, amount, outward}
-use Rattle.evaluate.specs.Evaluator.{Found, andThen, asMost, checked, evaluateBelow, evaluateMore, evaluateNode, found, goneRound, joinPairs, joined, limited, looped, unfit}
+use Rattle.evaluate.specs.Evaluate.{Values, outward}
+use Rattle.evaluate.specs.Evaluator.{Found, andThen, checked, evaluateBelow, evaluateMore, evaluateNode, found, goneRound, joinPairs, joined, limited, looked, looped, unfit}
 use Rattle.evaluate.specs.Shown.{withNext}
 
 -- ---- steps
@@ -55,24 +53,19 @@ module _ (n : ℕ) (c : Found) where
   unfolding looped
   looped-room m o l = rw (le-leb n mostCount m, lt-leb (c .named) 1 o, le-leb (2 * width (c .pairs)) mostWeight l) refl
 
-pub allowed-bound : (v : Values) (n : Number) → allowed v (asMost n) ≡ amount v n
-unfolding allowed amount asMost
-allowed-bound v (Plain n) = refl
-allowed-bound v (Symbol s) = refl
-
 module _ (v : Values) (k : ℕ) (m : Most) (s : Found) where
-  pub limited-many : mostCount < allowed v m → limited v (AtMost k m) s ≡ unfit
+  pub limited-many : mostCount < looked v m → limited v (AtMost k m) s ≡ unfit
   unfolding limited
-  limited-many l = rw (lt-leb (allowed v m) mostCount l) refl
+  limited-many l = rw (lt-leb (looked v m) mostCount l) refl
 
-  pub limited-wide : allowed v m ≤ mostCount → mostWeight < suc (width (s .pairs)) → limited v (AtMost k m) s ≡ unfit
+  pub limited-wide : looked v m ≤ mostCount → mostWeight < suc (width (s .pairs)) → limited v (AtMost k m) s ≡ unfit
   unfolding limited
-  limited-wide l w = rw (le-leb (allowed v m) mostCount l, lt-leb (suc (width (s .pairs))) mostWeight w) refl
+  limited-wide l w = rw (le-leb (looked v m) mostCount l, lt-leb (suc (width (s .pairs))) mostWeight w) refl
 
-  pub limited-room : allowed v m ≤ mostCount → suc (width (s .pairs)) ≤ mostWeight
-      → limited v (AtMost k m) s ≡ found (capPairs (allowed v m) (s .pairs)) (min k (s .named)) (suc (s .records))
+  pub limited-room : looked v m ≤ mostCount → suc (width (s .pairs)) ≤ mostWeight
+      → limited v (AtMost k m) s ≡ found (capPairs (looked v m) (s .pairs)) (min k (s .named)) (suc (s .records))
   unfolding limited
-  limited-room l w = rw (le-leb (allowed v m) mostCount l, le-leb (suc (width (s .pairs))) mostWeight w) refl
+  limited-room l w = rw (le-leb (looked v m) mostCount l, le-leb (suc (width (s .pairs))) mostWeight w) refl
 
 -- ---- the walk
 

@@ -3,15 +3,15 @@
 use mathlib.Core.Bool.{Bool, false, true, cond}
 use mathlib.Core.List.{List}
 use Prim.Native.Nat.{ℕ, _+_, min, _*_, zero, suc}
-use lib.Dec.{leb}
+use lib.Dec.{leb, ltb}
 use lib.ListN.{drop, length}
-use Rattle.table.specs.Numbers.{wholeRun, mostTime, mostWeight, mostCount, recordLength}
+use Rattle.table.specs.Numbers.{wholeRun, mostTime, mostWeight, mostCount, recordLength, howManySymbols}
 use Rattle.table.specs.Table.{firstNode, childByte}
 use Rattle.table.specs.Trees.{rest}
 use Rattle.lists.specs.Operations.{addPairs, mergePairs, groupPairs, first, capPairs}
 use Rattle.lists.specs.Pairs.{Pairs, ever, top, width}
-use Rattle.evaluate.specs.Nodes.{Kind, Block, Sequence, Choice, Loop, Limit, Unlimited, AtMost, Most, Number, Plain, Symbol}
-use Rattle.evaluate.specs.Evaluate.{outward, Values, allowed, amount}
+use Rattle.evaluate.specs.Nodes.{Kind, Block, Sequence, Choice, Loop, Limit, Unlimited, AtMost, Most}
+use Rattle.evaluate.specs.Evaluate.{outward, Values, amount}
 
 -- what a walk finds of a tree, or of a node's children so far: the pairs of the list, the loop it names, how many records, and whether question 10 says yes
 pub record Found : Type 0 where
@@ -53,11 +53,6 @@ looped n c =
     (cond (leb (2 * width (c .pairs)) mostWeight) (checked (groupPairs n (c .pairs)) (outward (c .named)) (c .records)) unfit))
     unfit
 
--- a bound as a limit's number: both say how many passes are allowed
-unfoldable pub asMost : Number → Most
-asMost (Plain n) = Most.Plain n
-asMost (Symbol s) = Most.Symbol s
-
 -- the first child, as its parent takes it
 unfoldable pub goneRound : Values → Kind → Found → Found
 goneRound v (Block t) c = c
@@ -84,12 +79,21 @@ evaluateBelow v f Sequence n b = evaluateMore v f Sequence n b (found (ever 0) w
 evaluateBelow v f Choice n b = evaluateMore v f Choice n b (found (ever 0) wholeRun 0)
 evaluateBelow v f (Loop m) n b = evaluateMore v f (Loop m) n b (found (ever 0) wholeRun 0)
 
+-- The walk is lent the values of all symbols and, behind them, triangular numbers: of symbol k, and 0 past the symbols. What a limit comes to, by these:
+unfoldable pub triangleIn : Values → ℕ → ℕ
+triangleIn u k = cond (ltb k howManySymbols) (u (howManySymbols + k)) 0
+
+unfoldable pub looked : Values → Most → ℕ
+looked u (Most.Plain n) = n
+looked u (Most.Symbol k) = u k
+looked u (Most.Triangular k) = triangleIn u k
+
 -- the node's own limit, and its record
 unfoldable pub limited : Values → Limit → Found → Found
 limited v Unlimited s = found (s .pairs) (s .named) (suc (s .records))
 limited v (AtMost k m) s =
-    cond (leb (allowed v m) mostCount)
-    (cond (leb (suc (width (s .pairs))) mostWeight) (found (capPairs (allowed v m) (s .pairs)) (min k (s .named)) (suc (s .records))) unfit)
+    cond (leb (looked v m) mostCount)
+    (cond (leb (suc (width (s .pairs))) mostWeight) (found (capPairs (looked v m) (s .pairs)) (min k (s .named)) (suc (s .records))) unfit)
     unfit
 
 -- the node of b's first record with everything below it, at most h nodes deep

@@ -12,6 +12,7 @@ pub mod Admits
 pub mod Covered
 pub mod Reached
 pub mod CaseI
+pub mod Alike
 pub mod Found
 pub mod Children
 pub mod Evaluator

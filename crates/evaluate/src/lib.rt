@@ -7,11 +7,12 @@ ghost use Rattle.table.specs.Numbers.{mostDepth, mostRecords, recordLength};
 ghost use Rattle.table.specs.Trees.{rest};
 ghost use Rattle.lists.specs.Pairs.{ever};
 ghost use Rattle.lists.specs.Reading.{Addable, Is, Mergeable, Proper, listIn, pairsOf};
-ghost use Rattle.evaluate.specs.Evaluate.{allowed, amount, outward, valuesOf};
-ghost use Rattle.evaluate.specs.Evaluator.{andThen, asMost, checked, evaluateNode, goneRound, joinPairs, joined, limited, looped};
+ghost use Rattle.evaluate.specs.Evaluate.{amount, outward, valuesOf};
+ghost use Rattle.evaluate.specs.Evaluator.{andThen, checked, evaluateNode, goneRound, joinPairs, joined, limited, looked, looped, triangleIn};
 ghost use Rattle.evaluate.specs.Shown.{Ready, Roomy, Shows, evaluateChildren, foundIn, withNext};
 use lists::List;
 use lists::MOST_PAIRS;
+use table::HOW_MANY_SYMBOLS;
 use table::Kind;
 use table::Limit;
 use table::MOST_COUNT;
@@ -53,7 +54,7 @@ pub fn value_of(symbol: u64, values: &[u64]) -> u64
     if at < values.len() { values[at] } else { 0 }
 }
 
-// What a time comes to.
+// What a time or bound comes to.
 fn amount_of(number: Number, values: &[u64]) -> u64
     ensures { λ r. ⌜ r ≡ amount (valuesOf (now (values .entry))) number ⌝ }
 {
@@ -63,25 +64,25 @@ fn amount_of(number: Number, values: &[u64]) -> u64
     }
 }
 
-// A bound as a limit's number: both say how many passes are allowed.
-fn as_most(bound: Number) -> Most
-    ensures { λ r. ⌜ r ≡ asMost bound ⌝ }
+// The triangular number of a symbol, which stands behind the values.
+fn triangle_of(symbol: u64, values: &[u64]) -> u64
+    ensures { λ r. ⌜ r ≡ triangleIn (valuesOf (now (values .entry))) symbol ⌝ }
 {
-    match bound {
-        Number::Plain(n) => Most::Plain(n),
-        Number::Symbol(s) => Most::Symbol(s),
+    if symbol < HOW_MANY_SYMBOLS {
+        value_of(HOW_MANY_SYMBOLS + symbol, values)
+    } else {
+        0
     }
 }
 
-// How many passes a bound or limit allows. Both ask here, so that the compiler keeps this apart: with the table of triangular numbers, which stands on the
-// stack, in the walk every node took a fifth longer.
-fn allowed_by(most: Most, values: &[u64]) -> u64
-    ensures { λ r. ⌜ r ≡ allowed (valuesOf (now (values .entry))) most ⌝ }
+// What a limit comes to.
+fn looked_up(most: Most, values: &[u64]) -> u64
+    ensures { λ r. ⌜ r ≡ looked (valuesOf (now (values .entry))) most ⌝ }
 {
     match most {
         Most::Plain(n) => n,
         Most::Symbol(s) => value_of(s, values),
-        Most::Triangular(s) => triangular::triangular_of(value_of(s, values)),
+        Most::Triangular(s) => triangle_of(s, values),
     }
 }
 
@@ -178,7 +179,7 @@ fn go_round(
     let Kind::Loop(bound) = kind else {
         return child;
     };
-    loop_in(allowed_by(as_most(bound), values), child, list, spare)
+    loop_in(amount_of(bound, values), child, list, spare)
 }
 
 // A choice takes the lists' members together; the others are added.
@@ -267,7 +268,7 @@ fn limit_in(limit: Limit, values: &[u64], below: Valued, list: &mut Pairs) -> Va
             fits: true,
         };
     };
-    let most = allowed_by(number, values);
+    let most = looked_up(number, values);
     if MOST_COUNT < most {
         return Valued::UNFIT;
     }

@@ -1,4 +1,5 @@
 // Checking, the figure and the list. Each answers with an enum: one case with what was asked for, one with the number of the question that says no.
+use evaluate::Valued;
 use table::FIRST_TIME_SYMBOL;
 use table::Limit;
 use table::MOST_COUNT;
@@ -7,17 +8,22 @@ use table::Most;
 use table::RECORD_LENGTH;
 use triangular::MOST_TRIANGULAR;
 ghost use mathlib.Core.Path.{_≡_};
-ghost use Prim.Native.Nat.{_≤_};
+ghost use Prim.Native.Nat.{_*_, _≤_};
 ghost use lib.ListN.{length, take};
-ghost use Rattle.table.specs.Numbers.{listRoom, recordLength};
+ghost use Rattle.table.specs.Numbers.{howManyValues, listRoom, mostRecords, recordLength};
 ghost use Rattle.quoting.specs.Promises.{ListPromises, NeverLowered, Promises};
 ghost use Rattle.quoting.specs.Values.{ceiling, question13, question9, recordSmall, triangleSmall, valuesRefusal};
 ghost use Rattle.evaluate.specs.Evaluate.{valuesOf};
+ghost use Rattle.evaluate.specs.Shown.{Roomy};
+ghost use Rattle.quoting.specs.Lent.{Walked, flagFree};
 ghost use Rattle.writing.specs.Over.{over};
 ghost use Rattle.quoting.specs.Answers.{checkAnswer, figureAnswer, listAnswer, listWrites, quotedFigure, quotedRefusal};
 
 // How many values a desk holds.
 pub const HOW_MANY_VALUES: usize = 32;
+
+// The values, and their triangular numbers.
+const HOW_MANY_NUMBERS: usize = 64;
 
 // Numbers that the list call's buffer holds at least.
 pub const LIST_ROOM: usize = 512;
@@ -91,12 +97,12 @@ fn triangle_small(most: Most, values: &[u64]) -> bool
     }
 }
 
-// Question 13 of the record at the front of `b`. Most have no flag 4, and are not read any further.
+// Question 13 of the record at the front of `b`. One without flag 4 is not read any further.
 fn record_small(b: &[u8], values: &[u64]) -> bool
     requires { ⌜ recordLength ≤ length (now b) ⌝ }
     ensures { λ r. ⌜ r ≡ recordSmall (valuesOf (now (values .entry))) (now (b .entry)) ⌝ }
 {
-    if !table::flag_four(b) {
+    if table::without_four(b) {
         return true;
     }
     let node = table::read_node(b);
@@ -107,10 +113,30 @@ fn record_small(b: &[u8], values: &[u64]) -> bool
     }
 }
 
+// Has no record flag 4? Then question 13 has nothing to ask, and the walk needs no triangular number.
+fn flag_free(table: &[u8]) -> bool
+    ensures { λ r. ⌜ r ≡ flagFree (now (table .entry)) ⌝ }
+{
+    let n = table.len() / RECORD_LENGTH;
+    let mut i: usize = 0;
+    while i < n {
+        let at = RECORD_LENGTH * i;
+        if !table::without_four(&table[at..]) {
+            return false;
+        }
+        i += 1;
+    }
+    true
+}
+
 // Question 13 of a table.
-fn triangles_small(table: &[u8], values: &[u64]) -> bool
+fn triangles_small(table: &[u8], values: &[u64], free: bool) -> bool
+    requires { ⌜ free ≡ flagFree (now table) ⌝ }
     ensures { λ r. ⌜ r ≡ question13 (now (table .entry)) (now (values .entry)) ⌝ }
 {
+    if free {
+        return true;
+    }
     let n = table.len() / RECORD_LENGTH;
     let mut i: usize = 0;
     while i < n {
@@ -124,15 +150,30 @@ fn triangles_small(table: &[u8], values: &[u64]) -> bool
 }
 
 // The first question about a desk's values for a table that says no, or 0: each call that is lent both asks here.
-fn values_refusal(table: &[u8], values: &[u64]) -> u64
+fn values_refusal(table: &[u8], values: &[u64], free: bool) -> u64
+    requires { ⌜ free ≡ flagFree (now table) ⌝ }
     ensures { λ r. ⌜ r ≡ valuesRefusal (now (table .entry)) (now (values .entry)) ⌝ }
 {
     let allowed = values_allowed(values);
-    let small = triangles_small(table, values);
+    let small = triangles_small(table, values, free);
     if !allowed {
         return 9;
     }
     if small { 0 } else { 13 }
+}
+
+// The walk of an accepted table. Only where a limit is under flag 4 are triangular numbers looked up, before the walk and behind the values: with the
+// look-up in it, every node of every table took longer.
+fn walk(table: &[u8], values: &[u64], free: bool, out: &mut [u64; LIST_ROOM]) -> Valued
+    requires { ⌜ length (now table) ≤ recordLength * mostRecords ⌝ ∗ ⌜ length (now values) ≡ howManyValues ⌝ ∗ ⌜ free ≡ flagFree (now table) ⌝ ∗ ⌜ Roomy (now out) ⌝ }
+    ensures { λ r. ⌜ Walked (now (table .entry)) (now (values .entry)) r (now (out .exit)) ⌝ }
+{
+    if free {
+        return evaluate::evaluate(table, values, out);
+    }
+    let mut numbers = [0; HOW_MANY_NUMBERS];
+    triangular::with_triangles(values, &mut numbers);
+    evaluate::evaluate(table, &numbers, out)
 }
 
 // Writes the first n numbers of a list over the front of a buffer.
@@ -157,12 +198,13 @@ pub fn figure(table: &[u8], values: &[u64]) -> Quote
     if number != 0 {
         return Quote::Refused(number);
     }
-    let question = values_refusal(table, values);
+    let free = flag_free(table);
+    let question = values_refusal(table, values, free);
     if question != 0 {
         return Quote::Refused(question);
     }
     let mut list = [0; LIST_ROOM];
-    let found = evaluate::evaluate(table, values, &mut list);
+    let found = walk(table, values, free, &mut list);
     if found.fits {
         let first = list[0];
         Quote::Figure(first)
@@ -184,12 +226,13 @@ pub fn list(table: &[u8], values: &[u64], out: &mut [u64]) -> Listed
     if out.len() < LIST_ROOM {
         return Listed::Refused(8);
     }
-    let question = values_refusal(table, values);
+    let free = flag_free(table);
+    let question = values_refusal(table, values, free);
     if question != 0 {
         return Listed::Refused(question);
     }
     let mut list = [0; LIST_ROOM];
-    let found = evaluate::evaluate(table, values, &mut list);
+    let found = walk(table, values, free, &mut list);
     if found.fits {
         let n = found.len;
         write_front(&list, 2 * n, out);

@@ -2,7 +2,7 @@
 use mathlib.Core.Bool.{Bool, false, true}
 use mathlib.Core.List.{List, [], _∷_, _++_}
 use Prim.Native.Nat.{ℕ, zero, suc, _+_, _*_, _/_, _%_}
-use lib.Dec.{eqb, leb}
+use lib.Dec.{eqb, ltb}
 use lib.ListN.{take, drop, getD, length}
 use Rattle.table.specs.Nodes.{Number, Plain, Symbol, Most, Kind, Block, Sequence, Choice, Loop, Limit, Unlimited, AtMost, Node}
 use Rattle.booleans.specs.Tests.{_and_}
@@ -102,9 +102,9 @@ childByte b = getD b 2 0
 unfoldable pub flagless : List ℕ → Bool
 flagless b = eqb (getD b 1 0) 0
 
--- the first record has flag 4, where question 2 says yes of it
-abbrev pub flagFour : List ℕ → Bool
-flagFour b = leb 4 (getD b 1 0)
+-- the first record has no flag 4, where question 2 says yes of it
+abbrev pub withoutFour : List ℕ → Bool
+withoutFour b = ltb (getD b 1 0) 4
 
 -- the first n trees of a forest, and the others
 unfoldable pub firstOnes : ℕ → Forest → Forest

@@ -3,7 +3,7 @@ ghost use mathlib.Core.Path.{_≡_};
 ghost use Prim.Native.Nat.{_+_, _*_, _^_, _<_, _≤_};
 ghost use lib.ListN.{drop, length};
 ghost use Rattle.table.specs.Numbers.{recordLength, mostRecords};
-ghost use Rattle.table.specs.Table.{childByte, field, firstNode, flagFour, flagless, kindFrom, limitFrom, loopByte, mostFrom, numFrom, recordCount};
+ghost use Rattle.table.specs.Table.{childByte, field, firstNode, flagless, kindFrom, limitFrom, loopByte, mostFrom, numFrom, recordCount, withoutFour};
 ghost use Rattle.table.specs.Questions.{timeInRange, countInRange, kindInRange, mostInRange};
 ghost use Rattle.table.specs.Checking.{flagsListed, kindListed, limitCount, limitListed, question1, question2, question3, question4, recordInRange, recordListed, refusal};
 ghost use Rattle.table.specs.Numbers.{mostLoops, mostDepth};
@@ -170,12 +170,12 @@ pub fn child_count(b: &[u8]) -> usize
     widen(b[2])
 }
 
-// Has the record at the front of `b` flag 4, where question 2 says yes of it?
-pub fn flag_four(b: &[u8]) -> bool
+// Has the record at the front of `b` no flag 4, where question 2 says yes of it?
+pub fn without_four(b: &[u8]) -> bool
     requires { ⌜ recordLength ≤ length (now b) ⌝ }
-    ensures { λ r. ⌜ r ≡ flagFour (now (b .entry)) ⌝ }
+    ensures { λ r. ⌜ r ≡ withoutFour (now (b .entry)) ⌝ }
 {
-    4 <= b[1]
+    b[1] < 4
 }
 
 // The node of record i.

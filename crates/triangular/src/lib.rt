@@ -1,16 +1,35 @@
 // Document 02's third request: the triangular numbers, as a constant table.
 ghost use mathlib.Core.Path.{_≡_};
-ghost use Prim.Native.Nat.{ℕ, _≤_, _<_, min};
-ghost use Rattle.triangular.specs.Triangular.{mostTriangular, rule, triangular};
+ghost use Prim.Native.Nat.{_*_, min};
+ghost use lib.ListN.{length};
+ghost use Rattle.triangular.specs.Triangular.{mostTriangular, triangular};
+ghost use Rattle.triangular.specs.Entries.{Triangles, entries};
 
 // The largest number whose triangular number stands in the table.
 pub const MOST_TRIANGULAR: u64 = 1_000;
 
+// Puts the values at the front of `out` and their triangular numbers behind them.
+pub fn with_triangles(values: &[u64], out: &mut [u64])
+    requires { ⌜ length (now out) ≡ 2 * length (now values) ⌝ }
+    ensures { λ _. ⌜ Triangles (now (values .entry)) (now (out .exit)) ⌝ }
+{
+    let table = TRIANGULAR;
+    let n = values.len();
+    let mut i = 0;
+    while i < n {
+        let value = values[i];
+        out[i] = value;
+        out[n + i] = look_up(&table, value);
+        i += 1;
+    }
+}
+
 // The triangular number of n, or of the largest where n is above it.
-pub fn triangular_of(n: u64) -> u64
+fn look_up(table: &[u32], n: u64) -> u64
+    requires { ⌜ now table ≡ entries ⌝ }
     ensures { λ r. ⌜ r ≡ triangular n ⌝ }
 {
-    entry(place_of(n)) as u64
+    table[place_of(n)] as u64
 }
 
 fn place_of(n: u64) -> usize
@@ -23,16 +42,7 @@ fn place_of(n: u64) -> usize
     }
 }
 
-// Entry n is n * (n + 1) / 2, and the entries before it are smaller: shown once, over the whole table.
-fn entry(n: usize) -> u32
-    requires { ⌜ n ≤ mostTriangular ⌝ }
-    ensures { λ r. ⌜ r ≡ rule n ⌝ }
-    ensures { λ r. ⌜ ((m : ℕ) → m < n → rule m < r) ⌝ }
-{
-    TRIANGULAR[n]
-}
-
-// Of 32 bits, since Rattle has no statics: a look-up first writes the whole table to the stack.
+// Entry n is n * (n + 1) / 2. Of 32 bits, since Rattle has no statics: what looks numbers up first writes the whole table to the stack.
 const TRIANGULAR: [u32; 1001] = [
     0,
     1,

@@ -38,8 +38,8 @@ returns-2 c =
     let e = not-false (fits .before .before .before .args .below .fits) (fits .if1 .left) in
     found-shown refl (record { proper = h .proper; pairs = refl }) (rw (e, c .enum-told .given .1, add-one) refl)
 
-allowed-by-requires : tie.Need-allowed-by-requires
-allowed-by-requires c κs = search needs
+looked-up-requires : tie.Need-looked-up-requires
+looked-up-requires c κs = search needs
 
 returns-3 : tie.Need-returns-3
 returns-3 c =
@@ -47,7 +47,7 @@ returns-3 c =
     let limit = allows .before .before in
     let fits = limit .before .before .before in
     let e = not-false (fits .before .before .before .args .below .fits) (fits .if1 .left) in
-    unfit-shown (ready fits .room) (rw (e, limit .limit .given .1) (limited-many _ _ _ _ (omega (arith, allows .allowed-by .ensures))))
+    unfit-shown (ready fits .room) (rw (e, limit .limit .given .1) (limited-many _ _ _ _ (omega (arith, allows .looked-up .ensures))))
 
 add-if3 : tie.Need-add-if3
 add-if3 c = omega (arith, ready (c .before .before .before .before .before .before) .proper .room)
@@ -60,7 +60,7 @@ returns-4 c =
     let h = ready fits in
     let wide = len-width (h .proper) in
     let e = not-false (fits .before .before .before .args .below .fits) (fits .if1 .left) in
-    unfit-shown (h .room) (rw (e, limit .limit .given .1) (limited-wide _ _ _ _ (omega (arith, allows .allowed-by .ensures)) (omega arith)))
+    unfit-shown (h .room) (rw (e, limit .limit .given .1) (limited-wide _ _ _ _ (omega (arith, allows .looked-up .ensures)) (omega arith)))
 
 cap-in-requires : tie.Need-cap-in-requires
 cap-in-requires c κs =
@@ -80,9 +80,9 @@ returns-5 c =
     let s = foundIn (a .below) (a .list .now) in
     let wide = len-width (ready fits .proper) in
     let (name, (number, _)) = limit .limit .given .0 in
-    let cap = limited-room v name number s (omega (arith, allows .allowed-by .ensures)) (omega arith) in
+    let cap = limited-room v name number s (omega (arith, allows .looked-up .ensures)) (omega arith) in
     found-shown refl (c .before .cap-in .ensures)
-    (then-fits s (limited v (a .limit)) (not-false _ (fits .if1 .left)) ∙ rw (limit .limit .given .1, cap, ← allows .allowed-by .ensures, ← c .inner-of .ensures, add-one) refl)
+    (then-fits s (limited v (a .limit)) (not-false _ (fits .if1 .left)) ∙ rw (limit .limit .given .1, cap, ← allows .looked-up .ensures, ← c .inner-of .ensures, add-one) refl)
 
 pub limit-in-spec : {M : Type 1} → statement M
 limit-in-spec =
@@ -93,7 +93,7 @@ limit-in-spec =
     enum-known-limit
     enum-told
     returns-2
-    allowed-by-requires
+    looked-up-requires
     returns-3
     add-if3
     returns-4

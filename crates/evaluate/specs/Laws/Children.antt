@@ -24,6 +24,7 @@ use Rattle.evaluate.specs.Laws.Monotone.{before-falls, nameIn-le, list-f
 use Rattle.evaluate.specs.Laws.PairCount.{boundIn, bound}
 use Rattle.evaluate.specs.Laws.Ranges.{figure-most}
 use Rattle.evaluate.specs.Laws.Kinds.{grouped, by-rest}
+use Rattle.evaluate.specs.Laws.Alike.{Agree, time-alike}
 
 -- what the children after the first are joined to, and how
 pub rest-start : (v : Values) (k : Kind) → start v (rest k) ≡ const 0
@@ -68,16 +69,17 @@ from-none v k f e h =
     same-finds (λ x. (rw i at (x .low), x .fits)) (λ x. record { low = rw i (x .0); fits = x .1 }) i (omega arith) (omega (arith, nameIn-le k f)) (omega arith) h
 
 -- what is found of a node before its own limit, by what is found of its children
-pub below-finds : (v : Values) (k : Kind) (f : Forest) (g : List ℕ → Found) (b : List ℕ) → T (arity k (size f))
-    → (start v k ≡ const 0 → More v (const 0) 0 wholeRun 0 k f (evaluateMore v g k (size f) b (found (ever 0) wholeRun 0)))
-    → Finds ((before v k f 0 ≤ mostTime) × T (fitsIn v f)) (evaluateBelow v g k (size f) b) (before v k f) (boundIn k f) (nameIn k f) (recordsIn f)
-unfolding evaluateBelow start fits before boundIn nameIn recordsIn arity size Canonical width
-below-finds v (Block t) nil g b i q =
-    same-finds (λ x. (x, tt)) (λ x. x .0) refl refl refl refl (checked-finds (const (amount v t)) (ever (amount v t)) 0 wholeRun 0 (are-pairs tt (expand-ever (amount v t))) (omega arith))
-below-finds v (Block t) (u ▸ f) g b i q = absurd (omega (arith, eqb→eq (suc (size f)) 0 i))
-below-finds v Sequence f g b i q = from-none v Sequence f _ (q refl)
-below-finds v Choice f g b i q = from-none v Choice f _ (q refl)
-below-finds v (Loop m) f g b i q = from-none v (Loop m) f _ (q refl)
+pub below-finds : (u v : Values) → Agree u v → (k : Kind) (f : Forest) (g : List ℕ → Found) (b : List ℕ) → T (kindInRange k) → T (arity k (size f))
+    → (start v k ≡ const 0 → More v (const 0) 0 wholeRun 0 k f (evaluateMore u g k (size f) b (found (ever 0) wholeRun 0)))
+    → Finds ((before v k f 0 ≤ mostTime) × T (fitsIn v f)) (evaluateBelow u g k (size f) b) (before v k f) (boundIn k f) (nameIn k f) (recordsIn f)
+unfolding evaluateBelow start fits before boundIn nameIn recordsIn arity size Canonical width kindInRange
+below-finds u v agree (Block t) nil g b r i q =
+    rw (time-alike u v agree t r)
+    (same-finds (λ x. (x, tt)) (λ x. x .0) refl refl refl refl (checked-finds (const (amount v t)) (ever (amount v t)) 0 wholeRun 0 (are-pairs tt (expand-ever (amount v t))) (omega arith)))
+below-finds u v agree (Block t) (c ▸ f) g b r i q = absurd (omega (arith, eqb→eq (suc (size f)) 0 i))
+below-finds u v agree Sequence f g b r i q = from-none v Sequence f _ (q refl)
+below-finds u v agree Choice f g b r i q = from-none v Choice f _ (q refl)
+below-finds u v agree (Loop m) f g b r i q = from-none v (Loop m) f _ (q refl)
 
 -- ---- the next child
 
@@ -88,14 +90,14 @@ childList v k t = turns v k (name t) (list v t)
 child-falls : (v : Values) (k : Kind) (t : Tree) → Falls (childList v k t)
 child-falls v k t = turns-falls v k (name t) _ (list-falls v t)
 
-module _ (v : Values) (ranged : (k : ℕ) → k < firstTimeSymbol → v k ≤ mostCount) where
+module _ (u v : Values) (agree : Agree u v) (ranged : (k : ℕ) → k < firstTimeSymbol → v k ≤ mostCount) where
   -- The first child, then the others. What is joined on the way has no larger first member than the whole, so the tests on the way ask what question 10 asks of the node.
   pub next-more : (k : Kind) (t : Tree) (f : Forest) (g : List ℕ → Found) (b : List ℕ) (a : Stream) (w j m : ℕ) (s : Found)
       → SoFar s a w j m → T (kindInRange k) → w + boundIn k (t ▸ f) ≤ mostWeight
       → Finds (T (fits v t)) (g (drop (recordLength * s .records) b)) (list v t) (bound t) (name t) (records t)
       → ((e : Found) → SoFar e (join k a (childList v k t)) (w + grouped k (name t) (bound t)) (min j (seen k (name t))) (m + records t)
-      → More v (join k a (childList v k t)) (w + grouped k (name t) (bound t)) (min j (seen k (name t))) (m + records t) (rest k) f (evaluateMore v g (rest k) (size f) b e))
-      → More v a w j m k (t ▸ f) (evaluateMore v g k (size (t ▸ f)) b s)
+      → More v (join k a (childList v k t)) (w + grouped k (name t) (bound t)) (min j (seen k (name t))) (m + records t) (rest k) f (evaluateMore u g (rest k) (size f) b e))
+      → More v a w j m k (t ▸ f) (evaluateMore u g k (size (t ▸ f)) b s)
   unfolding fits before boundIn nameIn recordsIn evaluateMore size
   next-more k t f g b a w j m s h i l c q =
       same-finds
@@ -107,7 +109,7 @@ module _ (v : Values) (ranged : (k : ℕ) → k < firstTimeSymbol → v k ≤ mo
       (o₁, (le-trans (join-right k a x) n₁, (n₁, record { low = n; fits = o₂ }))))
       e (omega arith) (omega arith) (omega arith)
       (then-finds c (λ o r.
-      then-finds (round-finds v ranged k _ _ _ _ _ r (unfold figure in figure-most v t o) i (omega arith)) (λ o₁ r₁.
+      then-finds (round-finds u v agree ranged k _ _ _ _ _ r (unfold figure in figure-most v t o) i (omega arith)) (λ o₁ r₁.
       then-finds (joined-finds k s _ a x w _ j _ m _ (h .holds) r₁ (omega arith)) (λ o₂ r₂.
       q _ (record { holds = r₂; falls = join-falls k a x (h .falls) (child-falls v k t); low = o₂; inner = omega (arith, h .inner) })))))
     where

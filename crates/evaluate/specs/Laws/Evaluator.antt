@@ -31,6 +31,8 @@ use Rattle.evaluate.specs.Laws.ListPairs.{pairs-are}
 use Rattle.evaluate.specs.Laws.PairCount.{bound, boundIn}
 use Rattle.evaluate.specs.Laws.Weight.{bound-weight, boundIn-weight}
 use Rattle.evaluate.specs.Laws.Kinds.{by-rest}
+use Rattle.evaluate.specs.Laws.Alike.{Agree, alike}
+use Rattle.table.specs.Limits.{everyLimit, everyLimitIn, everyMost}
 
 -- ---- with d loops around, what checking lets pass: a tree, and children of a node of kind k
 
@@ -93,63 +95,63 @@ finds-evaluated v t e h = record {
   fits = same-test (e .fits) (fits v t) (λ i. h .only (T-is _ i)) (λ i. is-T _ (h .holds i .fits));
 }
 
-module _ (v : Values) (ranged : (k : ℕ) → k < firstTimeSymbol → v k ≤ mostCount) where
+module _ (u v : Values) (agree : Agree u v) (ranged : (k : ℕ) → k < firstTimeSymbol → v k ≤ mostCount) where
   -- by what is found of the children, whatever the fuel
-  node-finds : (n : Node) (f : Forest) (d h : ℕ) (b z : List ℕ) → b ≡ encode (node n f) ++ z → Fair (node n f) d → depth (node n f) ≤ h
+  node-finds : (n : Node) (f : Forest) (d h : ℕ) (b z : List ℕ) → b ≡ encode (node n f) ++ z → Fair (node n f) d → T (everyMost (alike u v) (node n f)) → depth (node n f) ≤ h
       → ((i : ℕ) → depthIn f ≤ i → start v (n .kind) ≡ const 0
-      → More v (const 0) 0 wholeRun 0 (n .kind) f (evaluateMore v (evaluateNode v i) (n .kind) (size f) (encodes f ++ z) (found (ever 0) wholeRun 0)))
-      → Finds (T (fits v (node n f))) (evaluateNode v h b) (list v (node n f)) (bound (node n f)) (name (node n f)) (records (node n f))
-  unfolding encode depth fits list bound name records listed Writes
-  node-finds n f d zero b z e a l q = absurd (omega arith)
-  node-finds n f d (suc h) b z e a l q =
+      → More v (const 0) 0 wholeRun 0 (n .kind) f (evaluateMore u (evaluateNode u i) (n .kind) (size f) (encodes f ++ z) (found (ever 0) wholeRun 0)))
+      → Finds (T (fits v (node n f))) (evaluateNode u h b) (list v (node n f)) (bound (node n f)) (name (node n f)) (records (node n f))
+  unfolding encode depth fits list bound name records listed Writes everyLimit
+  node-finds n f d zero b z e a y l q = absurd (omega arith)
+  node-finds n f d (suc h) b z e a y l q =
       let (p, o) = both _ _ (a .listed) in
       let (p₁, p₂) = both _ _ p in
-      rw (e, append-assoc, evaluate-record v n (size f) (encodes f ++ z) h (tree-writes (node n f) (a .listed) .0))
+      rw (e, append-assoc, evaluate-record u n (size f) (encodes f ++ z) h (tree-writes (node n f) (a .listed) .0))
       (same-finds
       (λ x. join-and _ _ (le→leb _ _ (x .0 .0)) (x .0 .1))
       (λ x. let (x₁, x₂) = both _ _ x in ((leb→le _ _ x₁, x₂), tt))
       refl refl refl refl
-      (then-finds {q = Unit {0}} (below-finds v (n .kind) f (evaluateNode v h) (encodes f ++ z) p₂ (q h (omega arith))) (λ x y.
-      known-finds tt (limited-holds v ranged (n .limit) _ _ _ _ _ y (both _ _ p₁ .1) (le-trans (bound-weight (node n f) d (a .nested) (a .named)) (a .weighed))))))
+      (then-finds {q = Unit {0}} (below-finds u v agree (n .kind) f (evaluateNode u h) (encodes f ++ z) (both _ _ p₁ .0) p₂ (q h (omega arith))) (λ x w.
+      known-finds tt (limited-holds u v agree ranged (n .limit) _ _ _ _ _ w (both _ _ p₁ .1) (both _ _ y .0) (le-trans (bound-weight (node n f) d (a .nested) (a .named)) (a .weighed))))))
 
   mutual
-    unfolding depth encode evaluateMore size boundIn
+    unfolding depth encode evaluateMore size boundIn everyLimit
 
-    pub tree-finds : (t : Tree) (d h : ℕ) (b z : List ℕ) → b ≡ encode t ++ z → Fair t d → depth t ≤ h
-        → Finds (T (fits v t)) (evaluateNode v h b) (list v t) (bound t) (name t) (records t)
-    tree-finds (node n f) d h b z e a l =
+    pub tree-finds : (t : Tree) (d h : ℕ) (b z : List ℕ) → b ≡ encode t ++ z → Fair t d → T (everyMost (alike u v) t) → depth t ≤ h
+        → Finds (T (fits v t)) (evaluateNode u h b) (list v t) (bound t) (name t) (records t)
+    tree-finds (node n f) d h b z e a y l =
         let c = fair-below n f d a in
-        node-finds n f d h b z e a l (λ i o q. forest-finds f (n .kind) d i (encodes f ++ z) z (const 0) 0 wholeRun 0 _ refl c o q none-yet
+        node-finds n f d h b z e a y l (λ i o q. forest-finds f (n .kind) d i (encodes f ++ z) z (const 0) 0 wholeRun 0 _ refl c (both _ _ y .1) o q none-yet
         (omega (arith, boundIn-weight (n .kind) f d (c .nested) (c .named), c .weighed)))
 
-    pub forest-finds : (f : Forest) (k : Kind) (d h : ℕ) (b z : List ℕ) (a : Stream) (w j m : ℕ) (s : Found) → drop (recordLength * m) b ≡ encodes f ++ z → FairIn k f d → depthIn f ≤ h
-        → start v k ≡ const 0 → SoFar s a w j m → w + boundIn k f ≤ mostWeight → More v a w j m k f (evaluateMore v (evaluateNode v h) k (size f) b s)
-    forest-finds nil k d h b z a w j m s e c l o g u = no-more v k a w j m s o g
-    forest-finds (t ▸ f) k d h b z a w j m s e c l o g u =
+    pub forest-finds : (f : Forest) (k : Kind) (d h : ℕ) (b z : List ℕ) (a : Stream) (w j m : ℕ) (s : Found) → drop (recordLength * m) b ≡ encodes f ++ z → FairIn k f d → T (everyLimitIn (λ k m. alike u v m) f) → depthIn f ≤ h
+        → start v k ≡ const 0 → SoFar s a w j m → w + boundIn k f ≤ mostWeight → More v a w j m k f (evaluateMore u (evaluateNode u h) k (size f) b s)
+    forest-finds nil k d h b z a w j m s e c y l o g x = no-more v k a w j m s o g
+    forest-finds (t ▸ f) k d h b z a w j m s e c y l o g x =
         let q = e ∙ append-assoc (encode t) (encodes f) z in
-        next-more v ranged k t f (evaluateNode v h) b a w j m s g (c .ranged) u
-        (tree-finds t (around k d) h _ (encodes f ++ z) (ap (λ n. drop (recordLength * n) b) (g .holds .records) ∙ q) (fair-first k t f d c) (omega arith))
-        (λ r i. forest-finds f (rest k) d h b z _ _ _ _ r (drop-tree t m b (encodes f ++ z) q) (fair-rest k t f d c) (omega arith) (rest-start v k) i (omega arith))
+        next-more u v agree ranged k t f (evaluateNode u h) b a w j m s g (c .ranged) x
+        (tree-finds t (around k d) h _ (encodes f ++ z) (ap (λ n. drop (recordLength * n) b) (g .holds .records) ∙ q) (fair-first k t f d c) (both _ _ y .0) (omega arith))
+        (λ r i. forest-finds f (rest k) d h b z _ _ _ _ r (drop-tree t m b (encodes f ++ z) q) (fair-rest k t f d c) (both _ _ y .1) (omega arith) (rest-start v k) i (omega arith))
 
   -- a node's children, before its own limit, where question 10 says yes
-  pub children-found : (n : Node) (f : Forest) (d h : ℕ) (b z : List ℕ) → b ≡ encodes f ++ z → Fair (node n f) d → depthIn f ≤ h → start v (n .kind) ≡ const 0 → T (fits v (node n f))
-      → let e = evaluateMore v (evaluateNode v h) (n .kind) (size f) b (found (ever 0) wholeRun 0) in (e .fits ≡ true) × (top (e .pairs) ≡ before v (n .kind) f 0)
-  unfolding fits
-  children-found n f d h b z e a l o q =
+  pub children-found : (n : Node) (f : Forest) (d h : ℕ) (b z : List ℕ) → b ≡ encodes f ++ z → Fair (node n f) d → T (everyMost (alike u v) (node n f)) → depthIn f ≤ h → start v (n .kind) ≡ const 0 → T (fits v (node n f))
+      → let e = evaluateMore u (evaluateNode u h) (n .kind) (size f) b (found (ever 0) wholeRun 0) in (e .fits ≡ true) × (top (e .pairs) ≡ before v (n .kind) f 0)
+  unfolding fits everyLimit
+  children-found n f d h b z e a r l o q =
       let c = fair-below n f d a in
       let (x, y) = both _ _ q in
       let m = from-none v (n .kind) f _
-      (forest-finds f (n .kind) d h b z (const 0) 0 wholeRun 0 _ e c l o none-yet (omega (arith, boundIn-weight (n .kind) f d (c .nested) (c .named), c .weighed))) in
+      (forest-finds f (n .kind) d h b z (const 0) 0 wholeRun 0 _ e c (both _ _ r .1) l o none-yet (omega (arith, boundIn-weight (n .kind) f d (c .nested) (c .named), c .weighed))) in
       let w = m .holds (leb→le _ _ x, y) in
       (w .fits, top-is (w .are))
 
-  pub evaluated : (t : Tree) (d h : ℕ) (b z : List ℕ) → b ≡ encode t ++ z → Fair t d → depth t ≤ h → Evaluated v t (evaluateNode v h b)
-  evaluated t d h b z e a l = finds-evaluated v t _ (tree-finds t d h b z e a l)
+  pub evaluated : (t : Tree) (d h : ℕ) (b z : List ℕ) → b ≡ encode t ++ z → Fair t d → T (everyMost (alike u v) t) → depth t ≤ h → Evaluated v t (evaluateNode u h b)
+  evaluated t d h b z e a y l = finds-evaluated v t _ (tree-finds t d h b z e a y l)
 
   -- of a table that checking does not refuse
-  pub evaluated-table : (b : List ℕ) → AreBytes b → refusal b ≡ 0 → Evaluated v (decode b) (evaluateNode v mostDepth b)
-  evaluated-table b h e =
+  pub evaluated-table : (b : List ℕ) → AreBytes b → refusal b ≡ 0 → T (everyMost (alike u v) (decode b)) → Evaluated v (decode b) (evaluateNode u mostDepth b)
+  evaluated-table b h e y =
       let t = is-table b h e in
       let a = t .accepted in
       evaluated (decode b) 0 mostDepth b [] (sym (append-nil (encode (decode b)) ∙ t .back))
-      (record { listed = a .listed; nested = a .nested; named = a .named; weighed = a .weighed }) (a .deep)
+      (record { listed = a .listed; nested = a .nested; named = a .named; weighed = a .weighed }) y (a .deep)

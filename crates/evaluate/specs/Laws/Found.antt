@@ -22,6 +22,8 @@ use Rattle.evaluate.specs.Evaluator.{Found, joinPairs, unfit, found, che
 use Rattle.evaluate.specs.Laws.PairCount.{own}
 use Rattle.evaluate.specs.Laws.Settled.{allowed-most, amount-most}
 use Rattle.evaluate.specs.Laws.Kinds.{grouped}
+use Rattle.evaluate.specs.Laws.Alike.{Agree, alike, count-alike, limit-alike}
+use Rattle.table.specs.Limits.{mostHolds}
 
 -- what a walk found is the stream f, with at most w falls, naming loop k, of n records
 pub record Holds (e : Found) (f : Stream) (w k n : ℕ) : Type 0 where
@@ -121,20 +123,20 @@ looped-finds m c f w k n a l b = rw (le-leb m mostCount l, a .named, a .records)
         (checked-finds _ _ (2 * w) _ _ (are-pairs (group-canonical m r (a .are .canonical)) (group-is m r (a .are .canonical) ∙ ap (group m) (members (a .are))))
         (omega (arith, group-thin m r (a .are .canonical) .0, a .thin)))
 
-module _ (v : Values) (ranged : (k : ℕ) → k < firstTimeSymbol → v k ≤ mostCount) where
+module _ (u v : Values) (agree : Agree u v) (ranged : (k : ℕ) → k < firstTimeSymbol → v k ≤ mostCount) where
   pub round-finds : (k : Kind) (c : Found) (f : Stream) (w j n : ℕ) → Holds c f w j n → f 0 ≤ mostTime → T (kindInRange k) → grouped k j w ≤ mostWeight
-      → Finds (turns v k j f 0 ≤ mostTime) (goneRound v k c) (turns v k j f) (grouped k j w) (seen k j) n
+      → Finds (turns v k j f 0 ≤ mostTime) (goneRound u k c) (turns v k j f) (grouped k j w) (seen k j) n
   unfolding turns goneRound grouped seen kindInRange
   round-finds (Block t) c f w j n a l h b = known-finds l a
   round-finds Sequence c f w j n a l h b = known-finds l a
   round-finds Choice c f w j n a l h b = known-finds l a
-  round-finds (Loop m) c f w j n a l h b = looped-finds (amount v m) c f w j n a (amount-most v ranged m h) b
+  round-finds (Loop m) c f w j n a l h b = rw (count-alike u v agree m h) (looped-finds (amount v m) c f w j n a (amount-most v ranged m h) b)
 
-  pub limited-holds : (l : Limit) (s : Found) (f : Stream) (w k n : ℕ) → Holds s f w k n → T (limitInRange l) → own l w ≤ mostWeight
-      → Holds (limited v l s) (limit v l f) (own l w) (inner l k) (suc n)
+  pub limited-holds : (l : Limit) (s : Found) (f : Stream) (w k n : ℕ) → Holds s f w k n → T (limitInRange l) → T (mostHolds (alike u v) l) → own l w ≤ mostWeight
+      → Holds (limited u l s) (limit v l f) (own l w) (inner l k) (suc n)
   unfolding limited limit own inner limitInRange
-  limited-holds Unlimited s f w k n a h b = record { fits = refl; are = a .are; thin = a .thin; named = a .named; records = ap suc (a .records) }
-  limited-holds (AtMost j m) s f w k n a h b =
+  limited-holds Unlimited s f w k n a h i b = record { fits = refl; are = a .are; thin = a .thin; named = a .named; records = ap suc (a .records) }
+  limited-holds (AtMost j m) s f w k n a h i b =
       let q = cap-facts (allowed v m) (s .pairs) (a .are .canonical) in
-      rw (le-leb (allowed v m) mostCount (allowed-most v ranged m (both _ _ h .1)), le-leb (suc (width (s .pairs))) mostWeight (omega (arith, a .thin)), a .named, a .records)
+      rw (limit-alike u v j m i, le-leb (allowed v m) mostCount (allowed-most v ranged m (both _ _ h .1)), le-leb (suc (width (s .pairs))) mostWeight (omega (arith, a .thin)), a .named, a .records)
       (found-holds _ _ _ _ _ (are-pairs (q .canonical) (cap-is (allowed v m) (s .pairs) ∙ ap (cap (allowed v m)) (members (a .are)))) (omega (arith, q .thin, a .thin)))

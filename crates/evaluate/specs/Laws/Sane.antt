@@ -14,8 +14,8 @@ use Rattle.lists.specs.Pairs.{top, width, places, Canonical, ever, Pairs}
 use Rattle.lists.specs.Laws.Cap.{cap-facts}
 use Rattle.lists.specs.Laws.Group.{group-canonical, group-thin}
 use Rattle.evaluate.specs.Nodes.{Kind, Block, Sequence, Choice, Loop, Limit, Unlimited, AtMost}
-use Rattle.evaluate.specs.Evaluate.{Values, amount, allowed}
-use Rattle.evaluate.specs.Evaluator.{Found, unfit, found, checked, joined, looped, goneRound, limited, evaluateMore, evaluateBelow, evaluateNode}
+use Rattle.evaluate.specs.Evaluate.{Values, amount}
+use Rattle.evaluate.specs.Evaluator.{Found, unfit, found, checked, joined, looped, goneRound, limited, evaluateMore, evaluateBelow, evaluateNode, looked}
 use Rattle.evaluate.specs.Laws.Found.{join-facts}
 
 -- what is found at the start of b
@@ -81,11 +81,11 @@ unfolding limited
 sane-limited v Unlimited b s g p =
     record { canonical = p .canonical; low = p .low; thin = p .thin; near = omega (arith, p .near); short = omega (arith, p .short, length-drop recordLength b) }
 sane-limited v (AtMost k m) b s g p =
-    sane-where b (leb (allowed v m) mostCount) _
+    sane-where b (leb (looked v m) mostCount) _
     (λ t.
     sane-where b (leb (suc (width (s .pairs))) mostWeight) _
     (λ u.
-    let q = cap-facts (allowed v m) (s .pairs) (p .canonical) in
+    let q = cap-facts (looked v m) (s .pairs) (p .canonical) in
     record {
       canonical = q .canonical;
       low = omega (arith, q .low, p .low);

@@ -1,18 +1,17 @@
 -- Without flag 4 there is nothing to ask; else the limit's case says what.
 use mathlib.Core.Path.{refl, sym, _∙_}
 use borrow.Author.Needs.{needs}
-use borrow.Author.Tests.{not-true}
 use Rattle.table.specs.Limits.{limitHolds}
 use Rattle.quoting.specs.Values.{recordSmall}
-use Rattle.quoting.specs.Laws.Values.{no-flag}
+use Rattle.quoting.specs.Laws.Values.{small-unflagged}
 use Rattle.quoting.proofs.record_small.Statement.{statement}
 use Rattle.quoting.proofs.record_small.Tie as tie
 
-flag-four-requires : tie.Need-flag-four-requires
-flag-four-requires c κs = search needs
+without-four-requires : tie.Need-without-four-requires
+without-four-requires c κs = search needs
 
 returns : tie.Need-returns
-returns c = sym (no-flag _ _ (sym (c .before .flag-four .ensures) ∙ not-true _ (c .if1 .taken)))
+returns c = sym (small-unflagged _ _ (sym (c .before .without-four .ensures) ∙ c .if1 .taken))
 
 read-node-requires : tie.Need-read-node-requires
 read-node-requires c κs = search needs
@@ -38,7 +37,7 @@ pub record-small-spec : {M : Type 1} → statement M
 record-small-spec =
     tie.close
     (tie.spec
-    flag-four-requires
+    without-four-requires
     returns
     read-node-requires
     enum-told

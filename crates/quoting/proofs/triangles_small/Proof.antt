@@ -1,18 +1,22 @@
 -- The invariant: the records before i passed the test. The measure: the records left.
-use mathlib.Core.Path.{sym}
+use mathlib.Core.Path.{sym, _∙_}
 use Prim.Native.Nat.{_-_}
 use native.Mathlib.Omega.{arith}
 use Rattle.evaluate.specs.Evaluate.{valuesOf}
 use Rattle.quoting.specs.Values.{question13, recordSmall}
 use Rattle.table.specs.Laws.Reading.{Passed, none-passed, one-passed, one-failed, all-passed, part-long}
+use Rattle.quoting.specs.Laws.Lent.{free-small}
 use Rattle.quoting.proofs.triangles_small.Statement.{statement}
 use Rattle.quoting.proofs.triangles_small.Tie as tie
 
 abbrev Inv-loop : tie.InvT-loop
-Inv-loop table values n i₀ i = Passed (recordSmall (valuesOf values)) table i
+Inv-loop table values free n i₀ i = Passed (recordSmall (valuesOf values)) table i
 
 abbrev μ-loop : tie.MeasureT-loop
-μ-loop table values n i₀ i = n - i
+μ-loop table values free n i₀ i = n - i
+
+returns : tie.Need-returns Inv-loop μ-loop
+returns c = sym (free-small _ _ (sym (c .before .before .before .pre) ∙ c .if1 .taken))
 
 loop-holds : tie.Need-loop-holds Inv-loop μ-loop
 loop-holds c = none-passed _ _
@@ -30,13 +34,13 @@ part-record-small-end : tie.Need-part-record-small-end Inv-loop μ-loop
 part-record-small-end c = omega arith
 
 record-small-requires : tie.Need-record-small-requires Inv-loop μ-loop
-record-small-requires c κs = part-long (c .before .before .before .before .before .args .table .now) _ (c .before .loop-test .taken)
+record-small-requires c κs = part-long (c .before .before .before .before .before .before .args .table .now) _ (c .before .loop-test .taken)
 
-returns : tie.Need-returns Inv-loop μ-loop
+returns-2 : tie.Need-returns-2 Inv-loop μ-loop
 unfolding question13
-returns c =
+returns-2 c =
     let at = c .before .before .before in
-    sym (one-failed _ _ _ _ (at .loop-test .taken) (at .before .loop .inv) (c .before .record-small .ensures) (c .if1 .taken))
+    sym (one-failed _ _ _ _ (at .loop-test .taken) (at .before .loop .inv) (c .before .record-small .ensures) (c .if2 .taken))
 
 add-i : tie.Need-add-i Inv-loop μ-loop
 add-i c = omega arith
@@ -47,11 +51,11 @@ loop-less c = omega arith
 loop-again : tie.Need-loop-again Inv-loop μ-loop
 loop-again c =
     let at = c .before .before .before in
-    one-passed _ _ _ _ (at .loop-test .taken) (at .before .loop .inv) (c .before .record-small .ensures) (c .if1 .left)
+    one-passed _ _ _ _ (at .loop-test .taken) (at .before .loop .inv) (c .before .record-small .ensures) (c .if2 .left)
 
-returns-2 : tie.Need-returns-2 Inv-loop μ-loop
+returns-3 : tie.Need-returns-3 Inv-loop μ-loop
 unfolding question13
-returns-2 c = sym (all-passed _ _ _ (c .loop-test .left) (c .before .loop .inv))
+returns-3 c = sym (all-passed _ _ _ (c .loop-test .left) (c .before .loop .inv))
 
 pub triangles-small-spec : {M : Type 1} → statement M
 triangles-small-spec =
@@ -59,14 +63,15 @@ triangles-small-spec =
     (tie.spec
     Inv-loop
     μ-loop
+    returns
     loop-holds
     mul-at
     sub-record-small
     part-record-small-start
     part-record-small-end
     record-small-requires
-    returns
+    returns-2
     add-i
     loop-less
     loop-again
-    returns-2)
+    returns-3)

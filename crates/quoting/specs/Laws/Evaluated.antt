@@ -4,6 +4,7 @@ use mathlib.Core.Bool.{Bool, true, false}
 use mathlib.Core.List.{List, [], _∷_}
 use Prim.Native.Nat.{ℕ, suc, _≤_, _<_}
 use native.Mathlib.Omega.{arith}
+use lib.Dec.{T}
 use lib.ListN.{length}
 use borrow.Author.Tests.{le-leb, lt-leb}
 use Rattle.booleans.specs.Laws.{is-T}
@@ -11,11 +12,14 @@ use Rattle.table.specs.Numbers.{mostDepth, listRoom}
 use Rattle.table.specs.Bytes.{AreBytes}
 use Rattle.table.specs.Table.{decode}
 use Rattle.table.specs.Asking.{_asks_, firstNo}
-use Rattle.table.specs.Checking.{refusal}
+use Rattle.table.specs.Checking.{IsTable, refusal}
+use Rattle.table.specs.Limits.{everyMost}
+use Rattle.table.specs.Laws.Accepted.{is-table}
 use Rattle.table.specs.Laws.Asking.{refused}
 use Rattle.table.specs.Laws.Refusal.{check-passes, check-stops}
 use Rattle.lists.specs.Pairs.{top, width, numbers}
-use Rattle.evaluate.specs.Evaluate.{valuesOf, fits}
+use Rattle.evaluate.specs.Evaluate.{Values, fits, valuesOf}
+use Rattle.evaluate.specs.Laws.Alike.{Agree, alike}
 use Rattle.evaluate.specs.ListPairs.{listPairs}
 use Rattle.evaluate.specs.Evaluator.{evaluateNode}
 use Rattle.evaluate.specs.Laws.Evaluator.{Evaluated, evaluated-table}
@@ -30,22 +34,22 @@ use Rattle.quoting.specs.Laws.Values.{counts-ranged, values-nine}
 
 -- ---- the walk answers question 10
 
-module _ (b vs : List ℕ) (e : refusal b ≡ 0) (h : AreBytes b) (q : valuesRefusal b vs ≡ 0) where
-  walk : Evaluated (valuesOf vs) (decode b) (evaluateNode (valuesOf vs) mostDepth b)
-  walk = evaluated-table (valuesOf vs) (counts-ranged vs (values-nine b vs q)) b h e
+module _ (b vs : List ℕ) (e : refusal b ≡ 0) (h : AreBytes b) (q : valuesRefusal b vs ≡ 0) (u : Values) (a : Agree u (valuesOf vs)) (y : IsTable b → T (everyMost (alike u (valuesOf vs)) (decode b))) where
+  walk : Evaluated (valuesOf vs) (decode b) (evaluateNode u mostDepth b)
+  walk = evaluated-table u (valuesOf vs) a (counts-ranged vs (values-nine b vs q)) b h e (y (is-table b h e))
 
-  quote-walked : {x : Bool} → evaluateNode (valuesOf vs) mostDepth b .fits ≡ x → firstNo (quoteQuestions b vs) ≡ firstNo (10 asks x ∷ [])
+  quote-walked : {x : Bool} → evaluateNode u mostDepth b .fits ≡ x → firstNo (quoteQuestions b vs) ≡ firstNo (10 asks x ∷ [])
   quote-walked n = quote-fits b vs q ∙ ap (λ x. firstNo (10 asks x ∷ [])) (sym (walk .fits) ∙ n)
 
-  pub quote-large : evaluateNode (valuesOf vs) mostDepth b .fits ≡ false → firstNo (quoteQuestions b vs) ≡ 10
+  pub quote-large : evaluateNode u mostDepth b .fits ≡ false → firstNo (quoteQuestions b vs) ≡ 10
   unfolding firstNo
   quote-large = quote-walked
 
-  pub quote-found : evaluateNode (valuesOf vs) mostDepth b .fits ≡ true → firstNo (quoteQuestions b vs) ≡ 0
+  pub quote-found : evaluateNode u mostDepth b .fits ≡ true → firstNo (quoteQuestions b vs) ≡ 0
   unfolding firstNo
   quote-found = quote-walked
 
-  pub figure-found : evaluateNode (valuesOf vs) mostDepth b .fits ≡ true → Quote.Figure (top (evaluateNode (valuesOf vs) mostDepth b .pairs)) ≡ figureAnswer b vs
+  pub figure-found : evaluateNode u mostDepth b .fits ≡ true → Quote.Figure (top (evaluateNode u mostDepth b .pairs)) ≡ figureAnswer b vs
   figure-found n =
       let f = is-T (fits (valuesOf vs) (decode b)) (sym (walk .fits) ∙ n) in
       ap Quote.Figure (walk .figure f) ∙ sym (figure-is b vs e q f)
@@ -89,10 +93,10 @@ module _ (b vs out : List ℕ) where
       pub list-no : {n : ℕ} → firstNo (quoteQuestions b vs) ≡ n → (n ≡ 0 → ⊥) → Lists (Listed.Refused n) out
       list-no f z = by-refusal (asked ∙ f) z
 
-      pub list-found : (h : AreBytes b) (q : valuesRefusal b vs ≡ 0) → evaluateNode (valuesOf vs) mostDepth b .fits ≡ true
-          → {k : ℕ} {ns new : List ℕ} → let p = evaluateNode (valuesOf vs) mostDepth b .pairs in
+      pub list-found : (h : AreBytes b) (q : valuesRefusal b vs ≡ 0) (u : Values) (a : Agree u (valuesOf vs)) (y : IsTable b → T (everyMost (alike u (valuesOf vs)) (decode b))) → evaluateNode u mostDepth b .fits ≡ true
+          → {k : ℕ} {ns new : List ℕ} → let p = evaluateNode u mostDepth b .pairs in
           k ≡ suc (width p) → ns ≡ numbers p → new ≡ over ns out → Lists (Listed.Pairs k) new
       unfolding listAnswer listWrites
-      list-found h q n l w i =
-          let p : evaluateNode (valuesOf vs) mostDepth b .pairs ≡ listPairs (valuesOf vs) (decode b) = walk b vs e h q .pairs (is-T _ (sym (walk b vs e h q .fits) ∙ n)) in
-          writes _ _ Listed.Refused _ out (asked ∙ quote-found b vs e h q n) (ap Listed.Pairs (l ∙ ap (λ x. suc (width x)) p)) (i ∙ ap (λ x. over x out) (w ∙ ap numbers p))
+      list-found h q u a y n l w i =
+          let p : evaluateNode u mostDepth b .pairs ≡ listPairs (valuesOf vs) (decode b) = walk b vs e h q u a y .pairs (is-T _ (sym (walk b vs e h q u a y .fits) ∙ n)) in
+          writes _ _ Listed.Refused _ out (asked ∙ quote-found b vs e h q u a y n) (ap Listed.Pairs (l ∙ ap (λ x. suc (width x)) p)) (i ∙ ap (λ x. over x out) (w ∙ ap numbers p))

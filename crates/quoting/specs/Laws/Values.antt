@@ -2,21 +2,21 @@
 use mathlib.Core.Path.{_≡_, refl, sym, subst, _∙_}
 use mathlib.Core.Bool.{Bool, true, false}
 use mathlib.Core.List.{List, [], _∷_}
-use Prim.Native.Nat.{ℕ, zero, suc, _+_, _/_, _<_, _≤_}
+use Prim.Native.Nat.{ℕ, zero, suc, _+_, _<_, _≤_}
 use native.Mathlib.Nat.{add-zero}
 use native.Mathlib.Omega.{arith}
 use lib.Dec.{T, leb→le, eqb→eq}
 use lib.ListN.{length, getD, drop}
 use lib.Seq.{drop-cons, drop-length}
-use borrow.Author.Tests.{eq-eqb, leb-false, ne-eqb, le-leb, lt-leb, lt-ltb}
+use borrow.Author.Tests.{eq-eqb, ne-eqb, le-leb, lt-leb, lt-ltb}
 use Rattle.booleans.specs.Tests.{_and_}
 use Rattle.booleans.specs.Laws.{both}
 use Rattle.table.specs.Numbers.{howManyValues, firstTimeSymbol, mostCount}
 use Rattle.table.specs.Checking.{IsTable}
-use Rattle.table.specs.Limits.{everyMost, limitHolds, mostHolds}
-use Rattle.table.specs.Table.{decode, field, firstNode, flagFour, limitFrom, mostFrom}
+use Rattle.table.specs.Limits.{everyMost}
+use Rattle.table.specs.Table.{decode, withoutFour}
 use Rattle.table.specs.declared.Most.{Most}
-use Rattle.table.specs.Laws.Limits.{table-limits}
+use Rattle.table.specs.Laws.Limits.{no-flag, table-limits}
 use Rattle.evaluate.specs.Evaluate.{Values, valuesOf}
 use Rattle.table.specs.Laws.Asking.{Yes, all-yes, numbered, yes-all}
 use Rattle.quoting.specs.Values.{ceiling, question13, question9, ranged, recordSmall, triangleSmall, valueQuestions, valuesRefusal}
@@ -24,6 +24,10 @@ use Rattle.quoting.specs.Values.{ceiling, question13, question9, ranged,
 pub values-nine : (b vs : List ℕ) → valuesRefusal b vs ≡ 0 → T (question9 vs)
 unfolding valuesRefusal valueQuestions numbered Yes
 values-nine b vs e = all-yes (valueQuestions b vs) tt e .0
+
+pub values-long : (b vs : List ℕ) → valuesRefusal b vs ≡ 0 → length vs ≡ howManyValues
+unfolding question9
+values-long b vs e = eqb→eq (length vs) howManyValues (both _ _ (values-nine b vs e) .0)
 
 pub values-thirteen : (b vs : List ℕ) → valuesRefusal b vs ≡ 0 → T (question13 b vs)
 unfolding valuesRefusal valueQuestions numbered Yes
@@ -43,16 +47,9 @@ values-carry b c vs i j limits e =
     yes-all (valueQuestions c vs) (values-nine b vs e, (small, tt))
 
 -- a record without flag 4 is not asked 13
-low-flags : (v : Values) (k s x : ℕ) → s < 2 → mostHolds (triangleSmall v) (limitFrom k (mostFrom s x)) ≡ true
-unfolding limitHolds limitFrom mostFrom triangleSmall
-low-flags v zero s x l = refl
-low-flags v (suc k) zero x l = refl
-low-flags v (suc k) (suc zero) x l = refl
-low-flags v (suc k) (suc (suc s)) x l = absurd (omega arith)
-
-pub no-flag : (v : Values) (b : List ℕ) → flagFour b ≡ false → recordSmall v b ≡ true
-unfolding recordSmall firstNode
-no-flag v b e = low-flags v (getD b 3 0) (getD b 1 0 / 2) (field b 4 4) (omega (arith, leb-false 4 (getD b 1 0) e))
+pub small-unflagged : (v : Values) (b : List ℕ) → withoutFour b ≡ true → recordSmall v b ≡ true
+unfolding recordSmall triangleSmall
+small-unflagged v b e = no-flag (triangleSmall v) (λ n. refl) (λ s. refl) b e
 
 -- ---- question 9, value by value
 

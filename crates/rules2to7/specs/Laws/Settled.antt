@@ -21,6 +21,7 @@ use Rattle.lists.specs.Streams.{const}
 use Rattle.evaluate.specs.Closed.{closedIn, symbolFree}
 use Rattle.evaluate.specs.Evaluate.{fits, fitsIn, start, zeros}
 use Rattle.evaluate.specs.Shown.{Shows, evaluateChildren}
+use Rattle.evaluate.specs.Laws.Alike.{zeros-alike}
 use Rattle.evaluate.specs.Laws.Evaluator.{children-found}
 use Rattle.evaluate.specs.Laws.Shown.{first-top}
 use Rattle.evaluate.specs.declared.Valued.{Valued}
@@ -64,7 +65,7 @@ module _ (b : List ℕ) (s : Simplifiable b) (i : ℕ) (l : i < recordCount b) w
       let fit = subst (λ g. T (fitsIn zeros g)) (h .here) (fits-at b s i) in
       let no : isBlock (h .own .kind) ≡ false = sym (ap blockAt (h .here)) ∙ e in
       let t = h .sound in
-      let (all, first) = children-found zeros (λ k q. omega arith) (h .own) (h .kids) (t .around) mostDepth _ (encodes (h .later)) refl (t .fair) (omega (arith, t .deep)) (starts-at-zero (h .own .kind) no) (both _ _ fit .0) in
+      let (all, first) = children-found zeros zeros (λ k l. refl) (λ k q. omega arith) (h .own) (h .kids) (t .around) mostDepth _ (encodes (h .later)) refl (t .fair) (zeros-alike _ (t .fair .listed)) (omega (arith, t .deep)) (starts-at-zero (h .own .kind) no) (both _ _ fit .0) in
       let v : Shows r a (evaluateChildren zeros mostDepth (h .own .kind) (size (h .kids)) (encodes (h .kids) ++ encodes (h .later))) = rw (p ∙ node-at b i h, q ∙ count-at b i h, part-from, rest-at b i h) at w in
       let is = v .list (v .fits ∙ all) in
       sym (first-top (is .proper)) ∙ ap top (is .pairs) ∙ first ∙ sym (ap beforeAt (h .here))

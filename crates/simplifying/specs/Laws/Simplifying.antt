@@ -17,6 +17,7 @@ use Rattle.table.specs.Laws.Accepted.{is-table}
 use Rattle.table.specs.Laws.Refusal.{check-passes, check-stops}
 use Rattle.evaluate.specs.Evaluate.{zeros}
 use Rattle.evaluate.specs.Evaluator.{evaluateNode}
+use Rattle.evaluate.specs.Laws.Alike.{zeros-alike}
 use Rattle.evaluate.specs.Laws.Evaluator.{Evaluated, evaluated-table}
 use Rattle.simplify.specs.Steps.{steps}
 use Rattle.subtrees.specs.Parts.{Simplifiable}
@@ -65,7 +66,7 @@ module _ (b : List ℕ) (n : ℕ) (out : List ℕ) where
 
     module _ (r : length b ≤ length out) (h : AreBytes b) where
       walk : Evaluated zeros (decode b) (evaluateNode zeros mostDepth b)
-      walk = evaluated-table zeros (λ k q. omega arith) b h e
+      walk = evaluated-table zeros zeros (λ k l. refl) (λ k q. omega arith) b h e (zeros-alike (decode b) (is-table b h e .accepted .listed))
 
       walked : {x : Bool} → evaluateNode zeros mostDepth b .fits ≡ x → simplifyRefusal b out ≡ firstNo (10 asks x ∷ [])
       unfolding simplifyRefusal firstNo

@@ -17,6 +17,7 @@ use Rattle.evaluate.specs.Closed.{symbolFree}
 use Rattle.evaluate.specs.Evaluate.{figure, zeros}
 use Rattle.evaluate.specs.Evaluator.{evaluateNode}
 use Rattle.evaluate.specs.Shown.{Shows}
+use Rattle.evaluate.specs.Laws.Alike.{zeros-alike}
 use Rattle.evaluate.specs.Laws.Evaluator.{Evaluated, evaluated}
 use Rattle.evaluate.specs.Laws.Shown.{first-top}
 use Rattle.evaluate.specs.declared.Valued.{Valued}
@@ -65,8 +66,8 @@ module _ (b : List ℕ) (s : Simplifiable b) where
   first-is {r} {a} w =
       let t = s .table .accepted in
       let e : Evaluated zeros (decode b) (evaluateNode zeros mostDepth b) =
-      evaluated zeros (λ k q. omega arith) (decode b) 0 mostDepth b [] (sym (append-nil (encode (decode b)) ∙ s .table .back))
-      (record { listed = t .listed; nested = t .nested; named = t .named; weighed = t .weighed }) (t .deep) in
+      evaluated zeros zeros (λ k l. refl) (λ k q. omega arith) (decode b) 0 mostDepth b [] (sym (append-nil (encode (decode b)) ∙ s .table .back))
+      (record { listed = t .listed; nested = t .nested; named = t .named; weighed = t .weighed }) (zeros-alike (decode b) (t .listed)) (t .deep) in
       let is = w .list (w .fits ∙ e .holds (s .fits) .fits) in
       sym (first-top (is .proper)) ∙ ap topPair (is .pairs) ∙ e .figure (s .fits)
 
