@@ -11,7 +11,7 @@ use Rattle.table.specs.Trees.{rest}
 use Rattle.table.specs.declared.Kind.{Kind}
 use Rattle.table.specs.declared.Kind.the-variants.{Block}
 use Rattle.table.specs.declared.Number.{Number}
-use Rattle.table.specs.declared.Node.{Node}
+use Rattle.table.specs.declared.Limit.{Limit}
 use Rattle.lists.specs.Pairs.{Canonical, ever, places, top, width}
 use Rattle.evaluate.specs.declared.Valued.{Valued}
 use Rattle.evaluate.specs.Evaluate.{Values, amount}
@@ -93,15 +93,15 @@ pub block-sane : (b : List ℕ) (t : ℕ) → Sane b (checked (ever t) wholeRun 
 unfolding Canonical width places
 block-sane b t = sane-checked b (ever t) wholeRun 0 tt (omega arith) (omega arith) (omega arith)
 
--- the node n at the front of b, which limits what the answer r found below it
-module _ (v : Values) (h : ℕ) (b : List ℕ) (n : Node) (e : n ≡ firstNode b) (deep : h ≡ 0 → ⊥) (long : recordLength ≤ length b) {r t : Valued} {a c : List ℕ}
-    (limit : Shows t c (andThen (foundIn r a) (limited v (n .limit)))) where
-  by-below : Shows r a (evaluateBelow v (evaluateNode v (h - 1)) (n .kind) (childByte b) (drop recordLength b)) → Shows t c (evaluateNode v h b)
-  by-below s = subst (Shows t c) (then-shown s (limited v (n .limit)) ∙ sym (rw (← e) at (node-read v h b deep long))) limit
+-- the node at the front of b, of kind k and limit l, which limits what the answer r found below it
+module _ (v : Values) (h : ℕ) (b : List ℕ) {k : Kind} {l : Limit} (its-kind : k ≡ firstNode b .kind) (its-limit : l ≡ firstNode b .limit) (deep : h ≡ 0 → ⊥) (long : recordLength ≤ length b)
+    {r t : Valued} {a c : List ℕ} (shown : Shows t c (andThen (foundIn r a) (limited v l))) where
+  by-below : Shows r a (evaluateBelow v (evaluateNode v (h - 1)) k (childByte b) (drop recordLength b)) → Shows t c (evaluateNode v h b)
+  by-below s = subst (Shows t c) (then-shown s (limited v l) ∙ sym (rw (← its-kind, ← its-limit) at (node-read v h b deep long))) shown
 
-  pub block-shown : (x : ℕ) (time : Number) → n .kind ≡ Block time → x ≡ amount v time → Shows r a (checked (ever x) wholeRun 0) → Shows t c (evaluateNode v h b)
+  pub block-shown : (x : ℕ) (time : Number) → k ≡ Block time → x ≡ amount v time → Shows r a (checked (ever x) wholeRun 0) → Shows t c (evaluateNode v h b)
   unfolding evaluateBelow
-  block-shown x time k q s = by-below (rw (k, ← q) s)
+  block-shown x time i q s = by-below (rw (i, ← q) s)
 
-  pub children-shown : (m : ℕ) → m ≡ childByte b → Among (1 ∷ 2 ∷ 3 ∷ []) (n .kind) → Shows r a (evaluateChildren v (h - 1) (n .kind) m (drop recordLength b)) → Shows t c (evaluateNode v h b)
-  children-shown m q o s = by-below (rw (← q, ← below-other v (evaluateNode v (h - 1)) (n .kind) m (drop recordLength b) o) s)
+  pub children-shown : (m : ℕ) → m ≡ childByte b → Among (1 ∷ 2 ∷ 3 ∷ []) k → Shows r a (evaluateChildren v (h - 1) k m (drop recordLength b)) → Shows t c (evaluateNode v h b)
+  children-shown m q o s = by-below (rw (← q, ← below-other v (evaluateNode v (h - 1)) k m (drop recordLength b) o) s)

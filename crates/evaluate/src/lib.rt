@@ -302,12 +302,10 @@ pub fn evaluate_node(
     if table.len() < RECORD_LENGTH {
         return Valued::UNFIT;
     }
-    let node = table::read_node(table);
-    let kind = node.kind;
-    let limit = node.limit;
+    let kind = table::read_kind(table);
     if let Kind::Block(time) = kind {
         let below = repeat_in(amount_of(time, values), WHOLE_RUN, 0, out);
-        return limit_in(limit, values, below, out);
+        return limit_in(table::read_limit(table), values, below, out);
     }
     let count = table::child_count(table);
     let below = evaluate_children(
@@ -319,7 +317,7 @@ pub fn evaluate_node(
         out,
         spare,
     );
-    limit_in(limit, values, below, out)
+    limit_in(table::read_limit(table), values, below, out)
 }
 
 // The `count` children at the front of `table` of a node of this kind, each at most `depth` nodes deep.

@@ -23,7 +23,7 @@ ghost use Rattle.quoting.specs.Answers.{checkAnswer, figureAnswer, listA
 pub const HOW_MANY_VALUES: usize = 32;
 
 // The values, and their triangular numbers.
-const HOW_MANY_NUMBERS: usize = 64;
+const HOW_MANY_NUMBERS: usize = 2 * HOW_MANY_VALUES;
 
 // Numbers that the list call's buffer holds at least.
 pub const LIST_ROOM: usize = 512;
@@ -105,8 +105,7 @@ fn record_small(b: &[u8], values: &[u64]) -> bool
     if table::without_four(b) {
         return true;
     }
-    let node = table::read_node(b);
-    let limit = node.limit;
+    let limit = table::read_limit(b);
     match limit {
         Limit::Unlimited => true,
         Limit::AtMost(_, most) => triangle_small(most, values),
@@ -121,10 +120,10 @@ fn flag_free(table: &[u8]) -> bool
     let mut i: usize = 0;
     while i < n {
         let at = RECORD_LENGTH * i;
+        i += 1;
         if !table::without_four(&table[at..]) {
             return false;
         }
-        i += 1;
     }
     true
 }

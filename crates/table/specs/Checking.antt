@@ -1,6 +1,6 @@
 -- Document 01, "Questions put to a call": questions 1 to 7, put to a table's bytes, and the number of the first that says no.
 use mathlib.Core.Path.{_≡_}
-use mathlib.Core.Bool.{Bool, _&&_, _||_, true}
+use mathlib.Core.Bool.{Bool, _&&_, _||_, not, true}
 use mathlib.Core.List.{List, [], _∷_}
 use Prim.Native.Nat.{ℕ, _/_, _%_, _*_}
 use lib.Dec.{eqb, leb}
@@ -26,7 +26,7 @@ limitListed k s m = (leb 1 k && leb k mostLoops) || eqb k wholeRun || (eqb k 0 &
 
 -- 2. Flag 4 stands only with flag 2, and there is no other flag. Byte 1 without flag 1, halved: flag 2 is its low bit and flag 4 the next.
 abbrev pub flagsListed : ℕ → Bool
-flagsListed s = leb s 1 || eqb s 3
+flagsListed s = not (eqb s 2) && leb s 3
 
 -- 2. of the first record; flag 1 is the low bit of byte 1
 abbrev pub recordListed : List ℕ → Bool

@@ -135,27 +135,35 @@ fn kind_from(byte: u8, value: Number) -> Kind
     }
 }
 
-// The limit by byte 3, with its number.
-fn limit_from(byte: u8, most: Most) -> Limit
-    ensures { λ r. ⌜ r ≡ limitFrom byte most ⌝ }
+// The kind of the record at the front of `b`, the part of the table that starts there.
+pub fn read_kind(b: &[u8]) -> Kind
+    requires { ⌜ recordLength ≤ length (now b) ⌝ }
+    ensures { λ r. ⌜ r ≡ firstNode (now (b .entry)) .kind ⌝ }
 {
-    if byte == 0 {
-        Limit::Unlimited
-    } else {
-        Limit::AtMost(byte, most)
-    }
+    let value = number_from(b[1] % 2, read_u64(b, 8));
+    kind_from(b[0], value)
 }
 
-// The node of the record at the front of `b`, the part of the table that starts there.
+// Its limit, whose number is read only where there is one: most nodes have none.
+pub fn read_limit(b: &[u8]) -> Limit
+    requires { ⌜ recordLength ≤ length (now b) ⌝ }
+    ensures { λ r. ⌜ r ≡ firstNode (now (b .entry)) .limit ⌝ }
+{
+    let name = b[3];
+    if name == 0 {
+        return Limit::Unlimited;
+    }
+    let most = most_from(b[1] / 2, read_u32(b, 4));
+    Limit::AtMost(name, most)
+}
+
+// Both.
 pub fn read_node(b: &[u8]) -> Node
     requires { ⌜ recordLength ≤ length (now b) ⌝ }
     ensures { λ r. ⌜ r ≡ firstNode (now (b .entry)) ⌝ }
 {
-    let flags = b[1];
-    let value = number_from(flags % 2, read_u64(b, 8));
-    let most = most_from(flags / 2, read_u32(b, 4));
-    let kind = kind_from(b[0], value);
-    let limit = limit_from(b[3], most);
+    let kind = read_kind(b);
+    let limit = read_limit(b);
     Node {
         kind: kind,
         limit: limit,
@@ -243,7 +251,7 @@ fn limit_listed(named: u8, flags: u8, most: u64) -> bool
 fn flags_listed(flags: u8) -> bool
     ensures { λ r. ⌜ r ≡ flagsListed flags ⌝ }
 {
-    (flags <= 1) | (flags == 3)
+    (flags != 2) & (flags <= 3)
 }
 
 // Are the fields of the record at the front of `b` as listed?
@@ -314,13 +322,12 @@ fn kind_in_range(kind: Kind) -> bool
     }
 }
 
-fn limit_in_range(limit: Limit) -> bool
-    ensures { λ r. ⌜ r ≡ limitCount limit ⌝ }
+// Of a limit by its byte 3 and its number, which is tested also where there is no limit: that is faster than to branch on it.
+fn limit_in_range(named: u8, most: Most) -> bool
+    ensures { λ r. ⌜ r ≡ limitCount (limitFrom named most) ⌝ }
 {
-    match limit {
-        Limit::Unlimited => true,
-        Limit::AtMost(_, most) => most_in_range(most),
-    }
+    let small = most_in_range(most);
+    (named == 0) | small
 }
 
 // Are the numbers of the record at the front of `b` in range?
@@ -328,10 +335,9 @@ fn record_in_range(b: &[u8]) -> bool
     requires { ⌜ recordLength ≤ length (now b) ⌝ }
     ensures { λ r. ⌜ r ≡ recordInRange (now (b .entry)) ⌝ }
 {
-    let node = read_node(b);
-    let kind = node.kind;
-    let limit = node.limit;
-    kind_in_range(kind) & limit_in_range(limit)
+    let kind = read_kind(b);
+    let most = most_from(b[1] / 2, read_u32(b, 4));
+    kind_in_range(kind) & limit_in_range(b[3], most)
 }
 
 // Are the numbers of every record in range?

@@ -26,7 +26,8 @@ use Rattle.evaluate.proofs.rest_of.Reads as rest-of-reads
 use Rattle.evaluate.proofs.take_child.Reads as take-child-reads
 use Rattle.lists.proofs.List.zero.Reads as zero-reads
 use Rattle.table.proofs.child_count.Reads as child-count-reads
-use Rattle.table.proofs.read_node.Reads as read-node-reads
+use Rattle.table.proofs.read_kind.Reads as read-kind-reads
+use Rattle.table.proofs.read_limit.Reads as read-limit-reads
 use Rattle.evaluate.proofs.+evaluate_children+evaluate_node.{statement}
 use Rattle.evaluate.proofs.+evaluate_children+evaluate_node.Tie.{close}
 
@@ -66,12 +67,14 @@ children-calls t = (
 
 abbrev node-calls : ℕ → node-lts.Claims
 node-calls t = (
-  read-node-reads.Asked,
-  read-node-reads.Learnt,
+  read-kind-reads.Asked,
+  read-kind-reads.Learnt,
   amount-of-reads.Asked,
   amount-of-reads.Learnt,
   repeat-in-reads.Asked,
   repeat-in-reads.Learnt,
+  read-limit-reads.Asked,
+  read-limit-reads.Learnt,
   limit-in-reads.Asked,
   limit-in-reads.Learnt,
   child-count-reads.Asked,
@@ -168,8 +171,8 @@ module _ (t : ℕ) where
   node-returns-2 : node-lts.Need-returns-2 (node-calls t) (node-at t) node.Post
   node-returns-2 c = let (_, (l, m)) = c .before .before .before .before .pre .1 in (unfit-shown l (node-short _ _ _ (c .if2 .taken)), m)
 
-  node-read-node-requires : node-lts.Need-read-node-requires (node-calls t) (node-at t) node.Post
-  node-read-node-requires c κs = search needs
+  node-read-kind-requires : node-lts.Need-read-kind-requires (node-calls t) (node-at t) node.Post
+  node-read-kind-requires c κs = search needs
 
   node-enum-known-kind : node-lts.Need-enum-known-kind (node-calls t) (node-at t) node.Post
   node-enum-known-kind c = search needs
@@ -180,21 +183,26 @@ module _ (t : ℕ) where
   node-repeat-in-requires : node-lts.Need-repeat-in-requires (node-calls t) (node-at t) node.Post
   node-repeat-in-requires c κs = search needs
 
+  node-read-limit-requires : node-lts.Need-read-limit-requires (node-calls t) (node-at t) node.Post
+  node-read-limit-requires c κs = search needs
+
   node-limit-in-requires : node-lts.Need-limit-in-requires (node-calls t) (node-at t) node.Post
   node-limit-in-requires c κs =
-      let shows = c .before .repeat-in .ensures in
-      let start = c .before .before .before .before .before .before .before .before .before .before .before .before in
+      let repeat = c .before .before in
+      let start = repeat .before .before .before .before .before .before .before .before .before .before .before in
+      let shows = repeat .repeat-in .ensures in
       (ready-shown (start .pre .1 .0) (block-sane (start .args .table .now) _) shows, shows .room)
 
   node-returns-3 : node-lts.Need-returns-3 (node-calls t) (node-at t) node.Post
   node-returns-3 c =
-      let repeat = c .before .before in
+      let limit = c .before .before in
+      let repeat = limit .before in
       let amount = repeat .before .before in
       let kind = amount .before .before in
       let read = kind .before .before in
       let start = read .before .before .before .before .before in
       let a = start .args in (
-        block-shown (valuesOf (a .values .now)) (a .depth) (a .table .now) (read .read-node .result) (read .read-node .ensures) (read .before .before .if1 .left) (read .before .if2 .left)
+        block-shown (valuesOf (a .values .now)) (a .depth) (a .table .now) (read .read-kind .ensures) (limit .read-limit .ensures) (read .before .before .if1 .left) (read .before .if2 .left)
             (c .limit-in .ensures) _ (kind .kind .given .0 .0) (kind .kind .given .1) (amount .amount-of .ensures) (repeat .repeat-in .ensures),
         start .pre .1 .1 .1,
       )
@@ -217,9 +225,12 @@ module _ (t : ℕ) where
   node-evaluate-children-requires : node-lts.Need-evaluate-children-requires (node-calls t) (node-at t) node.Post
   node-evaluate-children-requires c κs = search needs
 
+  node-read-limit-requires-2 : node-lts.Need-read-limit-requires-2 (node-calls t) (node-at t) node.Post
+  node-read-limit-requires-2 c κs = search needs
+
   node-limit-in-requires-2 : node-lts.Need-limit-in-requires-2 (node-calls t) (node-at t) node.Post
   node-limit-in-requires-2 c κs =
-      let below = c .before in
+      let below = c .before .before in
       let read = below .before .before .before .before .before .before in
       let start = read .before .before .before .before .before in
       let a = start .args in
@@ -228,13 +239,14 @@ module _ (t : ℕ) where
 
   node-returns-4 : node-lts.Need-returns-4 (node-calls t) (node-at t) node.Post
   node-returns-4 c =
-      let below = c .before .before in
+      let limit = c .before .before in
+      let below = limit .before in
       let count = below .before .before .before .before in
       let other = count .before in
       let read = other .before in
       let a = read .before .before .before .before .before .args in
       let shows = rw (part-from (a .table .now) recordLength) at (below .evaluate-children .ensures .0) in (
-        children-shown (valuesOf (a .values .now)) (a .depth) (a .table .now) (read .read-node .result) (read .read-node .ensures) (read .before .before .if1 .left) (read .before .if2 .left)
+        children-shown (valuesOf (a .values .now)) (a .depth) (a .table .now) (read .read-kind .ensures) (limit .read-limit2 .ensures) (read .before .before .if1 .left) (read .before .if2 .left)
             (c .limit-in2 .ensures) _ (count .child-count .ensures .0) (other .match .keys2) shows,
         below .evaluate-children .ensures .1,
       )
@@ -261,10 +273,11 @@ pub +evaluate-children+evaluate-node-spec : {M : Type 1} → statement M
     λ t. node-lts.spec (node-calls t) (node-at t) node.Post
     (node-returns t)
     (node-returns-2 t)
-    (node-read-node-requires t)
+    (node-read-kind-requires t)
     (node-enum-known-kind t)
     (node-amount-of-requires t)
     (node-repeat-in-requires t)
+    (node-read-limit-requires t)
     (node-limit-in-requires t)
     (node-returns-3 t)
     (node-child-count-requires t)
@@ -273,5 +286,6 @@ pub +evaluate-children+evaluate-node-spec : {M : Type 1} → statement M
     (node-part-evaluate-children-end t)
     (node-sub-evaluate-children-2 t)
     (node-evaluate-children-requires t)
+    (node-read-limit-requires-2 t)
     (node-limit-in-requires-2 t)
     (node-returns-4 t)

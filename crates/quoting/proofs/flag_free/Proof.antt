@@ -20,6 +20,9 @@ loop-holds c = none-passed withoutFour _
 mul-at : tie.Need-mul-at Inv-loop μ-loop
 mul-at c = omega arith
 
+add-i : tie.Need-add-i Inv-loop μ-loop
+add-i c = omega arith
+
 sub-without-four : tie.Need-sub-without-four Inv-loop μ-loop
 sub-without-four c = omega arith
 
@@ -37,9 +40,6 @@ unfolding flagFree
 returns c =
     let at = c .before .before .before in
     sym (one-failed withoutFour _ _ _ (at .loop-test .taken) (at .before .loop .inv) (c .before .without-four .ensures) (c .if1 .taken))
-
-add-i : tie.Need-add-i Inv-loop μ-loop
-add-i c = omega arith
 
 loop-less : tie.Need-loop-less Inv-loop μ-loop
 loop-less c = omega arith
@@ -61,12 +61,12 @@ flag-free-spec =
     μ-loop
     loop-holds
     mul-at
+    add-i
     sub-without-four
     part-without-four-start
     part-without-four-end
     without-four-requires
     returns
-    add-i
     loop-less
     loop-again
     returns-2)

@@ -13,8 +13,8 @@ without-four-requires c κs = search needs
 returns : tie.Need-returns
 returns c = sym (small-unflagged _ _ (sym (c .before .without-four .ensures) ∙ c .if1 .taken))
 
-read-node-requires : tie.Need-read-node-requires
-read-node-requires c κs = search needs
+read-limit-requires : tie.Need-read-limit-requires
+read-limit-requires c κs = search needs
 
 enum-told : tie.Need-enum-told
 enum-told c = search needs
@@ -27,11 +27,11 @@ triangle-small-requires c κs = search needs
 
 returns-2 : tie.Need-returns-2
 unfolding recordSmall limitHolds
-returns-2 c = rw (← c .before .before .read-node .ensures, c .enum-told .given .1) refl
+returns-2 c = rw (← c .before .before .read-limit .ensures, c .enum-told .given .1) refl
 
 returns-3 : tie.Need-returns-3
 unfolding recordSmall limitHolds
-returns-3 c = let limit = c .before .before in rw (← limit .before .before .read-node .ensures, limit .limit .given .1) (c .triangle-small .ensures)
+returns-3 c = let limit = c .before .before in rw (← limit .before .before .read-limit .ensures, limit .limit .given .1) (c .triangle-small .ensures)
 
 pub record-small-spec : {M : Type 1} → statement M
 record-small-spec =
@@ -39,7 +39,7 @@ record-small-spec =
     (tie.spec
     without-four-requires
     returns
-    read-node-requires
+    read-limit-requires
     enum-told
     enum-known-limit
     triangle-small-requires

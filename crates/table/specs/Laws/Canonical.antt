@@ -1,6 +1,6 @@
 -- Records that pass question 2 are written in one way only, so a table of them is what its tree writes.
 use mathlib.Core.Path.{_≡_, refl, sym, ap, _∙_}
-use mathlib.Core.Bool.{_&&_}
+use mathlib.Core.Bool.{_&&_, not}
 use mathlib.Core.List.{List, append-assoc, [], _∷_, _++_, append-nil}
 use Prim.Native.Nat.{ℕ, zero, suc, _+_, _*_, _<_, _≤_, _/_, _%_}
 use native.Mathlib.Omega.{arith}
@@ -65,7 +65,9 @@ flags-most : (s x : ℕ) → T (flagsListed s) → mostFlags (mostFrom s x) ≡ 
 unfolding mostFlags mostFrom
 flags-most zero x h = refl
 flags-most (suc zero) x h = refl
-flags-most (suc (suc s)) x h = sym (eqb→eq (suc (suc s)) 3 (simp (lt-leb (suc (suc s)) 1 (omega arith)) at h))
+flags-most (suc (suc zero)) x h = absurd h
+flags-most (suc (suc (suc zero))) x h = refl
+flags-most (suc (suc (suc (suc s)))) x h = absurd (rw (lt-leb (suc (suc (suc (suc s)))) 3 (omega arith)) at (&&-both (not (eqb (suc (suc (suc (suc s)))) 2)) _ h .1))
 
 field-most : (s x : ℕ) → mostField (mostFrom s x) ≡ x
 unfolding mostFrom

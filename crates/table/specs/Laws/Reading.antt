@@ -1,6 +1,6 @@
 -- What the reader's code computes, one byte or one record at a time, against the definitions.
 use mathlib.Core.Path.{_≡_, refl, sym, ap, _∙_}
-use mathlib.Core.Bool.{Bool, false, not, true}
+use mathlib.Core.Bool.{Bool, _||_, false, not, true}
 use mathlib.Core.List.{List, [], _∷_}
 use Prim.Native.Nat.{ℕ, zero, suc, _+_, _*_, _^_, _-_, _<_, _≤_}
 use native.Mathlib.Nat.{zero-add, add-zero, suc-add, add-suc, mul-assoc, pow-succ', sub-zero}
@@ -8,11 +8,13 @@ use native.Mathlib.Omega.{arith}
 use lib.Dec.{eqb}
 use lib.ListN.{getD, length, take, drop, length-drop}
 use lib.Seq.{take-nil, drop-nil, take-all, drop-drop}
-use borrow.Author.Tests.{not-false, not-true}
+use borrow.Author.Tests.{ne-eqb, not-false, not-true}
 use Rattle.booleans.specs.Tests.{_and_}
 use Rattle.table.specs.Nodes.{Symbol, Number, Most, Loop, AtMost}
 use Rattle.table.specs.Bytes.{fromBytes}
 use Rattle.table.specs.Numbers.{recordLength, mostChildren}
+use Rattle.table.specs.Questions.{mostInRange}
+use Rattle.table.specs.Checking.{limitCount}
 use Rattle.table.specs.Table.{childByte, each, field, firstNode, formTrees, kindFrom, limitFrom, loopByte, mostFrom, numFrom, recordCount}
 
 -- ---- fields
@@ -64,6 +66,11 @@ pub is-limit : (k : ℕ) (m : Most) → (k ≡ 0 → ⊥) → AtMost k m ≡ lim
 unfolding limitFrom
 is-limit zero m h = absurd (h refl)
 is-limit (suc k) m h = refl
+
+pub limit-count : (k : ℕ) (m : Most) → limitCount (limitFrom k m) ≡ (eqb k 0 || mostInRange m)
+unfolding limitFrom limitCount
+limit-count zero m = refl
+limit-count (suc k) m = rw (ne-eqb (suc k) 0 (omega arith)) refl
 
 limit-name : (k : ℕ) (m : Most) → loopByte (limitFrom k m) ≡ k
 unfolding loopByte limitFrom
