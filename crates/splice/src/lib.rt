@@ -1,16 +1,14 @@
 // Grafting's passes over records, document 02's CR 1: the sent table renamed, and put in place of the blocks with a time symbol.
 ghost use mathlib.Core.Path.{_≡_};
-ghost use mathlib.Core.Bool.{cond};
 ghost use mathlib.Core.List.{_++_};
 ghost use Prim.Native.Nat.{_*_, _+_, _<_, _≤_, suc};
-ghost use lib.Dec.{eqb};
 ghost use lib.ListN.{drop, length};
-ghost use Rattle.table.specs.Numbers.{mostLoops, recordLength, wholeRun};
+ghost use Rattle.table.specs.Numbers.{mostLoops, recordLength};
 ghost use Rattle.table.specs.Table.{decode, encode, firstNode, recordCount};
 ghost use Rattle.table.specs.Checking.{IsTable};
 ghost use Rattle.writing.specs.Records.{front};
-ghost use Rattle.splice.specs.Graft.{isSymbol, rename, renamedLimit};
-ghost use Rattle.splice.specs.Renaming.{entered, renamedRecord, stillAround, stack};
+ghost use Rattle.splice.specs.Graft.{isSymbol, rename};
+ghost use Rattle.splice.specs.Renaming.{entered, renamedName, renamedRecord, stillAround, stack};
 ghost use Rattle.splice.specs.Splice.{occursFirst, occurrencesIn, placeBytes, splice, spliceFirst, spliceRecords};
 use table::Kind;
 use table::Limit;
@@ -76,20 +74,9 @@ pub fn count_occurrences(table: &[u8], symbol: u64) -> usize
 // The loop that a limit of the sent table names once it is grafted, with `outer` of the sent table's loops around its node.
 fn renamed(name: u8, outer: u8) -> u8
     requires { ⌜ outer ≤ mostLoops ⌝ }
-    ensures { λ r. ⌜ r ≡ cond (eqb name wholeRun) (suc outer) name ⌝ }
+    ensures { λ r. ⌜ r ≡ renamedName name outer ⌝ }
 {
     if name == WHOLE_RUN { outer + 1 } else { name }
-}
-
-// A limit of the sent table, once it is grafted.
-fn renamed_limit(limit: Limit, outer: u8) -> Limit
-    requires { ⌜ outer ≤ mostLoops ⌝ }
-    ensures { λ r. ⌜ r ≡ renamedLimit limit outer ⌝ }
-{
-    match limit {
-        Limit::Unlimited => Limit::Unlimited,
-        Limit::AtMost(name, most) => Limit::AtMost(renamed(name, outer), most),
-    }
 }
 
 // A pass over the sent table's records knows the loops around each of them. `wanted` is question 4's count of the trees still to come; `ends` has, for
@@ -122,7 +109,8 @@ fn enter(kind: Kind, ends: &mut [usize], outer: u8, wanted: usize) -> u8
     if inside <= MOST_LOOPS { inside } else { outer }
 }
 
-// Puts record i of the sent table, renamed, at the buffer's record i; answers the loops around what follows.
+// Puts record i of the sent table, renamed, at the buffer's record i; answers the loops around what follows. Renaming changes byte 3 alone, so the record
+// is copied and not written anew from its node.
 fn rename_next(
     sent: &[u8],
     i: usize,
@@ -137,14 +125,9 @@ fn rename_next(
 {
     let node = table::node_at(sent, i);
     let kind = node.kind;
-    let limit = node.limit;
     let around = still_around(ends, outer, wanted);
-    let count = table::children_at(sent, i);
-    let new = Node {
-        kind: kind,
-        limit: renamed_limit(limit, around),
-    };
-    writing::put_node(out, i, new, count as u8);
+    writing::copy_records(sent, i, 1, out, i);
+    out[RECORD_LENGTH * i + 3] = renamed(table::name_at(sent, i), around);
     enter(kind, ends, around, wanted)
 }
 

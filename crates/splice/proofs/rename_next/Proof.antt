@@ -1,3 +1,4 @@
+use native.Mathlib.Omega.{arith}
 use Rattle.splice.specs.Laws.Renaming.{enters, one-renamed}
 use borrow.Author.Needs.{needs}
 use Rattle.splice.proofs.rename_next.Statement.{statement}
@@ -9,17 +10,23 @@ node-at-requires c κs = search needs
 still-around-requires : tie.Need-still-around-requires
 still-around-requires c κs = search needs
 
-children-at-requires : tie.Need-children-at-requires
-children-at-requires c κs = search needs
+copy-records-requires : tie.Need-copy-records-requires
+copy-records-requires c κs = search needs
 
-renamed-limit-requires : tie.Need-renamed-limit-requires
-renamed-limit-requires c κs = search needs
+name-at-requires : tie.Need-name-at-requires
+name-at-requires c κs = search needs
 
-cast-put-node : tie.Need-cast-put-node
-cast-put-node c = search needs
+renamed-requires : tie.Need-renamed-requires
+renamed-requires c κs = search needs
 
-put-node-requires : tie.Need-put-node-requires
-put-node-requires c κs = search needs
+mul-out : tie.Need-mul-out
+mul-out c = search needs
+
+add-out : tie.Need-add-out
+add-out c = search needs
+
+slice-write-out : tie.Need-slice-write-out
+slice-write-out c = search needs
 
 enter-requires : tie.Need-enter-requires
 enter-requires c κs = search needs
@@ -33,13 +40,13 @@ same-length-2 c = search needs
 returns : tie.Need-returns
 returns c =
     let enter = c .before .before in
-    let put = enter .before .before .before .before in
-    let limit = put .before .before in
-    let count = limit .before in
-    let around = count .before in
-    let node = around .before .before in (
+    let name = enter .before .before in
+    let copy = name .before .before .before .before in
+    let around = copy .before .before in
+    let node = around .before .before in
+    let start = node .before .before .before .before in (
       enters _ _ _ _ _ _ _ _ (node .node-at .ensures) (around .still-around .ensures .0) (enter .enter .ensures),
-      one-renamed _ _ _ _ _ _ _ _ _ _ _ _ (around .still-around .ensures .0) (node .node-at .ensures) (limit .renamed-limit .ensures) (count .children-at .ensures .0) (put .put-node .ensures .0) (put .put-node .ensures .1),
+      one-renamed _ _ _ _ _ _ _ _ _ _ _ (around .still-around .ensures .0) (omega (arith, start .pre)) (copy .copy-records .ensures) (name .before .name-at .ensures) (name .renamed .ensures),
     )
 
 pub rename-next-spec : {M : Type 1} → statement M
@@ -48,10 +55,12 @@ rename-next-spec =
     (tie.spec
     node-at-requires
     still-around-requires
-    children-at-requires
-    renamed-limit-requires
-    cast-put-node
-    put-node-requires
+    copy-records-requires
+    name-at-requires
+    renamed-requires
+    mul-out
+    add-out
+    slice-write-out
     enter-requires
     same-length
     same-length-2

@@ -8,23 +8,24 @@ use native.Mathlib.Numerals.{sub-one}
 use native.Mathlib.Omega.{arith}
 use lib.Dec.{T, eqb→eq, leb}
 use lib.ListN.{drop, getD, length, set}
-use lib.Seq.{getD-set-other, getD-set-same}
+use lib.Seq.{getD-set-other, getD-set-same, length-take-le, take-set-lt}
 use borrow.Author.Tests.{eq-eqb, le-leb, lt-leb, ne-eqb}
 use Rattle.booleans.specs.Laws.{both}
 use Rattle.table.specs.Numbers.{mostLoops, recordLength}
 use Rattle.table.specs.Questions.{arity, listed, listedIn, loops, loopsIn}
-use Rattle.table.specs.Table.{childByte, decode, encode, encodes, firstNode, formTrees, recordBytes, recordCount}
+use Rattle.table.specs.Bytes.{toBytes}
+use Rattle.table.specs.Table.{childByte, decode, encode, encodes, firstNode, formTrees, limitNum, loopByte, recordBytes, recordCount}
 use Rattle.table.specs.Trees.{Forest, Tree, around, nil, node, records, recordsIn, rest, size, _▸_}
 use Rattle.table.specs.Laws.RoundTrip.{WritesNode, Writes, children-bytes, drop-bytes, head-bytes}
 use Rattle.table.specs.Checking.{IsTable}
 use Rattle.table.specs.Laws.NotRefused.{tree-writes, whole-form}
-use Rattle.table.specs.Laws.Reading.{Wanted, next-count, next-part, part-from, wants-next, wants-none, wants-one}
+use Rattle.table.specs.Laws.Reading.{Wanted, name-byte, next-count, next-part, part-from, wants-next, wants-none, wants-one}
 use Rattle.table.specs.Laws.Survey.{around-rest}
 use Rattle.table.specs.Laws.Trees.{some-loops}
-use Rattle.writing.specs.Records.{front, nodeOf}
-use Rattle.splice.specs.Nodes.{Block, Choice, Kind, Limit, Loop, Node, Sequence}
+use Rattle.writing.specs.Records.{front, nodeOf, slice}
+use Rattle.splice.specs.Nodes.{AtMost, Block, Choice, Kind, Limit, Loop, Node, Sequence, Unlimited}
 use Rattle.splice.specs.Graft.{rename, renameIn, renamedLimit}
-use Rattle.splice.specs.Renaming.{entered, loopRoom, renamedRecord, renamedRecords, stillAround, stack}
+use Rattle.splice.specs.Renaming.{entered, loopRoom, renamedName, renamedRecord, renamedRecords, stillAround, stack}
 use Rattle.splice.specs.Laws.Sizes.{size-renamed}
 use Rattle.table.specs.Laws.Tables.{count-is, whole-table}
 
@@ -106,11 +107,17 @@ module _ (w : ℕ) (ends : List ℕ) (l : Low w ends) where
 
 -- ---- a tree's records
 
+-- a record without a limit has byte 3 zero, which is no loop's name and stays
+bytes-renamed : (k : Kind) (l : Limit) (c d : ℕ) (r : List ℕ) → renamedRecord d (recordBytes (nodeOf k l) c ++ r) ≡ recordBytes (nodeOf k (renamedLimit l d)) c
+unfolding renamedRecord recordBytes toBytes renamedLimit loopByte limitNum
+bytes-renamed k Unlimited c d r = refl
+bytes-renamed k (AtMost name m) c d r = refl
+
 record-renamed : (n : Node) (c m w : ℕ) (before ends r : List ℕ) → WritesNode n → stillAround (suc w) before ≡ ends
     → renamedRecords (suc m) (suc w) before (recordBytes n c ++ r)
     ≡ recordBytes (nodeOf (n .kind) (renamedLimit (n .limit) (length ends))) c ++ renamedRecords m (w + c) (entered (n .kind) (suc w) ends) r
-unfolding renamedRecords renamedRecord
-record-renamed n c m w before ends r h e = rw (e, head-bytes n c r h, children-bytes n c r, drop-bytes n c r, sub-one (suc w)) refl
+unfolding renamedRecords
+record-renamed n c m w before ends r h e = rw (e, bytes-renamed (n .kind) (n .limit), head-bytes n c r h, children-bytes n c r, drop-bytes n c r, sub-one (suc w)) refl
 
 renamed-node : (n : Node) (f : Forest) (d : ℕ) (r : List ℕ)
     → recordBytes (nodeOf (n .kind) (renamedLimit (n .limit) d)) (size f) ++ (encodes (renameIn (n .kind) f d) ++ r) ≡ encode (rename (node n f) d) ++ r
@@ -213,17 +220,23 @@ module _ (e : List ℕ) (w outer : ℕ) (h : outer < length e) where
 
 -- ---- one record
 
+-- a store behind the seam
+set-behind : (p q : List ℕ) (n k a : ℕ) → length p ≡ n → set (p ++ q) (n + k) a ≡ p ++ set q k a
+set-behind [] q n k a e = rw (← e, zero-add) refl
+set-behind (x ∷ p) q n k a e = rw (← e, suc-add) (ap (λ (r : List ℕ). x ∷ r) (set-behind p q (length p) k a refl))
+
 -- what the program's calls tell
 pub enters : (b : List ℕ) (e e' : List ℕ) (w outer d r : ℕ) (n : Node) → n ≡ firstNode b → stack e d ≡ stillAround w (stack e outer)
     → (stack e' r ≡ entered (n .kind) w (stack e d)) × (r ≤ mostLoops) → (stack e' r ≡ entered (firstNode b .kind) w (stillAround w (stack e outer))) × (r ≤ mostLoops)
 enters b e e' w outer d r n is s (x, l) = (x ∙ ap₂ (λ (m : Node) (y : List ℕ). entered (m .kind) w y) is s, l)
 
-pub one-renamed : (b : List ℕ) (e : List ℕ) (w outer d i r : ℕ) (out new : List ℕ) (n : Node) (l : Limit) (c : ℕ) → stack e d ≡ stillAround w (stack e outer) → n ≡ firstNode b
-    → l ≡ renamedLimit (n .limit) d → c ≡ childByte b → r ≡ i + 1 → front r new ≡ front i out ++ recordBytes (nodeOf (n .kind) l) c
-    → front (i + 1) new ≡ front i out ++ renamedRecord (length (stillAround w (stack e outer))) b
+pub one-renamed : (b e : List ℕ) (w outer d i r k x : ℕ) (out copy : List ℕ) → stack e d ≡ stillAround w (stack e outer) → recordLength * i ≤ length out
+    → (r ≡ i + 1) × (front r copy ≡ front i out ++ slice b i 1) → k ≡ loopByte (firstNode (drop (recordLength * i) b) .limit) → x ≡ renamedName k d
+    → front (i + 1) (set copy (recordLength * i + 3) x) ≡ front i out ++ renamedRecord (length (stillAround w (stack e outer))) (drop (recordLength * i) b)
 unfolding renamedRecord
-one-renamed b e w outer d i r out new n l c s n-is l-is c-is r-is f =
-    ap (λ k. front k new) (sym r-is) ∙ f ∙ rw (l-is, c-is, n-is, ← s, length-stack e d) refl
+one-renamed b e w outer d i r k x out copy s h (r-is, f) k-is x-is =
+    take-set-lt (recordLength * (i + 1)) copy (recordLength * i + 3) x (omega arith)
+    ∙ rw (← r-is, f, ← s, length-stack e d, ← name-byte, ← k-is, ← x-is) (set-behind (front i out) (slice b i 1) (recordLength * i) 3 x (length-take-le (recordLength * i) out h))
 
 -- ---- the table
 
