@@ -1,9 +1,10 @@
 -- The evaluation of a table's tree as the program does it: one walk, on bytes, with lists as pairs.
 -- It is total, and meant where questions 1 to 7 and 9 say yes: Laws/Evaluator says what it then finds. Elsewhere its tests keep every number in range.
+use mathlib.Core.Path.{_≡_}
 use mathlib.Core.Bool.{Bool, false, true, cond}
 use mathlib.Core.List.{List}
-use Prim.Native.Nat.{ℕ, _+_, min, _*_, zero, suc}
-use lib.Dec.{leb, ltb}
+use Prim.Native.Nat.{ℕ, _+_, min, _*_, _<_, zero, suc}
+use lib.Dec.{eqb, leb, ltb}
 use lib.ListN.{drop, length}
 use Rattle.table.specs.Numbers.{wholeRun, mostTime, mostWeight, mostCount, recordLength, howManySymbols}
 use Rattle.table.specs.Table.{firstNode, childByte}
@@ -11,7 +12,7 @@ use Rattle.table.specs.Trees.{rest}
 use Rattle.lists.specs.Operations.{addPairs, mergePairs, groupPairs, first, capPairs}
 use Rattle.lists.specs.Pairs.{Pairs, ever, top, width}
 use Rattle.evaluate.specs.Nodes.{Kind, Block, Sequence, Choice, Loop, Limit, Unlimited, AtMost, Most}
-use Rattle.evaluate.specs.Evaluate.{outward, Values, amount}
+use Rattle.evaluate.specs.Evaluate.{outward, Values, allowed, amount}
 
 -- what a walk finds of a tree, or of a node's children so far: the pairs of the list, the loop it names, how many records, and whether question 10 says yes
 pub record Found : Type 0 where
@@ -103,3 +104,11 @@ evaluateNode v (suc h) b =
     cond (leb recordLength (length b))
     (andThen (evaluateBelow v (evaluateNode v h) (firstNode b .kind) (childByte b) (drop recordLength b)) (limited v (firstNode b .limit)))
     unfit
+
+-- What is lent to the walk says what the values v say: u gives each symbol what v gives it,
+abbrev pub Agree : (u v : Values) → Type 0
+Agree u v = (k : ℕ) → k < howManySymbols → u k ≡ v k
+
+-- and a limit comes to the same.
+unfoldable pub alike : (u v : Values) → Most → Bool
+alike u v m = eqb (looked u m) (allowed v m)

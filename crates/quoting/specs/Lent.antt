@@ -9,9 +9,8 @@ use Rattle.table.specs.Limits.{everyMost}
 use Rattle.table.specs.Numbers.{mostDepth}
 use Rattle.table.specs.Table.{decode, each, recordCount, withoutFour}
 use Rattle.evaluate.specs.Evaluate.{Values, valuesOf}
-use Rattle.evaluate.specs.Evaluator.{evaluateNode}
+use Rattle.evaluate.specs.Evaluator.{Agree, alike, evaluateNode}
 use Rattle.evaluate.specs.Shown.{Shows}
-use Rattle.evaluate.specs.Laws.Alike.{Agree, alike}
 use Rattle.evaluate.specs.declared.Valued.{Valued}
 
 -- no record has flag 4

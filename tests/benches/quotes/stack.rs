@@ -90,7 +90,7 @@ fn spine(rng: &mut Rng, depth: usize, loops: usize, weight: u64) -> Tree {
     let mut tree = trees::spine(rng, depth, loops);
     trees::put_limits(rng, &mut tree, weight);
     small.set(rng, &mut tree);
-    // A triangular number is looked up in a table that stands on the stack.
+    // The table of triangular numbers stands on the stack while they are looked up, before the walk.
     if let Some(limit) = &mut trees::deepest_block(&mut tree).limit {
         limit.amount = Amount::Triangular(0);
     }

@@ -1,7 +1,7 @@
--- What is lent to the walk says what the values say: of the symbols themselves, and of the limits under flag 4 that a tree has.
+-- Where what is lent to the walk says what the values say: what times, bounds and limits then come to.
 use mathlib.Core.Path.{_≡_, refl}
 use mathlib.Core.Bool.{Bool, cond, false, true}
-use Prim.Native.Nat.{ℕ, _<_}
+use Prim.Native.Nat.{ℕ}
 use native.Mathlib.Omega.{arith}
 use lib.Dec.{T, eqb, eqb-refl, eqb→eq, ltb, ltb→lt}
 use Rattle.booleans.specs.Laws.{both}
@@ -13,15 +13,7 @@ use Rattle.table.specs.Laws.Limits.{ranged-limits}
 use Rattle.triangular.specs.Triangular.{rule, triangular}
 use Rattle.evaluate.specs.Nodes.{Limit, Unlimited, AtMost, Most, Number, Plain, Symbol}
 use Rattle.evaluate.specs.Evaluate.{Values, allowed, amount, zeros}
-use Rattle.evaluate.specs.Evaluator.{looked, triangleIn}
-
--- u gives each symbol what v gives it
-abbrev pub Agree : (u v : Values) → Type 0
-Agree u v = (k : ℕ) → k < howManySymbols → u k ≡ v k
-
--- a limit comes to the same
-unfoldable pub alike : (u v : Values) → Most → Bool
-alike u v m = eqb (looked u m) (allowed v m)
+use Rattle.evaluate.specs.Evaluator.{Agree, alike, looked, triangleIn}
 
 module _ (u v : Values) (agree : Agree u v) where
   pub time-alike : (n : Number) → T (timeInRange n) → amount u n ≡ amount v n

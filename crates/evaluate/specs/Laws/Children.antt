@@ -17,14 +17,14 @@ use Rattle.lists.specs.Laws.Sums.{Falls, const-falls}
 use Rattle.lists.specs.Laws.Union.{expand-ever}
 use Rattle.evaluate.specs.Nodes.{Kind, Block, Sequence, Choice, Loop}
 use Rattle.evaluate.specs.Evaluate.{Values, start, join, before, fits, fitsIn, nameIn, amount, name, turns, list, seen, figure}
-use Rattle.evaluate.specs.Evaluator.{Found, found, evaluateMore, evaluateBelow}
+use Rattle.evaluate.specs.Evaluator.{Agree, Found, found, evaluateMore, evaluateBelow}
 use Rattle.evaluate.specs.Laws.Found.{Finds, Holds, known-finds, same-finds, found-holds, checked-finds, then-finds, joined-finds, round-finds}
 use Rattle.evaluate.specs.Laws.Joins.{join-zero, zero-join, join-assoc, join-left, join-right, rest-join}
 use Rattle.evaluate.specs.Laws.Monotone.{before-falls, nameIn-le, list-falls, turns-falls, join-falls}
 use Rattle.evaluate.specs.Laws.PairCount.{boundIn, bound}
 use Rattle.evaluate.specs.Laws.Ranges.{figure-most}
 use Rattle.evaluate.specs.Laws.Kinds.{grouped, by-rest}
-use Rattle.evaluate.specs.Laws.Alike.{Agree, time-alike}
+use Rattle.evaluate.specs.Laws.Alike.{time-alike}
 
 -- what the children after the first are joined to, and how
 pub rest-start : (v : Values) (k : Kind) → start v (rest k) ≡ const 0

@@ -23,7 +23,7 @@ use Rattle.lists.specs.Streams.{Stream, const}
 use Rattle.lists.specs.Laws.Pairs.{top-is}
 use Rattle.evaluate.specs.Nodes.{Kind, Node}
 use Rattle.evaluate.specs.Evaluate.{Values, before, name, list, figure, fits, start}
-use Rattle.evaluate.specs.Evaluator.{andThen, limited, evaluateBelow, evaluateNode, Found, found, evaluateMore}
+use Rattle.evaluate.specs.Evaluator.{Agree, alike, andThen, limited, evaluateBelow, evaluateNode, Found, found, evaluateMore}
 use Rattle.evaluate.specs.ListPairs.{listPairs}
 use Rattle.evaluate.specs.Laws.Children.{More, SoFar, rest-start, from-none, no-more, none-yet, below-finds, next-more}
 use Rattle.evaluate.specs.Laws.Found.{Holds, Finds, known-finds, same-finds, then-finds, limited-holds}
@@ -31,7 +31,6 @@ use Rattle.evaluate.specs.Laws.ListPairs.{pairs-are}
 use Rattle.evaluate.specs.Laws.PairCount.{bound, boundIn}
 use Rattle.evaluate.specs.Laws.Weight.{bound-weight, boundIn-weight}
 use Rattle.evaluate.specs.Laws.Kinds.{by-rest}
-use Rattle.evaluate.specs.Laws.Alike.{Agree, alike}
 use Rattle.table.specs.Limits.{everyLimit, everyLimitIn, everyMost}
 
 -- ---- with d loops around, what checking lets pass: a tree, and children of a node of kind k

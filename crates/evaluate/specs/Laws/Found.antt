@@ -18,11 +18,11 @@ use Rattle.lists.specs.Laws.Pairs.{members, first-top, are-pairs, top-is}
 use Rattle.lists.specs.Laws.Union.{merge-facts, expand-ever}
 use Rattle.evaluate.specs.Nodes.{Kind, Block, Sequence, Choice, Loop, Limit, Unlimited, AtMost}
 use Rattle.evaluate.specs.Evaluate.{join, outward, rounds, Values, amount, inner, seen, limit, turns, allowed}
-use Rattle.evaluate.specs.Evaluator.{Found, joinPairs, unfit, found, checked, joined, looped, goneRound, limited}
+use Rattle.evaluate.specs.Evaluator.{Agree, Found, alike, joinPairs, unfit, found, checked, joined, looped, goneRound, limited}
 use Rattle.evaluate.specs.Laws.PairCount.{own}
 use Rattle.evaluate.specs.Laws.Settled.{allowed-most, amount-most}
 use Rattle.evaluate.specs.Laws.Kinds.{grouped}
-use Rattle.evaluate.specs.Laws.Alike.{Agree, alike, count-alike, limit-alike}
+use Rattle.evaluate.specs.Laws.Alike.{count-alike, limit-alike}
 use Rattle.table.specs.Limits.{mostHolds}
 
 -- what a walk found is the stream f, with at most w falls, naming loop k, of n records

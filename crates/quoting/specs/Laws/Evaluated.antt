@@ -19,9 +19,8 @@ use Rattle.table.specs.Laws.Asking.{refused}
 use Rattle.table.specs.Laws.Refusal.{check-passes, check-stops}
 use Rattle.lists.specs.Pairs.{top, width, numbers}
 use Rattle.evaluate.specs.Evaluate.{Values, fits, valuesOf}
-use Rattle.evaluate.specs.Laws.Alike.{Agree, alike}
 use Rattle.evaluate.specs.ListPairs.{listPairs}
-use Rattle.evaluate.specs.Evaluator.{evaluateNode}
+use Rattle.evaluate.specs.Evaluator.{Agree, alike, evaluateNode}
 use Rattle.evaluate.specs.Laws.Evaluator.{Evaluated, evaluated-table}
 use Rattle.quoting.specs.declared.Quote.{Quote}
 use Rattle.quoting.specs.declared.Listed.{Listed}

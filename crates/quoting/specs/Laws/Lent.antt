@@ -18,9 +18,8 @@ use Rattle.table.specs.Laws.Limits.{each-follows, no-flag, ranged-limits, table
 use Rattle.triangular.specs.Triangular.{triangular}
 use Rattle.triangular.specs.Entries.{Triangles}
 use Rattle.evaluate.specs.Evaluate.{Values, allowed, valuesOf}
-use Rattle.evaluate.specs.Evaluator.{evaluateNode, looked, triangleIn}
+use Rattle.evaluate.specs.Evaluator.{Agree, alike, evaluateNode, looked, triangleIn}
 use Rattle.evaluate.specs.Shown.{Shows}
-use Rattle.evaluate.specs.Laws.Alike.{Agree, alike}
 use Rattle.evaluate.specs.declared.Valued.{Valued}
 use Rattle.quoting.specs.Lent.{Walked, flagFree}
 use Rattle.quoting.specs.Values.{question13, recordSmall, triangleSmall}
