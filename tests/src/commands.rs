@@ -170,7 +170,7 @@ esac"#;
 
 const CARGO: &str = r#"
 echo "cargo $*" >>"$HERE/calls"
-echo "tests ran${VOLEFLEECE_LIB_DIR-}${VOLEFLEECE_DESK-}${VOLEFLEECE_SALES-}"
+echo "tests ran${VOLEFLEECE_LIB_DIR-}${VOLEFLEECE_DESK-}${VOLEFLEECE_SALES-}${VOLEFLEECE_BEFORE-}"
 [ ! -e "$HERE/broken" ]"#;
 
 impl Repository {

@@ -109,7 +109,7 @@ fn arguments_are_counted() {
         ("simplify", &["samples/house", "1", "more"]),
         ("install", &[]),
         ("install", &["prefix", "more"]),
-        ("bench", &["more"]),
+        ("bench", &["archive", "more"]),
         ("test", &["more"]),
     ] {
         let ended = Ended::of(
@@ -132,6 +132,7 @@ fn empty_arguments_are_told() {
         ("simplify", &["samples/house", ""]),
         ("simplify", &["", "1"]),
         ("install", &[""]),
+        ("bench", &[""]),
     ] {
         let ended = Ended::of(
             copy.command(name)
@@ -568,6 +569,26 @@ fn the_benchmarks_are_of_what_is_built() {
     );
     assert_eq!(copy.run("bench").status, Some(0));
     assert_eq!(copy.calls()[3..], [benched]);
+}
+
+#[test]
+fn the_benchmark_compares_with_the_build_that_is_named() {
+    let copy = Repository::new("echo figure 1");
+    let desk = copy.path("target/bin/desk");
+    put(&copy.path("before.a"), "");
+    let bench = |arguments: &[&str]| {
+        let mut command = copy.command("bench");
+        let command = command.env("VOLEFLEECE_BEFORE", "elsewhere");
+        Ended::of(command.current_dir(copy.path(".")).args(arguments))
+    };
+    let before = copy.path("before.a");
+    let ran = |before: &str| format!("tests ran{}{before}\n", desk.display());
+    assert_eq!(
+        bench(&["before.a"]).output,
+        ran(before.to_str().expect("UTF-8"))
+    );
+    assert_eq!(bench(&[]).output, ran(""));
+    bench(&["missing.a"]).expect_message("missing.a: no such file");
 }
 
 // Installing.

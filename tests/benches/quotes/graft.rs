@@ -11,7 +11,8 @@ use volefleece_tests::trees;
 const PAIRS: usize = 16;
 const REPETITIONS: usize = 301;
 
-const SYMBOL: u64 = 16;
+/// The symbol that is grafted.
+pub const SYMBOL: u64 = 16;
 const LONGEST: usize = MOST_RECORDS * RECORD_BYTES;
 
 const HEADING: &str = "
@@ -39,7 +40,7 @@ pub fn measure() {
 
 /// What a result is made of.
 #[derive(Clone, Copy)]
-enum Parts {
+pub enum Parts {
     /// One place in a large host, and a small sent table.
     Host,
     /// One place in a small host, and a large sent table.
@@ -48,10 +49,10 @@ enum Parts {
     Many,
 }
 
-const PARTS: [Parts; 3] = [Parts::Host, Parts::Sent, Parts::Many];
+pub const PARTS: [Parts; 3] = [Parts::Host, Parts::Sent, Parts::Many];
 
 impl Parts {
-    fn name(self) -> &'static str {
+    pub fn name(self) -> &'static str {
         match self {
             Parts::Host => "host",
             Parts::Sent => "sent",
@@ -67,20 +68,32 @@ impl Parts {
             Parts::Many => (3, records / 8),
         }
     }
+
+    /// The host's records: each place adds the sent table and one record.
+    fn host(self, records: usize) -> usize {
+        let (sent, places) = self.sent_and_places(records);
+        records - places * (sent + 1)
+    }
 }
 
-struct Pair {
-    host: Vec<u8>,
-    sent: Vec<u8>,
+pub struct Pair {
+    pub host: Vec<u8>,
+    pub sent: Vec<u8>,
+}
+
+/// Pairs of which grafting makes tables of so many records, the same in every run.
+pub fn pairs(records: usize, parts: Parts) -> Vec<Pair> {
+    let (sent, places) = parts.sent_and_places(records);
+    let host = parts.host(records);
+    let mut rng = Rng::new(records as u64);
+    let pairs = std::iter::from_fn(|| Some(random_pair(&mut rng, host, sent, places))).flatten();
+    pairs.take(PAIRS).collect()
 }
 
 fn measure_pairs(records: usize, parts: Parts) {
     let (sent, places) = parts.sent_and_places(records);
-    // Each place adds the sent table and one record.
-    let host = records - places * (sent + 1);
-    let mut rng = Rng::new(records as u64);
-    let pairs = std::iter::from_fn(|| Some(random_pair(&mut rng, host, sent, places))).flatten();
-    let pairs: Vec<Pair> = pairs.take(PAIRS).collect();
+    let host = parts.host(records);
+    let pairs = pairs(records, parts);
     for pair in &pairs {
         assert_agreed(pair, records);
     }

@@ -2,9 +2,11 @@
 //! reader, the figure and list calls against reader and evaluator, simplifying and grafting against the
 //! second simplifier and grafter. Both sides start from bytes and are built for release, Rust without
 //! overflow checks. Then come the stack that the calls want and, where they are there, the desk program
-//! and `lp_solve` as processes.
+//! and `lp_solve` as processes. Where another build of the library is named, the calls are measured
+//! against that one instead.
 
 mod calls;
+mod compare;
 mod graft;
 mod processes;
 mod program;
@@ -16,6 +18,9 @@ mod timing;
 fn main() {
     if stack::is_probe() {
         return stack::probe();
+    }
+    if let Some(before) = compare::other_build() {
+        return compare::measure(&before);
     }
     calls::measure();
     println!();

@@ -41,7 +41,7 @@ pub fn measure() {
 }
 
 /// Tables of so many records that take some steps, the same in every run.
-fn redundant(records: usize) -> Vec<Vec<u8>> {
+pub fn redundant(records: usize) -> Vec<Vec<u8>> {
     let mut rng = Rng::new(records as u64);
     let random = || {
         let mut tree = trees::redundant(&mut rng, records);
@@ -55,7 +55,7 @@ fn redundant(records: usize) -> Vec<Vec<u8>> {
 
 /// Tables of so many records that take nearly as many steps. There cannot be more, as every step leaves
 /// fewer records, but for a limited block alone.
-fn zeros(records: usize) -> Vec<Vec<u8>> {
+pub fn zeros(records: usize) -> Vec<Vec<u8>> {
     let mut rng = Rng::new(records as u64);
     let blocks = records - 3;
     let mut table = || {

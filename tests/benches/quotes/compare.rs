@@ -1,0 +1,295 @@
+//! The calls of this build against those of another one, on the same tables in one run: what a change
+//! made faster or slower. Both need the same C interface.
+//!
+//! Where a build lies in memory alone makes it up to a sixth slower. So each is loaded four times, a
+//! quarter of a cache line further each time, and the means of the best times there are compared.
+
+use crate::graft;
+use crate::quote::{quotes, Limits, Quote, LIMITS, SIZES};
+use crate::simplify;
+use std::env;
+use std::ffi::{c_char, c_int, c_void, CStr, CString};
+use std::fs;
+use std::hint::black_box;
+use std::mem::transmute_copy;
+use std::path::Path;
+use std::process::Command;
+use std::rc::Rc;
+use std::time::{Duration, Instant};
+use volefleece_tests::ffi::{Checked, Figure, Grafted, Listed, Simplified};
+use volefleece_tests::format::{LIST_ROOM, MOST_RECORDS, RECORD_BYTES};
+
+const TABLES: usize = 16;
+const REPETITIONS: usize = 201;
+/// Simplifying takes much longer.
+const SIMPLIFYING_REPETITIONS: usize = 21;
+
+const LONGEST: usize = MOST_RECORDS * RECORD_BYTES;
+const CACHE_LINE: usize = 64;
+
+const THIS_BUILD: &str = concat!(
+    env!("CARGO_MANIFEST_DIR"),
+    "/../target/staticlib/libvolefleece.a"
+);
+
+/// The archive of another build, where there is one to compare this one with.
+pub fn other_build() -> Option<String> {
+    env::var("VOLEFLEECE_BEFORE").ok()
+}
+
+pub fn measure(before: &str) {
+    println!("Microseconds a call, before and now, and now's time by before's: means over four places in");
+    println!("memory of the best of {REPETITIONS} repetitions ({SIMPLIFYING_REPETITIONS} for simplifying) over {TABLES} tables.");
+    println!("\nrecords tables     call     |   before      now ratio");
+    let places = (0..CACHE_LINE).step_by(CACHE_LINE / 4);
+    let builds: Vec<[Build; 2]> = places
+        .map(|place| {
+            [
+                Build::load("before", before, place),
+                Build::load("now", THIS_BUILD, place),
+            ]
+        })
+        .collect();
+    let mut ratios: Vec<(&str, f64)> = Vec::new();
+    for records in SIZES {
+        for mut work in works(records) {
+            print!("{records:7} {:10} {:8} | ", work.tables, work.call);
+            match work.times(&builds) {
+                Some([before, now]) => {
+                    println!("{before:8.2} {now:8.2} {:5.2}", now / before);
+                    ratios.push((work.call, now / before));
+                }
+                None => println!("the answers differ"),
+            }
+        }
+    }
+    println!();
+    for call in ["check", "figure", "list", "simplify", "graft"] {
+        let of_call = ratios.iter().filter(|(name, _)| *name == call);
+        print_range(call, of_call.map(|&(_, ratio)| ratio).collect());
+    }
+}
+
+fn print_range(call: &str, ratios: Vec<f64>) {
+    let mean = ratios.iter().sum::<f64>() / ratios.len() as f64;
+    let least = ratios.iter().copied().fold(f64::INFINITY, f64::min);
+    let most = ratios.iter().copied().fold(0.0, f64::max);
+    println!("{call:8} {mean:.3} times as long on average, {least:.3} to {most:.3}");
+}
+
+/// One call on some tables.
+struct Work {
+    tables: &'static str,
+    call: &'static str,
+    repetitions: usize,
+    /// Makes the call on each table and answers the sum of what they answer.
+    run: Box<dyn FnMut(&Build) -> u64>,
+}
+
+impl Work {
+    /// The microseconds that a call takes on average, before and now, where both answer the same.
+    fn times(&mut self, builds: &[[Build; 2]]) -> Option<[f64; 2]> {
+        let mut sums = [Duration::ZERO; 2];
+        for pair in builds {
+            if (self.run)(&pair[0]) != (self.run)(&pair[1]) {
+                return None;
+            }
+            let mut best = [Duration::MAX; 2];
+            for _ in 0..self.repetitions {
+                for (build, best) in pair.iter().zip(&mut best) {
+                    let start = Instant::now();
+                    black_box((self.run)(build));
+                    *best = start.elapsed().min(*best);
+                }
+            }
+            for (sum, best) in sums.iter_mut().zip(best) {
+                *sum += best;
+            }
+        }
+        Some(sums.map(|sum| sum.as_secs_f64() * 1e6 / (builds.len() * TABLES) as f64))
+    }
+}
+
+fn works(records: usize) -> Vec<Work> {
+    let quotes = LIMITS.map(|limits| (limits, quotes(TABLES, records, limits).into()));
+    let quoting = quotes
+        .iter()
+        .flat_map(|(limits, quotes)| quoting(*limits, quotes));
+    let plain = quotes.iter().map(|(limits, quotes)| {
+        let tables = quotes.iter().map(|quote| quote.table.clone());
+        simplifying(limits.name(), tables.collect())
+    });
+    let made = [
+        simplifying("redundant", simplify::redundant(records)),
+        simplifying("zeros", simplify::zeros(records)),
+    ];
+    let grafting = graft::PARTS.map(|parts| grafting(records, parts));
+    quoting.chain(plain).chain(made).chain(grafting).collect()
+}
+
+fn quoting(limits: Limits, quotes: &Rc<[Quote]>) -> [Work; 3] {
+    let work = |call, run| Work {
+        tables: limits.name(),
+        call,
+        repetitions: REPETITIONS,
+        run,
+    };
+    let [checked, figured, listed] = [(); 3].map(|()| Rc::clone(quotes));
+    let mut out = [0; LIST_ROOM];
+    [
+        work(
+            "check",
+            Box::new(move |build| checked.iter().map(|q| build.check(&q.table)).sum()),
+        ),
+        work(
+            "figure",
+            Box::new(move |build| {
+                figured
+                    .iter()
+                    .map(|q| build.figure(&q.table, &q.values))
+                    .sum()
+            }),
+        ),
+        work(
+            "list",
+            Box::new(move |build| {
+                listed
+                    .iter()
+                    .map(|q| build.list(&q.table, &q.values, &mut out))
+                    .sum()
+            }),
+        ),
+    ]
+}
+
+fn simplifying(name: &'static str, tables: Vec<Vec<u8>>) -> Work {
+    let mut out = [0; LONGEST];
+    Work {
+        tables: name,
+        call: "simplify",
+        repetitions: SIMPLIFYING_REPETITIONS,
+        run: Box::new(move |build| tables.iter().map(|t| build.simplify(t, &mut out)).sum()),
+    }
+}
+
+fn grafting(records: usize, parts: graft::Parts) -> Work {
+    let pairs = graft::pairs(records, parts);
+    let mut out = [0; LONGEST];
+    Work {
+        tables: parts.name(),
+        call: "graft",
+        repetitions: REPETITIONS,
+        run: Box::new(move |build| {
+            let answers = pairs
+                .iter()
+                .map(|p| build.graft(&p.host, &p.sent, &mut out));
+            answers.sum()
+        }),
+    }
+}
+
+extern "C" {
+    fn dlopen(path: *const c_char, mode: c_int) -> *mut c_void;
+    fn dlsym(library: *mut c_void, name: *const c_char) -> *mut c_void;
+}
+
+/// To bind every name when the library is loaded.
+const RTLD_NOW: c_int = 2;
+
+/// A build's functions.
+struct Build {
+    check: unsafe extern "C" fn(*const u8, usize) -> Checked,
+    figure: unsafe extern "C" fn(*const u8, usize, *const u64, usize) -> Figure,
+    list: unsafe extern "C" fn(*const u8, usize, *const u64, usize, *mut u64, usize) -> Listed,
+    simplify: unsafe extern "C" fn(*const u8, usize, u64, *mut u8, usize) -> Simplified,
+    graft: unsafe extern "C" fn(*const u8, usize, *const u8, usize, u64, *mut u8, usize) -> Grafted,
+}
+
+impl Build {
+    /// Loads an archive's functions, so many bytes behind a cache line's start.
+    fn load(name: &str, archive: &str, place: usize) -> Build {
+        let folder = Path::new(env!("CARGO_TARGET_TMPDIR"));
+        let space = folder.join("space.s");
+        let library = folder.join(format!("{name}-{place}.so"));
+        // One line more, as the assembler warns of none at all.
+        let bytes = CACHE_LINE + place;
+        let lines =
+            format!(".section .note.GNU-stack,\"\",@progbits\n.text\n.p2align 6\n.skip {bytes}\n");
+        fs::write(&space, lines).expect("the assembler's file is written");
+        let linked = Command::new("cc")
+            .args(["-shared", "-nostdlib", "-o"])
+            .args([&library, &space])
+            .args(["-Wl,--whole-archive", archive, "-Wl,--no-whole-archive"])
+            .status();
+        assert!(
+            linked.is_ok_and(|status| status.success()),
+            "cc -shared {archive}"
+        );
+        let path = CString::new(library.to_str().expect("a path in UTF-8")).expect("no zero byte");
+        // SAFETY: the library runs nothing when it is loaded, and its functions have the header's types.
+        unsafe {
+            let library = dlopen(path.as_ptr(), RTLD_NOW);
+            assert!(!library.is_null(), "{path:?} is not loaded");
+            Build {
+                check: function(library, c"vf_check"),
+                figure: function(library, c"vf_figure"),
+                list: function(library, c"vf_list"),
+                simplify: function(library, c"vf_simplify"),
+                graft: function(library, c"vf_graft"),
+            }
+        }
+    }
+}
+
+/// A loaded library's function, of the type `F`.
+unsafe fn function<F>(library: *mut c_void, name: &CStr) -> F {
+    let found = dlsym(library, name.as_ptr());
+    assert!(!found.is_null(), "{name:?} is missing");
+    assert_eq!(size_of::<F>(), size_of_val(&found));
+    transmute_copy(&found)
+}
+
+// SAFETY, of each: the pointers and lengths are those of live slices, and only the one that is lent
+// mutably is written.
+impl Build {
+    fn check(&self, table: &[u8]) -> u64 {
+        let answer = unsafe { (self.check)(table.as_ptr(), table.len()) };
+        answer.refused + answer.records
+    }
+
+    fn figure(&self, table: &[u8], values: &[u64]) -> u64 {
+        let (values, count) = (values.as_ptr(), values.len());
+        let answer = unsafe { (self.figure)(table.as_ptr(), table.len(), values, count) };
+        answer.refused + answer.figure
+    }
+
+    fn list(&self, table: &[u8], values: &[u64], out: &mut [u64]) -> u64 {
+        let (values, count) = (values.as_ptr(), values.len());
+        let (out, room) = (out.as_mut_ptr(), out.len());
+        let answer = unsafe { (self.list)(table.as_ptr(), table.len(), values, count, out, room) };
+        answer.refused + answer.pairs
+    }
+
+    fn simplify(&self, table: &[u8], out: &mut [u8]) -> u64 {
+        let (out, room) = (out.as_mut_ptr(), out.len());
+        let answer = unsafe { (self.simplify)(table.as_ptr(), table.len(), u64::MAX, out, room) };
+        answer.refused + answer.length + answer.steps
+    }
+
+    fn graft(&self, host: &[u8], sent: &[u8], out: &mut [u8]) -> u64 {
+        let (sent, length) = (sent.as_ptr(), sent.len());
+        let (out, room) = (out.as_mut_ptr(), out.len());
+        let answer = unsafe {
+            (self.graft)(
+                host.as_ptr(),
+                host.len(),
+                sent,
+                length,
+                graft::SYMBOL,
+                out,
+                room,
+            )
+        };
+        answer.refused + answer.length
+    }
+}
