@@ -80,10 +80,11 @@ evaluateBelow v f Sequence n b = evaluateMore v f Sequence n b (found (ever 0) w
 evaluateBelow v f Choice n b = evaluateMore v f Choice n b (found (ever 0) wholeRun 0)
 evaluateBelow v f (Loop m) n b = evaluateMore v f (Loop m) n b (found (ever 0) wholeRun 0)
 
--- The walk is lent the values of all symbols and, behind them, triangular numbers: of symbol k, and 0 past the symbols. What a limit comes to, by these:
+-- The walk is lent the values of all symbols and, behind them, their triangular numbers. That of symbol k, or 0 past the symbols:
 unfoldable pub triangleIn : Values → ℕ → ℕ
 triangleIn u k = cond (ltb k howManySymbols) (u (howManySymbols + k)) 0
 
+-- what a limit comes to, by what is lent
 unfoldable pub looked : Values → Most → ℕ
 looked u (Most.Plain n) = n
 looked u (Most.Symbol k) = u k

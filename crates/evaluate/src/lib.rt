@@ -46,7 +46,8 @@ impl Valued {
 
 // ---- Numbers
 
-// The value of a symbol; one past the values counts 0, and so do all where simplifying lends none.
+// The number at a place of what is lent: the values of all symbols and, where a limit is under flag 4, their triangular numbers behind them. Past these it
+// is 0, and so are all where simplifying lends none.
 pub fn value_of(symbol: u64, values: &[u64]) -> u64
     ensures { λ r. ⌜ r ≡ getD (now (values .entry)) symbol 0 ⌝ }
 {

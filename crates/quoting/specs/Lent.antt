@@ -1,5 +1,4 @@
 -- What the walk of a table is lent: the values alone where no limit is under flag 4, else with their triangular numbers behind them.
-use mathlib.Core.Path.{_≡_}
 use mathlib.Core.Bool.{Bool}
 use mathlib.Core.List.{List}
 use Prim.Native.Nat.{ℕ}

@@ -8,10 +8,13 @@ use Rattle.table.specs.Trees.{Tree, node, Forest, nil, _▸_, rest, around}
 
 -- ---- whole-run limits of the sent tree then name the loop that is put around it
 
--- a limit of the sent tree, with d of that tree's loops around its node: the loop that is put around them all is the one after these
+-- the loop that a limit of the sent tree names, with d of that tree's loops around its node: the loop that is put around them all is the one after these
+abbrev pub renamedName : (name d : ℕ) → ℕ
+renamedName k d = cond (eqb k wholeRun) (suc d) k
+
 unfoldable pub renamedLimit : Limit → ℕ → Limit
 renamedLimit Unlimited d = Unlimited
-renamedLimit (AtMost k m) d = AtMost (cond (eqb k wholeRun) (suc d) k) m
+renamedLimit (AtMost k m) d = AtMost (renamedName k d) m
 
 unfoldable mutual
   pub rename : Tree → ℕ → Tree

@@ -4,8 +4,9 @@ use mathlib.Core.List.{List, [], _∷_, _++_}
 use Prim.Native.Nat.{ℕ, zero, suc, _+_, _-_}
 use lib.Dec.{eqb, leb}
 use lib.ListN.{drop, getD, length, set, take}
-use Rattle.table.specs.Numbers.{mostLoops, recordLength, wholeRun}
+use Rattle.table.specs.Numbers.{mostLoops, recordLength}
 use Rattle.table.specs.Table.{childByte, firstNode}
+use Rattle.splice.specs.Graft.{renamedName}
 use Rattle.splice.specs.Nodes.{Kind, Block, Sequence, Choice, Loop}
 
 -- Question 4's count of the trees that are wanted tells the loops around a record: where so many were wanted at a loop's record, its body ends where so
@@ -23,11 +24,7 @@ entered Sequence w ends = ends
 entered Choice w ends = ends
 entered (Loop n) w ends = cond (leb (suc (length ends)) mostLoops) (w ∷ ends) ends
 
--- the loop that byte 3 of a record names, renamed, with d loops around its node
-abbrev pub renamedName : (name d : ℕ) → ℕ
-renamedName k d = cond (eqb k wholeRun) (suc d) k
-
--- the first record of b, renamed so: no other byte changes
+-- the first record of b, with d loops around its node: byte 3 is renamed, and no other byte changes
 unfoldable pub renamedRecord : (d : ℕ) → List ℕ → List ℕ
 renamedRecord d b = set (take recordLength b) 3 (renamedName (getD b 3 0) d)
 

@@ -7,8 +7,8 @@ ghost use Rattle.table.specs.Numbers.{mostLoops, recordLength};
 ghost use Rattle.table.specs.Table.{decode, encode, firstNode, recordCount};
 ghost use Rattle.table.specs.Checking.{IsTable};
 ghost use Rattle.writing.specs.Records.{front};
-ghost use Rattle.splice.specs.Graft.{isSymbol, rename};
-ghost use Rattle.splice.specs.Renaming.{entered, renamedName, renamedRecord, stillAround, stack};
+ghost use Rattle.splice.specs.Graft.{isSymbol, rename, renamedName};
+ghost use Rattle.splice.specs.Renaming.{entered, renamedRecord, stillAround, stack};
 ghost use Rattle.splice.specs.Splice.{occursFirst, occurrencesIn, placeBytes, splice, spliceFirst, spliceRecords};
 use table::Kind;
 use table::Limit;
@@ -127,7 +127,7 @@ fn rename_next(
     let kind = node.kind;
     let around = still_around(ends, outer, wanted);
     writing::copy_records(sent, i, 1, out, i);
-    out[RECORD_LENGTH * i + 3] = renamed(table::name_at(sent, i), around);
+    writing::put_name(out, i, renamed(table::name_at(sent, i), around));
     enter(kind, ends, around, wanted)
 }
 

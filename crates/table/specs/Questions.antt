@@ -1,4 +1,4 @@
--- Questions 2 to 7 of document 01, of a tree.
+-- Questions 2, 3 and 5 to 7 of document 01, of a tree.
 use mathlib.Core.Bool.{Bool, true, _||_, cond}
 use Prim.Native.Nat.{ℕ, suc, max, _-_, _^_, _+_, _≤_}
 use lib.Dec.{leb, eqb, ltb, T}

@@ -2,7 +2,7 @@
 ghost use mathlib.Core.Path.{_≡_};
 ghost use mathlib.Core.List.{_++_};
 ghost use Prim.Native.Nat.{_*_, _+_, _-_, _≤_};
-ghost use lib.ListN.{length, take};
+ghost use lib.ListN.{length, set, take};
 ghost use Rattle.table.specs.Numbers.{recordLength};
 ghost use Rattle.table.specs.Table.{flag, kindByte, limitNum, loopByte, mostField, mostFlags, raw, recordBytes, recordCount, valueNum};
 ghost use Rattle.writing.specs.Over.{over};
@@ -180,6 +180,14 @@ fn put_record(out: &mut [u8], at: usize, bytes: [u8; RECORD_LENGTH]) -> usize
         k += 1;
     }
     at + 1
+}
+
+// Writes the loop that a limit names over that of the buffer's record `at`, and nothing else of the record.
+pub fn put_name(out: &mut [u8], at: usize, name: u8)
+    requires { ⌜ recordLength * (at + 1) ≤ length (now out) ⌝ }
+    ensures { λ _. ⌜ now (out .exit) ≡ set (now (out .entry)) (recordLength * at + 3) name ⌝ }
+{
+    out[RECORD_LENGTH * at + 3] = name;
 }
 
 // Puts the record of a node with so many children at the buffer's record `at`; answers the record after it. Every record that is not copied is

@@ -11,7 +11,7 @@ use Rattle.table.specs.Questions.{countInRange, listed, timeInRange}
 use Rattle.table.specs.Trees.{Tree}
 use Rattle.table.specs.Laws.Limits.{ranged-limits}
 use Rattle.triangular.specs.Triangular.{rule, triangular}
-use Rattle.evaluate.specs.Nodes.{Limit, Unlimited, AtMost, Most, Number, Plain, Symbol}
+use Rattle.evaluate.specs.Nodes.{AtMost, Most, Number, Plain, Symbol}
 use Rattle.evaluate.specs.Evaluate.{Values, allowed, amount, zeros}
 use Rattle.evaluate.specs.Evaluator.{Agree, alike, looked, triangleIn}
 

@@ -1,5 +1,5 @@
 -- The grafted figure equals the host's figure with the symbol set to the sent table's figure, on the figure call's answers.
-use mathlib.Core.Path.{_≡_, refl, ap, ap₂, sym, subst, _∙_}
+use mathlib.Core.Path.{_≡_, refl, ap, sym, subst, _∙_}
 use mathlib.Core.Bool.{Bool, true, false, cond}
 use mathlib.Core.List.{List, [], _∷_}
 use Prim.Native.Nat.{ℕ, zero, suc, _<_, _≤_, _+_}
@@ -20,7 +20,6 @@ use Rattle.evaluate.specs.Laws.Ranges.{figure-most}
 use Rattle.quoting.specs.Values.{ceiling, question13, question9, ranged, triangleSmall}
 use Rattle.quoting.specs.Answers.{checkAnswer, figureAnswer, quotedFigure, quotedRefusal}
 use Rattle.quoting.specs.declared.Checked.{Checked}
-use Rattle.quoting.specs.declared.Quote.{Quote}
 use Rattle.quoting.specs.Laws.Figures.{figure-asked, figure-is, figured}
 use Rattle.quoting.specs.Laws.Values.{thirteen-limits, values-carry, values-nine, values-thirteen}
 use Rattle.splice.specs.Graft.{graft, uses}

@@ -2,14 +2,12 @@
 use mathlib.Core.Path.{_≡_, refl, ap, sym, subst, _∙_}
 use mathlib.Core.Bool.{cond, true}
 use mathlib.Core.List.{List}
-use Prim.Native.Nat.{ℕ, _+_, _<_}
+use Prim.Native.Nat.{ℕ, _+_}
 use native.Mathlib.Omega.{arith}
 use lib.Dec.{T, eqb, eqb-refl, ltb, ltb→lt}
 use lib.ListN.{getD, length}
 use borrow.Author.Tests.{eq-eqb, lt-ltb}
-use Rattle.booleans.specs.Laws.{is-T, T-is}
-use Rattle.table.specs.Checking.{IsTable}
-use Rattle.table.specs.Limits.{everyMost}
+use Rattle.booleans.specs.Laws.{is-T}
 use Rattle.table.specs.Numbers.{firstTimeSymbol, howManySymbols, howManyValues, mostDepth}
 use Rattle.table.specs.Questions.{mostInRange}
 use Rattle.table.specs.Table.{decode, recordCount}
@@ -22,11 +20,12 @@ use Rattle.evaluate.specs.Evaluator.{Agree, alike, evaluateNode, looked, triang
 use Rattle.evaluate.specs.Shown.{Shows}
 use Rattle.evaluate.specs.declared.Valued.{Valued}
 use Rattle.quoting.specs.Lent.{Walked, flagFree}
-use Rattle.quoting.specs.Values.{question13, recordSmall, triangleSmall}
+use Rattle.quoting.specs.Values.{question13}
+use Rattle.quoting.specs.Laws.Values.{small-unflagged}
 
 pub free-small : (b vs : List ℕ) → flagFree b ≡ true → question13 b vs ≡ true
-unfolding flagFree question13 recordSmall triangleSmall
-free-small b vs e = each-follows _ _ (no-flag (triangleSmall (valuesOf vs)) (λ n. refl) (λ s. refl)) (recordCount b) b e
+unfolding flagFree question13
+free-small b vs e = each-follows _ _ (small-unflagged (valuesOf vs)) (recordCount b) b e
 
 -- ---- what is lent
 

@@ -19,14 +19,8 @@ name-at-requires c κs = search needs
 renamed-requires : tie.Need-renamed-requires
 renamed-requires c κs = search needs
 
-mul-out : tie.Need-mul-out
-mul-out c = search needs
-
-add-out : tie.Need-add-out
-add-out c = search needs
-
-slice-write-out : tie.Need-slice-write-out
-slice-write-out c = search needs
+put-name-requires : tie.Need-put-name-requires
+put-name-requires c κs = search needs
 
 enter-requires : tie.Need-enter-requires
 enter-requires c κs = search needs
@@ -40,13 +34,14 @@ same-length-2 c = search needs
 returns : tie.Need-returns
 returns c =
     let enter = c .before .before in
-    let name = enter .before .before in
-    let copy = name .before .before .before .before in
+    let put = enter .before .before .before .before in
+    let name = put .before in
+    let copy = name .before .before .before .before .before in
     let around = copy .before .before in
     let node = around .before .before in
     let start = node .before .before .before .before in (
       enters _ _ _ _ _ _ _ _ (node .node-at .ensures) (around .still-around .ensures .0) (enter .enter .ensures),
-      one-renamed _ _ _ _ _ _ _ _ _ _ _ (around .still-around .ensures .0) (omega (arith, start .pre)) (copy .copy-records .ensures) (name .before .name-at .ensures) (name .renamed .ensures),
+      rw (put .put-name .ensures) (one-renamed _ _ _ _ _ _ _ _ _ _ _ (around .still-around .ensures .0) (omega (arith, start .pre)) (copy .copy-records .ensures) (name .before .name-at .ensures) (name .renamed .ensures)),
     )
 
 pub rename-next-spec : {M : Type 1} → statement M
@@ -58,9 +53,7 @@ rename-next-spec =
     copy-records-requires
     name-at-requires
     renamed-requires
-    mul-out
-    add-out
-    slice-write-out
+    put-name-requires
     enter-requires
     same-length
     same-length-2

@@ -24,8 +24,8 @@ use Rattle.table.specs.Laws.Survey.{around-rest}
 use Rattle.table.specs.Laws.Trees.{some-loops}
 use Rattle.writing.specs.Records.{front, nodeOf, slice}
 use Rattle.splice.specs.Nodes.{AtMost, Block, Choice, Kind, Limit, Loop, Node, Sequence, Unlimited}
-use Rattle.splice.specs.Graft.{rename, renameIn, renamedLimit}
-use Rattle.splice.specs.Renaming.{entered, loopRoom, renamedName, renamedRecord, renamedRecords, stillAround, stack}
+use Rattle.splice.specs.Graft.{rename, renameIn, renamedLimit, renamedName}
+use Rattle.splice.specs.Renaming.{entered, loopRoom, renamedRecord, renamedRecords, stillAround, stack}
 use Rattle.splice.specs.Laws.Sizes.{size-renamed}
 use Rattle.table.specs.Laws.Tables.{count-is, whole-table}
 

@@ -1,5 +1,4 @@
 -- The arms of 0 and 1 compute; any other flags are a triangular number's.
-use borrow.Author.Needs.{needs}
 use Rattle.table.specs.Table.{mostFrom}
 use Rattle.table.specs.Laws.Reading.{is-triangular}
 use Rattle.table.proofs.most_from.Statement.{statement}

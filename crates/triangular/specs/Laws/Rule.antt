@@ -1,6 +1,6 @@
 -- The n-th triangular number is n more than the one before it, so they rise.
 use mathlib.Core.Path.{_≡_, ap}
-use Prim.Native.Nat.{ℕ, suc, _+_, _*_, _/_, _≤_, _<_, min}
+use Prim.Native.Nat.{ℕ, suc, _+_, _*_, _≤_, _<_, min}
 use native.Mathlib.Nat.{mul-add, add-mul, mul-le-mul}
 use native.Mathlib.Omega.{arith}
 use Rattle.triangular.specs.Triangular.{mostTriangular, rule, triangular}
