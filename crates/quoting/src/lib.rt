@@ -120,7 +120,7 @@ fn flag_free(table: &[u8]) -> bool
     let mut i: usize = 0;
     while i < n {
         let at = RECORD_LENGTH * i;
-        // Before the test the loop compiles to half the instructions.
+        // Before the test, so that the loop compiles to fewer instructions.
         i += 1;
         if !table::without_four(&table[at..]) {
             return false;
