@@ -22,25 +22,23 @@ use table::Node;
 use table::Number;
 use table::RECORD_LENGTH;
 use table::WHOLE_RUN;
+use words::Comparison;
 
 // ---- Rule 8
 
-// Are the n records from record a on the same, byte for byte, as those from record b on?
+// Are the n records from record a on the same, byte for byte, as those from record b on? A record is two words.
 fn same_records(table: &[u8], a: usize, b: usize, n: usize) -> bool
     requires { ⌜ (recordLength * (a + n) ≤ length (now table)) × (recordLength * (b + n) ≤ length (now table)) ⌝ }
     ensures { λ r. ⌜ r ≡ sameBytes (slice (now (table .entry)) a n) (slice (now (table .entry)) b n) ⌝ }
 {
     let one = RECORD_LENGTH * a;
     let other = RECORD_LENGTH * b;
-    let end = RECORD_LENGTH * n;
-    let mut k = 0;
-    while k < end {
-        if table[one + k] != table[other + k] {
-            return false;
-        }
-        k += 1;
+    let size = RECORD_LENGTH * n;
+    let compared = words::compare(&table[one..one + size], &table[other..other + size]);
+    match compared {
+        Comparison::Differ(_) => false,
+        Comparison::Equal => true,
     }
-    true
 }
 
 // Are the subtrees at records a and b the same?

@@ -11,6 +11,7 @@ mod graft;
 mod processes;
 mod program;
 mod quote;
+mod shared;
 mod simplify;
 mod stack;
 mod timing;

@@ -1,6 +1,7 @@
 //! The simplifying call against plain Rust.
 
 use crate::quote::{quotes, LIMITS, SIZES};
+use crate::shared;
 use crate::timing::{each, median, microseconds};
 use volefleece_tests::ffi;
 use volefleece_tests::format::{MOST_RECORDS, RECORD_BYTES};
@@ -38,6 +39,12 @@ pub fn measure() {
         measure_tables(records, "redundant", &redundant(records));
         measure_tables(records, "zeros", &zeros(records));
     }
+    for shape in shared::SHAPES {
+        for seconds in shared::SECONDS {
+            let tables = shared::tables(TABLES, shape, seconds);
+            measure_tables(tables[0].len() / RECORD_BYTES, seconds.name(), &tables);
+        }
+    }
 }
 
 /// Tables of so many records that take some steps, the same in every run.
@@ -48,9 +55,14 @@ pub fn redundant(records: usize) -> Vec<Vec<u8>> {
         trees::drop_triangles(&mut tree);
         tree.encode()
     };
-    let takes_steps = |table: &Vec<u8>| second(table).steps >= records as u64 / 8;
-    let tables = std::iter::repeat_with(random).filter(takes_steps);
+    let tables = std::iter::repeat_with(random);
+    let tables = tables.filter(|table| takes_steps(table, records as u64 / 8));
     tables.take(TABLES).collect()
+}
+
+/// Does simplifying take so many steps at the least?
+pub fn takes_steps(table: &[u8], steps: u64) -> bool {
+    second(table).steps >= steps
 }
 
 /// Tables of so many records that take nearly as many steps. There cannot be more, as every step leaves

@@ -4,11 +4,9 @@ use mathlib.Core.Bool.{Bool, true, false, not, cond, _&&_, _||_}
 use mathlib.Core.List.{List, [], _∷_, _++_, append-assoc, append-nil}
 use mathlib.Core.Option.{none, some}
 use Prim.Native.Nat.{ℕ, suc, _+_, _*_, _-_, _<_, _≤_}
-use native.Mathlib.Numerals.{add-one}
 use native.Mathlib.Omega.{arith}
 use lib.Dec.{T, eqb, eqb→eq, eqb-refl, leb, leb→le, ltb}
-use lib.ListN.{drop, getD, length, length-drop, length-take}
-use lib.Seq.{drop-cons, drop-length, getD-drop, getD-take}
+use lib.ListN.{drop, getD, length, length-drop, length-take, take}
 use borrow.Author.Tests.{eq-eqb, le-leb, lt-leb, ltb-false, ltb-true, ne-eqb, not-false, not-true}
 use Rattle.booleans.specs.Laws.{T-is, and-false, and-is, both, is-T, join-and, same-test}
 use Rattle.booleans.specs.Tests.{_and_}
@@ -17,6 +15,9 @@ use Rattle.simplify.specs.Rules.{allPairs, children, firstOf, firsts, headOf, i
 use Rattle.simplify.specs.Same.{same, sameKind}
 use Rattle.simplify.specs.Steps.{also}
 use Rattle.simplify.specs.Laws.Same.{bytes-same, same-is}
+use Rattle.words.specs.Words.{Compared, SameWords, word}
+use Rattle.words.specs.declared.Comparison.{Comparison}
+use Rattle.words.specs.declared.Comparison.the-variants.{Differ, Equal}
 use Rattle.table.specs.Numbers.{recordLength}
 use Rattle.table.specs.Table.{childByte, encode, encodes, firstNode, recordBytes, recordCount}
 use Rattle.table.specs.Trees.{Forest, Tree, nil, node, _▸_, _⧺_, records, recordsIn, size}
@@ -37,7 +38,7 @@ use Rattle.writing.specs.Records.{front, nodeOf, slice}
 use Rattle.rewrite.specs.Wrote.{Wrote, ruleAt}
 use Rattle.rewrite.specs.Laws.Records.{some-yes, subtree-bytes, subtree-sound, two-at, unfit-at, wrote-as, zero-is, zero-no}
 
--- ---- bytes compared one by one
+-- ---- records compared by words
 
 bytes-are : (b c : List ℕ) → T (sameBytes b c) → b ≡ c
 unfolding sameBytes
@@ -51,52 +52,40 @@ unfolding sameBytes
 bytes-self [] = tt
 bytes-self (x ∷ b) = join-and _ _ (eqb-refl x) (bytes-self b)
 
--- what is left of the comparison of the n records from records i and j on, after k bytes
-pub record Compared (b : List ℕ) (i j n k : ℕ) : Type 0 where
-  pub within : k ≤ recordLength * n
-  pub left : sameBytes (slice b i n) (slice b j n) ≡ sameBytes (drop k (slice b i n)) (drop k (slice b j n))
+never : (x : Bool) → (T x → ⊥) → false ≡ x
+never true f = absurd (f tt)
+never false f = refl
 
 slice-long : (b : List ℕ) (i n : ℕ) → recordLength * (i + n) ≤ length b → length (slice b i n) ≡ recordLength * n
 slice-long b i n l = rw (length-take, length-drop) (omega arith)
 
-slice-more : (b : List ℕ) (i n k : ℕ) → recordLength * (i + n) ≤ length b → k < recordLength * n
-    → drop k (slice b i n) ≡ getD b (recordLength * i + k) 0 ∷ drop (suc k) (slice b i n)
-slice-more b i n k l m =
-    drop-cons (slice b i n) k 0 (rw (slice-long b i n l) m) ∙ rw (getD-take (recordLength * n) (drop (recordLength * i) b) k 0 m, getD-drop) refl
+-- a table's part of n records, as it is lent
+abbrev pub part : List ℕ → ℕ → ℕ → List ℕ
+part b i n = take (recordLength * i + recordLength * n - recordLength * i) (drop (recordLength * i) b)
 
-compare-step : (b : List ℕ) (i j n k : ℕ) → recordLength * (i + n) ≤ length b → recordLength * (j + n) ≤ length b → k < recordLength * n → Compared b i j n k
-    → sameBytes (slice b i n) (slice b j n) ≡ (eqb (getD b (recordLength * i + k) 0) (getD b (recordLength * j + k) 0) and sameBytes (drop (suc k) (slice b i n)) (drop (suc k) (slice b j n)))
-unfolding sameBytes
-compare-step b i j n k l m h c = c .left ∙ rw (slice-more b i n k l h, slice-more b j n k m h) refl
+part-is : (b : List ℕ) (i n : ℕ) → part b i n ≡ slice b i n
+part-is b i n =
+    let e : recordLength * i + recordLength * n - recordLength * i ≡ recordLength * n = omega arith in
+    ap (λ k. take k (drop (recordLength * i) b)) e
 
-pub none-compared : (b : List ℕ) (i j n : ℕ) → Compared b i j n 0
-none-compared b i j n = record { within = omega arith; left = refl }
+module _ (b : List ℕ) (i j n : ℕ) where
+  -- n records, and so a subtree, are a whole number of words
+  pub whole-words : recordLength * (i + n) ≤ length b → recordLength * (j + n) ≤ length b → SameWords (part b i n) (part b j n)
+  whole-words l m = rw (part-is b i n, part-is b j n) (slice-long b i n l ∙ sym (slice-long b j n m), omega (arith, slice-long b i n l))
 
-pub byte-same : (b : List ℕ) (i j n k : ℕ) → recordLength * (i + n) ≤ length b → recordLength * (j + n) ≤ length b → k < recordLength * n → Compared b i j n k
-    → getD b (recordLength * i + k) 0 ≡ getD b (recordLength * j + k) 0 → Compared b i j n (k + 1)
-unfolding _and_
-byte-same b i j n k l m h c e = record { within = omega arith; left = compare-step b i j n k l m h c ∙ rw (eq-eqb (getD b (recordLength * i + k) 0) (getD b (recordLength * j + k) 0) e, add-one) refl }
+  pub words-same : {r : Comparison} → Compared (part b i n) (part b j n) r → r ≡ Equal → true ≡ sameBytes (slice b i n) (slice b j n)
+  unfolding Compared
+  words-same h e =
+      let q : part b i n ≡ part b j n = subst (Compared (part b i n) (part b j n)) e h in
+      sym (T-is _ (subst (λ x. T (sameBytes (slice b i n) x)) (sym (part-is b i n) ∙ q ∙ part-is b j n) (bytes-self (slice b i n))))
 
-pub byte-other : (b : List ℕ) (i j n k : ℕ) → recordLength * (i + n) ≤ length b → recordLength * (j + n) ≤ length b → k < recordLength * n → Compared b i j n k
-    → (getD b (recordLength * i + k) 0 ≡ getD b (recordLength * j + k) 0 → ⊥) → false ≡ sameBytes (slice b i n) (slice b j n)
-unfolding _and_
-byte-other b i j n k l m h c e = sym (compare-step b i j n k l m h c ∙ rw (ne-eqb (getD b (recordLength * i + k) 0) (getD b (recordLength * j + k) 0) e) refl)
-
-slice-end : (b : List ℕ) (i n k : ℕ) → recordLength * (i + n) ≤ length b → k ≡ recordLength * n → drop k (slice b i n) ≡ []
-slice-end b i n k l e = ap (λ m. drop m (slice b i n)) (e ∙ sym (slice-long b i n l)) ∙ drop-length (slice b i n)
-
-pub all-compared : (b : List ℕ) (i j n k : ℕ) → recordLength * (i + n) ≤ length b → recordLength * (j + n) ≤ length b → recordLength * n ≤ k → Compared b i j n k
-    → true ≡ sameBytes (slice b i n) (slice b j n)
-unfolding sameBytes
-all-compared b i j n k l m h c =
-    let e : k ≡ recordLength * n = omega (arith, c .within) in
-    sym (c .left ∙ rw (slice-end b i n k l e, slice-end b j n k m e) refl)
+  pub words-other : {r : Comparison} {k : ℕ} → Compared (part b i n) (part b j n) r → r ≡ Differ k → false ≡ sameBytes (slice b i n) (slice b j n)
+  unfolding Compared
+  words-other {k = k} h e =
+      let d : Compared (part b i n) (part b j n) (Differ k) = subst (Compared (part b i n) (part b j n)) e h in
+      never _ (λ t. d .1 (ap (word k) (part-is b i n ∙ bytes-are (slice b i n) (slice b j n) t ∙ sym (part-is b j n))))
 
 -- ---- two subtrees compared
-
-never : (x : Bool) → (T x → ⊥) → false ≡ x
-never true f = absurd (f tt)
-never false f = refl
 
 module _ (b extents : List ℕ) (s : Extents b extents) (i j : ℕ) (l : i < recordCount b) (m : j < recordCount b) where
   -- they differ in how many records they have

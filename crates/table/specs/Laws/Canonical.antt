@@ -91,7 +91,7 @@ bytes-take (suc n) (x ∷ xs) h zero = h 0
 bytes-take (suc n) (x ∷ xs) h (suc i) = bytes-take n xs (λ j. h (suc j)) i
 
 -- a field written back
-field-back : (b : List ℕ) (i n : ℕ) → AreBytes b → i + n ≤ length b → toBytes n (field b i n) ≡ take n (drop i b)
+pub field-back : (b : List ℕ) (i n : ℕ) → AreBytes b → i + n ≤ length b → toBytes n (field b i n) ≡ take n (drop i b)
 field-back b i n h l =
     let w : length (take n (drop i b)) ≡ n = length-take-le n (drop i b) (rw length-drop (omega arith)) in
     ap (λ k. toBytes k (fromBytes (take n (drop i b)))) (sym w) ∙ to-from (take n (drop i b)) (bytes-take n _ (bytes-drop b i h))
