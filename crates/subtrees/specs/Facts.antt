@@ -80,12 +80,16 @@ childIn body s n y k r = record {
 abbrev pub marksEach : ℕ
 marksEach = 4
 
--- of record j: whether it has a symbol, the loop that its list names, the outermost that a limit names, and that without its own limit
-pub record MarkedAt (b marks : List ℕ) (j : ℕ) : Type 0 where
-  pub symbols : getD marks (marksEach * j) 0 ≡ symbols (subtree b j)
-  pub named : getD marks (marksEach * j + 1) 0 ≡ name (subtree b j)
-  pub reach : getD marks (marksEach * j + 2) 0 ≡ reach (subtree b j)
-  pub below : getD marks (marksEach * j + 3) 0 ≡ reachBelow (subtree b j)
+-- of a tree, at place k: whether it has a symbol, the loop that its list names, the outermost that a limit names, and that without its own limit
+pub record Marked (t : Tree) (marks : List ℕ) (k : ℕ) : Type 0 where
+  pub symbols : getD marks (marksEach * k) 0 ≡ symbols t
+  pub named : getD marks (marksEach * k + 1) 0 ≡ name t
+  pub reach : getD marks (marksEach * k + 2) 0 ≡ reach t
+  pub below : getD marks (marksEach * k + 3) 0 ≡ reachBelow t
+
+-- of record j
+abbrev pub MarkedAt : List ℕ → List ℕ → ℕ → Type 0
+MarkedAt b marks j = Marked (subtree b j) marks j
 
 -- how many records each subtree has
 pub record Extents (b extents : List ℕ) : Type 0 where
@@ -102,3 +106,38 @@ pub record Surveyed (b extents marks : List ℕ) : Type 0 where
 pub record Known (b extents marks : List ℕ) (i : ℕ) : Type 0 where
   pub sizes : (j : ℕ) → i ≤ j → j < recordCount b → getD extents j 0 ≡ records (subtree b j)
   pub each : (j : ℕ) → i ≤ j → j < recordCount b → MarkedAt b marks j
+
+-- ---- the facts kept while a table changes
+
+-- at place j of the one and place k of the other the same facts stand
+pub record SameFacts (extents marks : List ℕ) (j : ℕ) (extents' marks' : List ℕ) (k : ℕ) : Type 0 where
+  pub size : getD extents' k 0 ≡ getD extents j 0
+  pub symbols : getD marks' (marksEach * k) 0 ≡ getD marks (marksEach * j) 0
+  pub named : getD marks' (marksEach * k + 1) 0 ≡ getD marks (marksEach * j + 1) 0
+  pub reach : getD marks' (marksEach * k + 2) 0 ≡ getD marks (marksEach * j + 2) 0
+  pub below : getD marks' (marksEach * k + 3) 0 ≡ getD marks (marksEach * j + 3) 0
+
+-- before place i nothing changes
+abbrev pub Unchanged : ℕ → (extents marks extents' marks' : List ℕ) → Type 0
+Unchanged i extents marks extents' marks' = (j : ℕ) → j < i → SameFacts extents marks j extents' marks' j
+
+-- n records' facts stand from place `to` on as they stood from place `from` on
+abbrev pub Moved : (from to n : ℕ) (extents marks extents' marks' : List ℕ) → Type 0
+Moved from to n extents marks extents' marks' = (k : ℕ) → k < n → SameFacts extents marks (from + k) extents' marks' (to + k)
+
+-- at place k stand a tree's own facts
+abbrev pub Own : Tree → (extents marks : List ℕ) → ℕ → Type 0
+Own t extents marks k = (getD extents k 0 ≡ records t) × Marked t marks k
+
+-- those of each record before `at`, where what stands there as its extent ends at `at` or before
+abbrev pub OwnBefore : (b extents marks : List ℕ) (at i : ℕ) → Type 0
+OwnBefore b extents marks at i = (j : ℕ) → j < i → j + getD extents j 0 ≤ at → Own (subtree b j) extents marks j
+
+-- What is known of a table that changed from record `at` on, but for its last `rest` records: the facts of those stand from place `end` on, and before
+-- `at` only those of the nodes around the change are others.
+pub record Outdated (b extents marks : List ℕ) (at end rest : ℕ) : Type 0 where
+  pub changed : at + rest ≤ recordCount b
+  pub fewer : recordCount b ≤ end + rest
+  pub room : (end + rest ≤ length extents) × (marksEach * (end + rest) ≤ length marks)
+  pub behind : (k : ℕ) → k < rest → Own (subtree b (recordCount b - rest + k)) extents marks (end + k)
+  pub before : OwnBefore b extents marks at at

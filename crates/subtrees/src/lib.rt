@@ -7,7 +7,7 @@ ghost use Rattle.table.specs.Numbers.{mostRecords};
 ghost use Rattle.table.specs.Table.{recordCount};
 ghost use Rattle.table.specs.Checking.{IsTable};
 ghost use Rattle.subtrees.specs.Parts.{treesAt};
-ghost use Rattle.subtrees.specs.Facts.{Known, Surveyed, belowAt, childIn, isLoop, marksEach, outer};
+ghost use Rattle.subtrees.specs.Facts.{Known, Moved, Outdated, OwnBefore, Surveyed, Unchanged, belowAt, childIn, isLoop, marksEach, outer};
 ghost use Rattle.subtrees.specs.Marks.{limitedName, marked};
 use table::Kind;
 use table::RECORD_LENGTH;
@@ -170,6 +170,7 @@ fn mark_record(table: &[u8], i: usize, extents: &mut [usize], marks: &mut [u8])
     requires { ⌜ IsTable (now table) ⌝ ∗ ⌜ i < recordCount (now table) ⌝ ∗ ⌜ Known (now table) (now extents) (now marks) (i + 1) ⌝ }
     requires { ⌜ (recordCount (now table) ≤ length (now extents)) × (marksEach * recordCount (now table) ≤ length (now marks)) ⌝ }
     ensures { λ _. ⌜ Known (now (table .entry)) (now (extents .exit)) (now (marks .exit)) i ⌝ }
+    ensures { λ _. ⌜ Unchanged i (now (extents .entry)) (now (marks .entry)) (now (extents .exit)) (now (marks .exit)) ⌝ }
 {
     let below = below_of(table, i, extents, marks);
     let name = table::name_at(table, i);
@@ -180,14 +181,80 @@ fn mark_record(table: &[u8], i: usize, extents: &mut [usize], marks: &mut [u8])
     put_marks(marks, i, symbols, named, reach, below.reach);
 }
 
-// The facts of every record: one pass from the last to the first, in which each record is read once for itself and once as a child.
+// Keeps those of the records from `at` up to `end`, from the last to the first: each record is read once for itself and once as a child.
+fn mark_records(table: &[u8], at: usize, end: usize, extents: &mut [usize], marks: &mut [u8])
+    requires { ⌜ IsTable (now table) ⌝ ∗ ⌜ (at ≤ end) × (end ≤ recordCount (now table)) ⌝ ∗ ⌜ Known (now table) (now extents) (now marks) end ⌝ }
+    requires { ⌜ (recordCount (now table) ≤ length (now extents)) × (marksEach * recordCount (now table) ≤ length (now marks)) ⌝ }
+    ensures { λ _. ⌜ Known (now (table .entry)) (now (extents .exit)) (now (marks .exit)) at ⌝ }
+    ensures { λ _. ⌜ Unchanged at (now (extents .entry)) (now (marks .entry)) (now (extents .exit)) (now (marks .exit)) ⌝ }
+{
+    let mut i = end;
+    while at < i {
+        i -= 1;
+        mark_record(table, i, extents, marks);
+    }
+}
+
+// The facts of every record.
 pub fn survey(table: &[u8], extents: &mut [usize], marks: &mut [u8])
     requires { ⌜ IsTable (now table) ⌝ ∗ ⌜ (recordCount (now table) ≤ length (now extents)) × (marksEach * recordCount (now table) ≤ length (now marks)) ⌝ }
     ensures { λ _. ⌜ Surveyed (now (table .entry)) (now (extents .exit)) (now (marks .exit)) ⌝ }
 {
-    let mut i = table.len() / RECORD_LENGTH;
+    mark_records(table, 0, table.len() / RECORD_LENGTH, extents, marks);
+}
+
+// ---- Records of a table that changed
+
+// Moves the facts of n records from place `from` on to place `to` and on, which is not behind it.
+fn move_facts(from: usize, to: usize, n: usize, extents: &mut [usize], marks: &mut [u8])
+    requires { ⌜ (to ≤ from) × (from + n ≤ length (now extents)) × (marksEach * (from + n) ≤ length (now marks)) ⌝ }
+    ensures { λ _. ⌜ Moved from to n (now (extents .entry)) (now (marks .entry)) (now (extents .exit)) (now (marks .exit)) ⌝ }
+    ensures { λ _. ⌜ Unchanged to (now (extents .entry)) (now (marks .entry)) (now (extents .exit)) (now (marks .exit)) ⌝ }
+{
+    let mut k = 0;
+    while k < n {
+        let here = from + k;
+        let m = MARKS * here;
+        let symbols = marks[m];
+        let named = marks[m + NAME];
+        let reach = marks[m + REACH];
+        let below = marks[m + REACH_BELOW];
+        extents[to + k] = extents[here];
+        put_marks(marks, to + k, symbols, named, reach, below);
+        k += 1;
+    }
+}
+
+// Keeps the facts of the nodes around record `at`: where what stands as a record's extent reaches no further, it and its marks are still right.
+fn mark_around(table: &[u8], at: usize, extents: &mut [usize], marks: &mut [u8])
+    requires { ⌜ IsTable (now table) ⌝ ∗ ⌜ at ≤ recordCount (now table) ⌝ ∗ ⌜ Known (now table) (now extents) (now marks) at ⌝ ∗ ⌜ OwnBefore (now table) (now extents) (now marks) at at ⌝ }
+    requires { ⌜ (recordCount (now table) ≤ length (now extents)) × (marksEach * recordCount (now table) ≤ length (now marks)) ⌝ }
+    ensures { λ _. ⌜ Surveyed (now (table .entry)) (now (extents .exit)) (now (marks .exit)) ⌝ }
+{
+    let mut i = at;
     while 0 < i {
         i -= 1;
-        mark_record(table, i, extents, marks);
+        if at - i < extents[i] {
+            mark_record(table, i, extents, marks);
+        }
     }
+}
+
+// The facts of every record of a table that changed from record `at` on, but for its last `rest` records, whose facts stand from place `end` on. Only the
+// changed records are read again and the nodes around them.
+pub fn resurvey(
+    table: &[u8],
+    at: usize,
+    end: usize,
+    rest: usize,
+    extents: &mut [usize],
+    marks: &mut [u8],
+)
+    requires { ⌜ IsTable (now table) ⌝ ∗ ⌜ Outdated (now table) (now extents) (now marks) at end rest ⌝ }
+    ensures { λ _. ⌜ Surveyed (now (table .entry)) (now (extents .exit)) (now (marks .exit)) ⌝ }
+{
+    let first = table.len() / RECORD_LENGTH - rest;
+    move_facts(end, first, rest, extents, marks);
+    mark_records(table, at, first, extents, marks);
+    mark_around(table, at, extents, marks);
 }

@@ -1,5 +1,6 @@
 -- The facts of the record, by its fields and what its children come to.
-use Rattle.subtrees.specs.Laws.Survey.{few-below, known-next}
+use Rattle.subtrees.specs.Laws.Survey.{few-below, known-next, put-apart}
+use native.Mathlib.Omega.{arith}
 use borrow.Author.Needs.{needs}
 use Rattle.subtrees.proofs.mark_record.Statement.{statement}
 use Rattle.subtrees.proofs.mark_record.Tie as tie
@@ -54,8 +55,10 @@ returns c =
     let at = name .before in
     let start = at .before .before .before .before .before .before in
     let a = start .args in
-    rw (put .put-marks .ensures, symbol .with-symbol .ensures, flags .flagless-at .ensures, inner .with-name .ensures, outermost .larger-of .ensures, name .name-at .ensures)
-    (known-next (a .table .now) (start .pre .0) (a .i) (start .pre .1 .0) (a .extents .now) (a .marks .now) (start .pre .1 .1 .1 .0) (start .pre .1 .1 .1 .1) (start .pre .1 .1 .0) _ (at .below-of .ensures))
+    rw (put .put-marks .ensures, symbol .with-symbol .ensures, flags .flagless-at .ensures, inner .with-name .ensures, outermost .larger-of .ensures, name .name-at .ensures) (
+      known-next (a .table .now) (start .pre .0) (a .i) (start .pre .1 .0) (a .extents .now) (a .marks .now) (start .pre .1 .1 .1 .0) (start .pre .1 .1 .1 .1) (start .pre .1 .1 .0) _ (at .below-of .ensures),
+      λ j l. put-apart (a .marks .now) (a .i) _ _ _ _ (a .extents .now) _ j (λ e. omega (arith, e, l)),
+    )
 
 pub mark-record-spec : {M : Type 1} → statement M
 mark-record-spec =

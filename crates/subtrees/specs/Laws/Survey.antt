@@ -1,5 +1,5 @@
 -- The pass over a table that finds the facts of every record, from the last to the first.
-use mathlib.Core.Path.{_≡_, refl, ap, sym, _∙_}
+use mathlib.Core.Path.{_≡_, refl, ap, subst, sym, _∙_}
 use mathlib.Core.Bool.{Bool, cond, false, true}
 use mathlib.Core.List.{List}
 use Prim.Native.Nat.{ℕ, _+_, _*_, _-_, _<_, _≤_, max, zero, suc}
@@ -13,11 +13,11 @@ use Rattle.booleans.specs.Tests.{_and_}
 use Rattle.table.specs.Numbers.{mostRecords, recordLength}
 use Rattle.table.specs.Table.{childByte, firstNode, flag, flagless, limitNum, loopByte, recordBytes, recordCount, valueNum, mostFlags}
 use Rattle.table.specs.Questions.{limitInRange, listed}
-use Rattle.table.specs.Trees.{Forest, node, _▸_, records, recordsIn}
+use Rattle.table.specs.Trees.{Forest, Tree, node, _▸_, records, recordsIn}
 use Rattle.evaluate.specs.Closed.{isPlain, plainKind, plainLimit, symbolFree, symbolFreeIn, plainMost}
 use Rattle.evaluate.specs.Evaluate.{inner, name}
 use Rattle.subtrees.specs.Nodes.{AtMost, Block, Choice, Kind, Limit, Loop, Node, Number, Plain, Sequence, Symbol, Unlimited, Most}
-use Rattle.subtrees.specs.Facts.{Known, MarkedAt, belowAt, belowOf, childIn, isLoop, marksEach, noChild, reach, reachBelow, symbols, symbolsIn}
+use Rattle.subtrees.specs.Facts.{Known, MarkedAt, Moved, Outdated, Own, OwnBefore, SameFacts, Surveyed, Unchanged, belowAt, belowOf, childIn, isLoop, marksEach, noChild, reach, reachBelow, symbols, symbolsIn}
 use Rattle.subtrees.specs.Marks.{limitedName, marked}
 use Rattle.table.specs.Checking.{IsTable}
 use Rattle.subtrees.specs.Parts.{subtree, treesAt}
@@ -148,7 +148,7 @@ name-of (AtMost j m) k h = rw (ne-eqb j 0 (λ e. omega (arith, limit-byte j (bot
 
 -- ---- the marks of a record, written
 
-module _ (marks : List ℕ) (i y k r u : ℕ) (l : marksEach * i + marksEach ≤ length marks) where
+module _ (marks : List ℕ) (i y k r u : ℕ) where
   one : List ℕ
   one = set marks (marksEach * i) y
 
@@ -165,35 +165,111 @@ module _ (marks : List ℕ) (i y k r u : ℕ) (l : marksEach * i + marksEach ≤
       getD-set-other three (marksEach * i + 3) n u 0 t ∙ getD-set-other two (marksEach * i + 2) n r 0 s
       ∙ getD-set-other one (marksEach * i + 1) n k 0 q ∙ getD-set-other marks (marksEach * i) n y 0 p
 
-  marked-symbols : getD (marked marks i y k r u) (marksEach * i) 0 ≡ y
-  unfolding marked one two three
-  marked-symbols =
-      getD-set-other three (marksEach * i + 3) (marksEach * i) u 0 (λ e. omega arith) ∙ getD-set-other two (marksEach * i + 2) (marksEach * i) r 0 (λ e. omega arith)
-      ∙ getD-set-other one (marksEach * i + 1) (marksEach * i) k 0 (λ e. omega arith) ∙ getD-set-same marks (marksEach * i) y 0 (omega arith)
-
-  marked-named : getD (marked marks i y k r u) (marksEach * i + 1) 0 ≡ k
-  unfolding marked one two three
-  marked-named =
-      getD-set-other three (marksEach * i + 3) (marksEach * i + 1) u 0 (λ e. omega arith) ∙ getD-set-other two (marksEach * i + 2) (marksEach * i + 1) r 0 (λ e. omega arith)
-      ∙ getD-set-same one (marksEach * i + 1) k 0 (simp length-set (omega arith))
-
-  marked-reach : getD (marked marks i y k r u) (marksEach * i + 2) 0 ≡ r
-  unfolding marked one two three
-  marked-reach =
-      getD-set-other three (marksEach * i + 3) (marksEach * i + 2) u 0 (λ e. omega arith) ∙ getD-set-same two (marksEach * i + 2) r 0 (simp length-set (omega arith))
-
-  marked-below : getD (marked marks i y k r u) (marksEach * i + 3) 0 ≡ u
-  unfolding marked one two three
-  marked-below = getD-set-same three (marksEach * i + 3) u 0 (simp length-set (omega arith))
-
-  -- the marks of another record stay
-  marked-later : (b : List ℕ) (j : ℕ) → i < j → MarkedAt b marks j → MarkedAt b (marked marks i y k r u) j
-  marked-later b j o m = record {
-    symbols = marked-other (marksEach * j) (λ e. omega arith) (λ e. omega arith) (λ e. omega arith) (λ e. omega arith) ∙ m .symbols;
-    named = marked-other (marksEach * j + 1) (λ e. omega arith) (λ e. omega arith) (λ e. omega arith) (λ e. omega arith) ∙ m .named;
-    reach = marked-other (marksEach * j + 2) (λ e. omega arith) (λ e. omega arith) (λ e. omega arith) (λ e. omega arith) ∙ m .reach;
-    below = marked-other (marksEach * j + 3) (λ e. omega arith) (λ e. omega arith) (λ e. omega arith) (λ e. omega arith) ∙ m .below;
+  -- the facts at another place stay
+  pub put-apart : (extents : List ℕ) (x j : ℕ) → (j ≡ i → ⊥) → SameFacts extents marks j (set extents i x) (marked marks i y k r u) j
+  put-apart extents x j o = record {
+    size = getD-set-other extents i j x 0 o;
+    symbols = marked-other (marksEach * j) (λ e. o (omega (arith, e))) (λ e. omega arith) (λ e. omega arith) (λ e. omega arith);
+    named = marked-other (marksEach * j + 1) (λ e. omega arith) (λ e. o (omega (arith, e))) (λ e. omega arith) (λ e. omega arith);
+    reach = marked-other (marksEach * j + 2) (λ e. omega arith) (λ e. omega arith) (λ e. o (omega (arith, e))) (λ e. omega arith);
+    below = marked-other (marksEach * j + 3) (λ e. omega arith) (λ e. omega arith) (λ e. omega arith) (λ e. o (omega (arith, e)));
   }
+
+  module _ (l : marksEach * i + marksEach ≤ length marks) where
+    marked-symbols : getD (marked marks i y k r u) (marksEach * i) 0 ≡ y
+    unfolding marked one two three
+    marked-symbols =
+        getD-set-other three (marksEach * i + 3) (marksEach * i) u 0 (λ e. omega arith) ∙ getD-set-other two (marksEach * i + 2) (marksEach * i) r 0 (λ e. omega arith)
+        ∙ getD-set-other one (marksEach * i + 1) (marksEach * i) k 0 (λ e. omega arith) ∙ getD-set-same marks (marksEach * i) y 0 (omega arith)
+
+    marked-named : getD (marked marks i y k r u) (marksEach * i + 1) 0 ≡ k
+    unfolding marked one two three
+    marked-named =
+        getD-set-other three (marksEach * i + 3) (marksEach * i + 1) u 0 (λ e. omega arith) ∙ getD-set-other two (marksEach * i + 2) (marksEach * i + 1) r 0 (λ e. omega arith)
+        ∙ getD-set-same one (marksEach * i + 1) k 0 (simp length-set (omega arith))
+
+    marked-reach : getD (marked marks i y k r u) (marksEach * i + 2) 0 ≡ r
+    unfolding marked one two three
+    marked-reach =
+        getD-set-other three (marksEach * i + 3) (marksEach * i + 2) u 0 (λ e. omega arith) ∙ getD-set-same two (marksEach * i + 2) r 0 (simp length-set (omega arith))
+
+    marked-below : getD (marked marks i y k r u) (marksEach * i + 3) 0 ≡ u
+    unfolding marked one two three
+    marked-below = getD-set-same three (marksEach * i + 3) u 0 (simp length-set (omega arith))
+
+pub still : (extents marks : List ℕ) (j : ℕ) → SameFacts extents marks j extents marks j
+still extents marks j = record { size = refl; symbols = refl; named = refl; reach = refl; below = refl }
+
+pub then-same : {e m e' m' e'' m'' : List ℕ} {j k l : ℕ} → SameFacts e m j e' m' k → SameFacts e' m' k e'' m'' l → SameFacts e m j e'' m'' l
+then-same p q =
+    record { size = q .size ∙ p .size; symbols = q .symbols ∙ p .symbols; named = q .named ∙ p .named; reach = q .reach ∙ p .reach; below = q .below ∙ p .below }
+
+-- a tree's facts are its own wherever they stand
+pub own-moved : (t : Tree) {extents marks extents' marks' : List ℕ} {j k : ℕ} → SameFacts extents marks j extents' marks' k → Own t extents marks j → Own t extents' marks' k
+own-moved t s (e, m) =
+    (s .size ∙ e, record { symbols = s .symbols ∙ m .symbols; named = s .named ∙ m .named; reach = s .reach ∙ m .reach; below = s .below ∙ m .below })
+
+-- k records' facts were moved from place `from` to place `to`, and the others from there on are as they were
+pub record Moving (from to k : ℕ) (e m e' m' : List ℕ) : Type 0 where
+  pub moved : Moved from to k e m e' m'
+  pub before : Unchanged to e m e' m'
+  pub behind : (j : ℕ) → from + k ≤ j → SameFacts e m j e' m' j
+
+pub none-moved : (from to : ℕ) (e m : List ℕ) → Moving from to 0 e m e m
+none-moved from to e m = record { moved = λ k l. absurd (omega (arith, l)); before = λ j l. still e m j; behind = λ j l. still e m j }
+
+-- the facts at place i, by those at place j
+abbrev copyExtent : List ℕ → ℕ → ℕ → List ℕ
+copyExtent e i j = set e i (getD e j 0)
+
+abbrev copyMarks : List ℕ → ℕ → ℕ → List ℕ
+copyMarks m i j = marked m i (getD m (marksEach * j) 0) (getD m (marksEach * j + 1) 0) (getD m (marksEach * j + 2) 0) (getD m (marksEach * j + 3) 0)
+
+copy-there : (e m : List ℕ) (i j : ℕ) → i < length e → marksEach * i + marksEach ≤ length m → SameFacts e m j (copyExtent e i j) (copyMarks m i j) i
+copy-there e m i j o l = record {
+  size = getD-set-same e i _ 0 o;
+  symbols = marked-symbols m i _ _ _ _ l;
+  named = marked-named m i _ _ _ _ l;
+  reach = marked-reach m i _ _ _ _ l;
+  below = marked-below m i _ _ _ _ l;
+}
+
+pub one-moved : (from to k : ℕ) (e m e' m' : List ℕ) → to ≤ from → to + k < length e' → marksEach * (to + k) + marksEach ≤ length m' → Moving from to k e m e' m'
+    → Moving from to (k + 1) e m (copyExtent e' (to + k) (from + k)) (copyMarks m' (to + k) (from + k))
+one-moved from to k e m e' m' o l w s = record {
+  moved = λ j p. moved j p (ltb j k) refl;
+  before = λ j p. then-same (s .before j p) (apart j (λ d. omega (arith, d, p)));
+  behind = λ j p. then-same (s .behind j (omega (arith, p))) (apart j (λ d. omega (arith, d, p, o)));
+}
+  where
+    apart : (j : ℕ) → (j ≡ to + k → ⊥) → SameFacts e' m' j (copyExtent e' (to + k) (from + k)) (copyMarks m' (to + k) (from + k)) j
+    apart j d = put-apart m' (to + k) _ _ _ _ e' _ j d
+
+    moved : (j : ℕ) → j < k + 1 → (x : Bool) → ltb j k ≡ x → SameFacts e m (from + j) (copyExtent e' (to + k) (from + k)) (copyMarks m' (to + k) (from + k)) (to + j)
+    moved j p true t = then-same (s .moved j (ltb-true j k t)) (apart (to + j) (λ d. omega (arith, d, ltb-true j k t)))
+    moved j p false t =
+        let same : j ≡ k = omega (arith, p, ltb-false j k t) in
+        rw same (then-same (s .behind (from + k) (omega arith)) (copy-there e' m' (to + k) (from + k) l w))
+
+-- one record more
+pub known-more : (b extents marks : List ℕ) (i : ℕ) → Known b extents marks (i + 1) → Own (subtree b i) extents marks i → Known b extents marks i
+known-more b extents marks i k o = record { sizes = λ j p q. own j p q (ltb i j) refl .0; each = λ j p q. own j p q (ltb i j) refl .1 }
+  where
+    own : (j : ℕ) → i ≤ j → j < recordCount b → (x : Bool) → ltb i j ≡ x → Own (subtree b j) extents marks j
+    own j p q true t = let later : i + 1 ≤ j = omega (arith, ltb-true i j t) in (k .sizes j later q, k .each j later q)
+    own j p q false t = let same : j ≡ i = omega (arith, ltb-false i j t) in rw same o
+
+-- all of them
+pub known-all : (b extents marks : List ℕ) → IsTable b → recordCount b ≤ length extents → marksEach * recordCount b ≤ length marks → {i : ℕ} → i ≤ 0 → Known b extents marks i → Surveyed b extents marks
+known-all b extents marks s room space l k = record {
+  sizes = record { table = s; room = room; each = λ j p. k .sizes j (omega (arith, l)) p };
+  room = space;
+  each = λ j p. k .each j (omega (arith, l)) p;
+}
+
+-- where nothing changes before record i
+pub before-still : (b : List ℕ) {e m e' m' : List ℕ} (at n i : ℕ) → i ≤ n → Unchanged i e m e' m' → OwnBefore b e m at n → OwnBefore b e' m' at i
+before-still b at n i o u w = λ j p q. own-moved (subtree b j) (u j p) (w j (omega (arith, o, p)) (omega (arith, q, u j p .size)))
 
 module _ (b : List ℕ) (s : IsTable b) (i : ℕ) (l : i < recordCount b) where
   h : Here b i
@@ -241,15 +317,24 @@ module _ (b : List ℕ) (s : IsTable b) (i : ℕ) (l : i < recordCount b) where
 
   pub known-next : (extents marks : List ℕ) → recordCount b ≤ length extents → marksEach * recordCount b ≤ length marks → Known b extents marks (i + 1)
       → (c : Below) → c ≡ belowAt (treesAt b i) → Known b (newExtents extents c) (newMarks marks c) i
-  known-next extents marks room space k c e = record { sizes = λ j p q. sizes j p q (ltb i j) refl; each = λ j p q. each j p q (ltb i j) refl }
+  known-next extents marks room space k c e =
+      let apart : (j : ℕ) → i + 1 ≤ j → SameFacts extents marks j (newExtents extents c) (newMarks marks c) j = λ j p. put-apart marks i _ _ _ _ extents _ j (λ d. omega (arith, p)) in
+      let own : (j : ℕ) → i + 1 ≤ j → j < recordCount b → Own (subtree b j) (newExtents extents c) (newMarks marks c) j = λ j p q. own-moved (subtree b j) (apart j p) (k .sizes j p q, k .each j p q) in
+      known-more b _ _ i (record { sizes = λ j p q. own j p q .0; each = λ j p q. own j p q .1 }) (fresh-extent extents room c e, fresh-marks marks space c e)
+
+-- ---- a table that changed
+
+module _ (b e m : List ℕ) (at end rest : ℕ) (o : Outdated b e m at end rest) where
+  -- the last records' facts, where they stand for the table as it is now
+  pub moved-known : {e' m' : List ℕ} → Moved end (recordCount b - rest) rest e m e' m' → Known b e' m' (recordCount b - rest)
+  moved-known {e'} {m'} w = record { sizes = λ j p q. own j p q .0; each = λ j p q. own j p q .1 }
     where
-      same : (j : ℕ) → i ≤ j → ltb i j ≡ false → j ≡ i
-      same j p t = omega (arith, ltb-false i j t)
+      own : (j : ℕ) → recordCount b - rest ≤ j → j < recordCount b → Own (subtree b j) e' m' j
+      own j p q =
+          let k = j - (recordCount b - rest) in
+          let less : k < rest = omega (arith, p, q, o .changed) in
+          let same : recordCount b - rest + k ≡ j = omega (arith, p) in
+          subst (λ i. Own (subtree b i) e' m' i) same (own-moved (subtree b (recordCount b - rest + k)) (w k less) (o .behind k less))
 
-      sizes : (j : ℕ) → i ≤ j → j < recordCount b → (x : Bool) → ltb i j ≡ x → getD (newExtents extents c) j 0 ≡ records (subtree b j)
-      sizes j p q true t = getD-set-other extents i j _ 0 (λ d. omega (arith, ltb-true i j t)) ∙ k .sizes j (omega (arith, ltb-true i j t)) q
-      sizes j p q false t = rw (same j p t) (fresh-extent extents room c e)
-
-      each : (j : ℕ) → i ≤ j → j < recordCount b → (x : Bool) → ltb i j ≡ x → MarkedAt b (newMarks marks c) j
-      each j p q true t = marked-later marks i _ _ _ _ (omega arith) b j (ltb-true i j t) (k .each j (omega (arith, ltb-true i j t)) q)
-      each j p q false t = rw (same j p t) (fresh-marks marks space c e)
+  pub moved-before : {e' m' : List ℕ} → Unchanged (recordCount b - rest) e m e' m' → OwnBefore b e' m' at at
+  moved-before u = before-still b at at at (omega arith) (λ j l. u j (omega (arith, l, o .changed))) (o .before)
