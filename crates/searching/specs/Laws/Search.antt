@@ -192,7 +192,7 @@ block-none t l f = go (symbolFree (node (record { kind = Block t; limit = l }) f
     go false = refl
 
 -- what a rule at the node of record i makes of the row
-rule-here : (b : List ℕ) (i : ℕ) (h : Here b i) → ruleAt rule (treesAt b i) ≡ also (λ t. t ▸ h .later) (rule (h .own) (h .kids))
+pub rule-here : (b : List ℕ) (i : ℕ) (h : Here b i) → ruleAt rule (treesAt b i) ≡ also (λ t. t ▸ h .later) (rule (h .own) (h .kids))
 unfolding ruleAt
 rule-here b i h = rw (h .here) refl
 
@@ -215,13 +215,29 @@ unfolding also
 also-append a c none = refl
 also-append a c (some z) = ap some (sym (append-assoc a c z))
 
+-- where no record is written, no rule fits there
+pub fits-not : (b : List ℕ) (i : ℕ) (out : List ℕ) (h : Here b i) → Wrote (ruleAt rule (treesAt b i)) 0 out → rule (h .own) (h .kids) ≡ none
+fits-not b i out h w = none-first (h .later) _ (sym (rule-here b i h) ∙ some-first rule (treesAt b i) out w)
+
+-- where records are, the tree in the node's place
+pub record Fits (b : List ℕ) (i r : ℕ) (out : List ℕ) (h : Here b i) : Type 0 where
+  pub tree : Tree
+  pub fits : rule (h .own) (h .kids) ≡ some tree
+  pub wrote : Wrote (some (tree ▸ h .later)) r out
+
+pub fits-here : (b : List ℕ) (i r : ℕ) (out : List ℕ) (h : Here b i) → (r ≡ 0 → ⊥) → Wrote (ruleAt rule (treesAt b i)) r out → Fits b i r out h
+fits-here b i r out h n w = go (rule (h .own) (h .kids)) refl (subst (λ x. Wrote x r out) (rule-here b i h) w)
+  where
+    go : (x : Option Tree) → rule (h .own) (h .kids) ≡ x → Wrote (also (λ t. t ▸ h .later) x) r out → Fits b i r out h
+    go none e v = absurd (n (unfold also in unfold Wrote in v))
+    go (some t) e v = record { tree = t; fits = e; wrote = unfold also in v }
+
 module _ (b : List ℕ) (s : IsTable b) where
   pub sought-next : (i : ℕ) (out : List ℕ) → i < recordCount b → Sought b i → Wrote (ruleAt rule (treesAt b i)) 0 out → Sought b (i + 1)
   sought-next i out l q w =
       let h = here-at b s i l in
-      let no : rule (h .own) (h .kids) ≡ none = none-first (h .later) _ (sym (rule-here b i h) ∙ some-first rule (treesAt b i) out w) in
       let over : also encodes (insideIn (treesAt b i)) ≡ also (λ z. recordBytes (h .own) (size (h .kids)) ++ z) (also encodes (insideIn (treesAt b (i + 1)))) =
-      rw (h .here, h .next) (step-over (h .own) (h .kids) (h .later) no) in
+      rw (h .here, h .next) (step-over (h .own) (h .kids) (h .later) (fits-not b i out h w)) in
       record {
         within = omega arith;
         same = q .same ∙ ap (also (λ z. front i b ++ z)) over ∙ also-append (front i b) (recordBytes (h .own) (size (h .kids))) (also encodes (insideIn (treesAt b (i + 1)))) ∙ ap (λ x. also (λ z. x ++ z) (also encodes (insideIn (treesAt b (i + 1))))) (sym (front-next b i h));
@@ -261,14 +277,10 @@ module _ (b : List ℕ) (s : IsTable b) where
       by-bytes _ _ i r out (q .same ∙ ap (λ x. also (λ z. front i b ++ z) (also encodes x)) at) (omega (arith, w .0, some-records t)) (long i r g t (q .within) (w .0)) (q .within) (ap (λ z. front i b ++ z) (w .1))
 
   pub sought-found : (i r : ℕ) (out : List ℕ) → i < recordCount b → Sought b i → (r ≡ 0 → ⊥) → Wrote (ruleAt rule (treesAt b i)) r out → Rewritten (insideIn (treesAt b 0)) b i r out
-  sought-found i r out l q n w = go (rule (h .own) (h .kids)) refl (subst (λ x. Wrote x r out) (rule-here b i h) w)
-    where
-      h : Here b i
-      h = here-at b s i l
-
-      go : (x : Option Tree) → rule (h .own) (h .kids) ≡ x → Wrote (also (λ t. t ▸ h .later) x) r out → Rewritten (insideIn (treesAt b 0)) b i r out
-      go none e v = absurd (n (unfold also in unfold Wrote in v))
-      go (some t) e v = found-here i r out (h .own) (h .kids) (h .later) t (h .here) q e (unfold also in v)
+  sought-found i r out l q n w =
+      let h = here-at b s i l in
+      let f = fits-here b i r out h n w in
+      found-here i r out (h .own) (h .kids) (h .later) (f .tree) (h .here) q (f .fits) (f .wrote)
 
   -- past the last record stands no tree
   none-left : (g : Forest) → recordsIn g ≡ 0 → insideIn g ≡ none
