@@ -6,6 +6,7 @@ ghost use Rattle.simplify.specs.Steps.{insideIn, rule};
 ghost use Rattle.subtrees.specs.Facts.{Surveyed};
 ghost use Rattle.subtrees.specs.Parts.{Simplifiable, treesAt};
 ghost use Rattle.rewrite.specs.Wrote.{Wrote, ruleAt};
+ghost use Rattle.searching.specs.Found.{Found, Settled};
 ghost use Rattle.searching.specs.Rewritten.{Rewritten, laterRule};
 use table::RECORD_LENGTH;
 
@@ -64,15 +65,37 @@ fn later_rule_at(table: &[u8], extents: &[usize], marks: &[u8], i: usize, out: &
     rules8and9::rule9_at(table, extents, marks, i, out)
 }
 
-// The earliest record where one of rules 2 to 9 fits.
-pub fn find(table: &[u8], extents: &[usize], marks: &[u8], out: &mut [u8]) -> Spot
+// The lowest of rules 2 to 9, where no rule fits a subtree that ends at record `at` or before: there none is tried.
+fn rule_again_at(
+    table: &[u8],
+    extents: &[usize],
+    marks: &[u8],
+    at: usize,
+    i: usize,
+    out: &mut [u8],
+) -> usize
+    requires { ⌜ Surveyed (now table) (now extents) (now marks) ⌝ ∗ ⌜ i < recordCount (now table) ⌝ ∗ ⌜ length (now table) ≤ length (now out) ⌝ ∗ ⌜ Simplifiable (now table) ⌝ }
+    requires { ⌜ Settled (now table) (now extents) at ⌝ }
+    ensures { λ r. ⌜ Wrote (ruleAt rule (treesAt (now (table .entry)) i)) r (now (out .exit)) ⌝ }
+{
+    let end = i + extents[i];
+    if end <= at {
+        return 0;
+    }
+    rule_at(table, extents, marks, i, out)
+}
+
+// The earliest record where one of rules 2 to 9 fits. `at` is the record from which on the last step changed the table, 0 where nothing is known.
+pub fn find(table: &[u8], extents: &[usize], marks: &[u8], at: usize, out: &mut [u8]) -> Spot
     requires { ⌜ Surveyed (now table) (now extents) (now marks) ⌝ ∗ ⌜ length (now table) ≤ length (now out) ⌝ ∗ ⌜ Simplifiable (now table) ⌝ }
+    requires { ⌜ Settled (now table) (now extents) at ⌝ }
     ensures { λ r. ⌜ Rewritten (insideIn (treesAt (now (table .entry)) 0)) (now (table .entry)) (r .at) (r .len) (now (out .exit)) ⌝ }
+    ensures { λ r. ⌜ Found (now (table .entry)) (now (extents .entry)) (r .at) (r .len) (now (out .exit)) ⌝ }
 {
     let n = table.len() / RECORD_LENGTH;
     let mut i = 0;
     while i < n {
-        let len = rule_at(table, extents, marks, i, out);
+        let len = rule_again_at(table, extents, marks, at, i, out);
         if len != 0 {
             return Spot { at: i, len: len };
         }

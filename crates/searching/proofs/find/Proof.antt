@@ -1,24 +1,24 @@
--- The invariant: no rule fits before record i. The measure: the records left.
+-- The invariant: no rule fits before record i, and the step is found from there on. The measure: the records left.
 use mathlib.Core.Path.{_≡_, refl}
 use Prim.Native.Nat.{_-_}
-use native.Mathlib.Omega.{arith}
 use borrow.Author.Needs.{needs}
 use lib.ListN.{length}
+use Rattle.searching.specs.Laws.Found.{Quiet, placed, quiet-next, quiet-none}
 use Rattle.searching.specs.Laws.Search.{Sought, sought-end, sought-found, sought-next, sought-none}
 use Rattle.searching.proofs.find.Statement.{statement}
 use Rattle.searching.proofs.find.Tie as tie
 
 abbrev Inv-loop : tie.InvT-loop
-Inv-loop table extents marks out₀ n i₀ out i = Sought table i × (length out ≡ length out₀)
+Inv-loop table extents marks at out₀ n i₀ out i = Sought table i × Quiet table i × (length out ≡ length out₀)
 
 abbrev μ-loop : tie.MeasureT-loop
-μ-loop table extents marks out₀ n i₀ out i = n - i
+μ-loop table extents marks at out₀ n i₀ out i = n - i
 
 loop-holds : tie.Need-loop-holds Inv-loop μ-loop
-loop-holds c = (sought-none _, refl)
+loop-holds c = (sought-none _, quiet-none _, refl)
 
-rule-at-requires : tie.Need-rule-at-requires Inv-loop μ-loop
-rule-at-requires c κs = let start = c .before .before .before .before .before .before .before in (start .pre .0, (search needs, (search needs, start .pre .1 .1)))
+rule-again-at-requires : tie.Need-rule-again-at-requires Inv-loop μ-loop
+rule-again-at-requires c κs = let start = c .before .before .before .before .before .before .before in (start .pre .0, (search needs, (search needs, start .pre .1 .1)))
 
 same-length : tie.Need-same-length Inv-loop μ-loop
 same-length c = search needs
@@ -28,8 +28,11 @@ returns c =
     let call = c .before .before .before in
     let turn = call .before .before in
     let start = turn .before .before .before .before .before .before in
-    let s = start .pre .0 .sizes .table in
-    sought-found _ s _ _ _ (turn .loop-test .taken) (turn .before .loop .inv .0) (c .if1 .taken) (call .rule-at .ensures)
+    let x = start .pre .0 .sizes in
+    let (sought, quiet, _) = turn .before .loop .inv in
+    let l = turn .loop-test .taken in
+    let w = call .rule-again-at .ensures in
+    (sought-found _ (x .table) _ _ _ l sought (c .if1 .taken) w, λ some. placed _ _ x _ _ _ l quiet some w)
 
 add-i : tie.Need-add-i Inv-loop μ-loop
 add-i c = search needs
@@ -43,7 +46,10 @@ loop-again c =
     let turn = call .before .before in
     let start = turn .before .before .before .before .before .before in
     let s = start .pre .0 .sizes .table in
-    (sought-next _ s _ _ (turn .loop-test .taken) (turn .before .loop .inv .0) (rw (c .if1 .left) at (call .rule-at .ensures)), search needs)
+    let (sought, quiet, _) = turn .before .loop .inv in
+    let l = turn .loop-test .taken in
+    let w = rw (c .if1 .left) at (call .rule-again-at .ensures) in
+    (sought-next _ s _ _ l sought w, quiet-next _ s _ l _ quiet w, search needs)
 
 same-length-2 : tie.Need-same-length-2 Inv-loop μ-loop
 same-length-2 c = search needs
@@ -51,7 +57,7 @@ same-length-2 c = search needs
 returns-2 : tie.Need-returns-2 Inv-loop μ-loop
 returns-2 c =
     let start = c .before .before .before .before .before .before in
-    sought-end _ (start .pre .0 .sizes .table) _ _ _ (c .loop-test .left) (c .before .loop .inv .0)
+    (sought-end _ (start .pre .0 .sizes .table) _ _ _ (c .loop-test .left) (c .before .loop .inv .0), λ some. absurd (some refl))
 
 pub find-spec : {M : Type 1} → statement M
 find-spec =
@@ -60,7 +66,7 @@ find-spec =
     Inv-loop
     μ-loop
     loop-holds
-    rule-at-requires
+    rule-again-at-requires
     same-length
     returns
     add-i
