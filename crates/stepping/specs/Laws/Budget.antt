@@ -7,9 +7,10 @@ use Prim.Native.Nat.{ℕ, _+_, _*_, _-_, _<_, _≤_, suc, zero}
 use native.Mathlib.Nat.{add-zero, sub-zero, zero-add}
 use native.Mathlib.Omega.{arith}
 use lib.Dec.{T, eqb, ltb}
-use lib.ListN.{drop, length, take}
-use lib.Seq.{length-take-le, take-take}
+use lib.ListN.{drop, getD, length, take}
+use lib.Seq.{length-take-le}
 use borrow.Author.Tests.{eqb-false, eqb-true, ltb-false, ltb-true}
+use Rattle.table.specs.Checking.{IsTable}
 use Rattle.table.specs.Numbers.{recordLength}
 use Rattle.table.specs.Questions.{Accepted}
 use Rattle.table.specs.Table.{decode, encode, encodes, recordCount}
@@ -21,9 +22,11 @@ use Rattle.evaluate.specs.Evaluate.{fits, zeros}
 use Rattle.simplify.specs.Steps.{Made, also, isNone, onward, step, steps}
 use Rattle.simplify.specs.Laws.Keeps.{Kept}
 use Rattle.simplify.specs.Laws.Stepping.{Steps, ends, goes, last, step-steps}
-use Rattle.subtrees.specs.Facts.{marksEach}
+use Rattle.subtrees.specs.Facts.{Extents, Surveyed, marksEach}
 use Rattle.subtrees.specs.Parts.{Simplifiable}
-use Rattle.writing.specs.Records.{front, slice}
+use Rattle.subtrees.specs.Laws.Parts.{extent-some}
+use Rattle.writing.specs.Records.{front}
+use Rattle.searching.specs.Found.{Found, Placed, Settled}
 use Rattle.searching.specs.Rewritten.{Rewritten}
 use Rattle.stepping.specs.Steps.{Ends, stepped}
 
@@ -37,6 +40,9 @@ pub record Going (b₀ : List ℕ) (n : ℕ) (b : List ℕ) (k : ℕ) : Type 0 w
   pub within : k ≤ n
   pub noLonger : length b ≤ length b₀
   pub same : steps n (decode b₀) ≡ added k (steps (n - k) (decode b))
+
+pub going-as : {b₀ : List ℕ} {n : ℕ} {b c : List ℕ} {k : ℕ} → b ≡ c → Going b₀ n c k → Going b₀ n b k
+going-as {b₀} {n} {k = k} e g = subst (λ x. Going b₀ n x k) (sym e) g
 
 none-added : (m : Made) → m ≡ added 0 m
 none-added m = λ i. record { tree = m .tree; taken = sym (zero-add (m .taken)) i; finished = m .finished }
@@ -140,20 +146,33 @@ ends-spent b₀ n b k g l x =
 
 -- ---- on the table in the first bytes of a buffer
 
--- k steps made the table in the first `long` bytes of work, and the next one is told by a spot and the buffer out
-pub record Stage (b₀ : List ℕ) (n : ℕ) (work : List ℕ) (long k at m : ℕ) (out : List ℕ) : Type 0 where
+-- k steps made the table in the first `long` bytes of work, whose facts are known, and the next step is told by a spot and the buffer out
+pub record Stage (b₀ : List ℕ) (n : ℕ) (work : List ℕ) (long k : ℕ) (extents marks : List ℕ) (at m : ℕ) (out : List ℕ) : Type 0 where
   pub going : Going b₀ n (take long work) k
-  pub next : Rewritten (stepped (decode (take long work))) (take long work) at m out
   pub room : long ≤ length work
+  pub known : Surveyed (take long work) extents marks
+  pub next : Rewritten (stepped (decode (take long work))) (take long work) at m out
+  pub found : Found (take long work) extents at m out
 
--- a part of a buffer, ready for a step: facts, marks and a second buffer have room for a table of so many bytes
-pub part-ready : (work : List ℕ) (n bytes facts marks out : ℕ) → Simplifiable (take n work) → n ≤ length work → n ≤ bytes → bytes ≤ recordLength * facts → marksEach * bytes ≤ recordLength * marks → bytes ≤ out
-    → let b = take (n - 0) (drop 0 work) in Simplifiable b × (((recordCount b ≤ facts) × (marksEach * recordCount b ≤ marks)) × (length b ≤ out))
-part-ready work n bytes facts marks out s l e f g h =
+-- a part of a buffer, ready to be surveyed
+pub survey-ready : (work : List ℕ) (n facts marks : ℕ) → Simplifiable (take n work) → n ≤ length work → n ≤ recordLength * facts → marksEach * n ≤ recordLength * marks
+    → let b = take (n - 0) (drop 0 work) in IsTable b × ((recordCount b ≤ facts) × (marksEach * recordCount b ≤ marks))
+survey-ready work n facts marks s l f g =
     let long = length-take-le n work l in
-    rw (part-to work n) (s, ((omega arith, omega arith), omega arith))
+    rw (part-to work n) (s .table, (omega arith, omega arith))
 
-module _ (b₀ : List ℕ) (n : ℕ) (work : List ℕ) (long k at m : ℕ) (out : List ℕ) (s : Stage b₀ n work long k at m out) where
+-- and ready for a step
+pub step-ready : (work extents marks : List ℕ) (n at out : ℕ) → Simplifiable (take n work) → n ≤ length work → Surveyed (take n work) extents marks → Settled (take n work) extents at → n ≤ out
+    → let b = take (n - 0) (drop 0 work) in Simplifiable b × (Surveyed b extents marks × (Settled b extents at × (length b ≤ out)))
+step-ready work extents marks n at out s l v q h =
+    let long = length-take-le n work l in
+    rw (part-to work n) (s, (v, (q, omega arith)))
+
+-- before the first step every subtree ends behind record 0
+pub none-settled : (b extents : List ℕ) → Extents b extents → Settled b extents 0
+none-settled b extents x j l o = absurd (omega (arith, o, extent-some b extents x j l))
+
+module _ (b₀ : List ℕ) (n : ℕ) (work : List ℕ) (long k : ℕ) (extents marks : List ℕ) (at m : ℕ) (out : List ℕ) (s : Stage b₀ n work long k extents marks at m out) where
   long-is : length (take long work) ≡ long
   long-is = length-take-le long work (s .room)
 
@@ -170,11 +189,8 @@ module _ (b₀ : List ℕ) (n : ℕ) (work : List ℕ) (long k at m : ℕ) (out 
         let t = s .going .simplifiable in
         omega (arith, next-one .count, kept-step _ _ (next-one .is) .noMore (λ x. t .fits) (t .table .accepted), length-encode (decode (take long work)), ap length (t .table .back), long-is)
 
-    front-same : front at (take long work) ≡ front at work
-    front-same = take-take (recordLength * at) long work (omega (arith, stage-fewer))
-
-    pub stage-next : k < n → (new : List ℕ) (r : ℕ) → r ≡ at + m → front r new ≡ front at work ++ slice out 0 m → Going b₀ n (take (recordLength * r) new) (k + 1)
-    stage-next l new r e w = rw (w, ← front-same) (going-next b₀ n (take long work) k (s .going) l next-one)
+    pub stage-next : k < n → Going b₀ n (front at (take long work) ++ front m out) (k + 1)
+    stage-next l = going-next b₀ n (take long work) k (s .going) l next-one
 
     pub stage-spent : n ≤ k → Ends b₀ n (take long work) k false
     stage-spent l = ends-spent b₀ n (take long work) k (s .going) l next-one
@@ -201,15 +217,14 @@ module _ (b₀ : List ℕ) (n : ℕ) (work : List ℕ) (long k at m : ℕ) (out 
       go false p false q e = absurd (subst T (sym e) tt)
 
 -- what holds in a turn of the loop
-pub record Turn (work : List ℕ) (bytes n k at m : ℕ) : Type 0 where
-  pub some : m ≡ 0 → ⊥
+pub record Turn (b₀ : List ℕ) (n : ℕ) (work : List ℕ) (long k : ℕ) (extents : List ℕ) (at m : ℕ) (out : List ℕ) : Type 0 where
   pub more : k < n
-  pub fewer : recordLength * (at + m) ≤ bytes
-  pub room : recordLength * (at + m) ≤ length work
+  pub fewer : recordLength * (at + m) ≤ long
+  pub placed : Placed (take long work) at (at + getD extents at 0) m out
+  pub going : Going b₀ n (front at (take long work) ++ front m out) (k + 1)
 
-pub turn-of : (start : List ℕ) (bytes : ℕ) {n : ℕ} {work : List ℕ} {long k at m : ℕ} {out : List ℕ} → bytes ≤ length start → Stage (take bytes start) n work long k at m out → (not (eqb m 0) && ltb k n) ≡ true
-    → Turn work bytes n k at m
-turn-of start bytes {n} {work} {long} {k} {at} {m} {out} l s e =
-    let (z, o) = stage-on _ n work long k at m out s e in
-    let f = stage-fewer _ n work long k at m out s z in
-    record { some = z; more = o; fewer = omega (arith, stage-short _ n work long k at m out s, length-take-le bytes start l); room = omega (arith, s .room) }
+pub turn-of : {b₀ : List ℕ} {n : ℕ} {work : List ℕ} {long k : ℕ} {extents marks : List ℕ} {at m : ℕ} {out : List ℕ} → Stage b₀ n work long k extents marks at m out → (not (eqb m 0) && ltb k n) ≡ true
+    → Turn b₀ n work long k extents at m out
+turn-of s e =
+    let (z, o) = stage-on _ _ _ _ _ _ _ _ _ _ s e in
+    record { more = o; fewer = stage-fewer _ _ _ _ _ _ _ _ _ _ s z; placed = s .found z; going = stage-next _ _ _ _ _ _ _ _ _ _ s z o }

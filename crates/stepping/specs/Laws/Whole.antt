@@ -1,15 +1,15 @@
 -- Rule 1: the whole table as one block; and a step, by rule 1 or by the search.
 use mathlib.Core.Path.{_≡_, refl, ap, sym, _∙_}
 use mathlib.Core.Bool.{Bool, false, not, true}
-use mathlib.Core.List.{List, [], append-nil}
+use mathlib.Core.List.{List, [], _++_, append-nil}
 use mathlib.Core.Option.{Option, none, some}
-use Prim.Native.Nat.{ℕ, _<_}
+use Prim.Native.Nat.{ℕ, _+_, _*_, _<_, _≤_}
 use native.Mathlib.Omega.{arith}
 use lib.Dec.{eqb}
-use lib.ListN.{getD}
+use lib.ListN.{drop, drop-of-length-le, getD, length}
 use borrow.Author.Tests.{eq-eqb, ne-eqb}
 use Rattle.booleans.specs.Tests.{_and_}
-use Rattle.table.specs.Numbers.{mostDepth}
+use Rattle.table.specs.Numbers.{mostDepth, recordLength}
 use Rattle.table.specs.Table.{decode, encode, encodes, recordBytes, recordCount}
 use Rattle.table.specs.Trees.{Forest, Tree, nil, _▸_, records, recordsIn, size}
 use Rattle.table.specs.Laws.Trees.{some-records}
@@ -24,13 +24,14 @@ use Rattle.evaluate.specs.declared.Valued.{Valued}
 use Rattle.lists.specs.Pairs.{top as topPair}
 use Rattle.simplify.specs.Rules.{bare, leaf, rule1, when}
 use Rattle.simplify.specs.Steps.{also, inside, insideIn, orElse, step}
-use Rattle.subtrees.specs.Facts.{MarkedAt, symbols}
+use Rattle.subtrees.specs.Facts.{Extents, MarkedAt, symbols}
 use Rattle.subtrees.specs.Parts.{Simplifiable, subtree, treesAt}
 use Rattle.subtrees.specs.Laws.Facts.{free-is}
-use Rattle.table.specs.Laws.Tables.{count-is}
+use Rattle.table.specs.Laws.Tables.{count-is, length-is}
 use Rattle.subtrees.specs.Laws.Parts.{root-at, top-at}
 use Rattle.writing.specs.Records.{front, nodeOf}
 use Rattle.rewrite.specs.Wrote.{Wrote}
+use Rattle.searching.specs.Found.{Placed}
 use Rattle.searching.specs.Rewritten.{Rewritten}
 use Rattle.stepping.specs.Steps.{stepped}
 use Rattle.table.specs.declared.Number.the-variants.{Plain}
@@ -104,3 +105,23 @@ module _ (b : List ℕ) (s : Simplifiable b) where
 
   pub by-search : (at n : ℕ) (out mid : List ℕ) → Wrote (also (λ u. u ▸ nil) (rule1 (decode b))) 0 mid → Rewritten (insideIn (treesAt b 0)) b at n out → Rewritten (stepped (decode b)) b at n out
   by-search at n out mid w v = rw (whole-row (decode b)) (rule1-not b _ at n out mid (rule1 (decode b)) w (rw (root-at b (s .table)) at v))
+
+  -- rule 1 leaves nothing behind the one tree
+  pub placed-whole : (extents : List ℕ) → Extents b extents → (r : ℕ) (out : List ℕ) → (r ≡ 0 → ⊥) → Wrote (also (λ u. u ▸ nil) (rule1 (decode b))) r out → Placed b 0 (0 + getD extents 0 0) r out
+  placed-whole extents x r out n w = go (rule1 (decode b)) w
+    where
+      past : recordCount b ≤ 0 + getD extents 0 0
+      past = omega (arith, x .each 0 (some-record b s), ap records (whole b s), count-is b (s .table))
+
+      nothing : drop (recordLength * (0 + getD extents 0 0)) b ≡ []
+      nothing = let long : length b ≤ recordLength * (0 + getD extents 0 0) = omega (arith, past, length-is b (s .table)) in drop-of-length-le b long
+
+      go : (t : Option Tree) → Wrote (also (λ u. u ▸ nil) t) r out → Placed b 0 (0 + getD extents 0 0) r out
+      go none v = absurd (n (unfold also in unfold Wrote in v))
+      go (some u) v = unfold also in unfold Wrote in unfold recordsIn in unfold encodes in record {
+        quiet = λ j l. absurd (omega (arith, l));
+        inside = some-record b s;
+        tree = u;
+        count = omega (arith, v .0, past);
+        bytes = v .1 ∙ ap (λ y. encode u ++ y) (sym nothing);
+      }

@@ -4,7 +4,6 @@ use Prim.Native.Nat.{_+_, _-_, _≤_}
 use native.Mathlib.Omega.{arith}
 use borrow.Author.Needs.{needs}
 use lib.ListN.{length}
-use Rattle.table.specs.Table.{recordCount}
 use Rattle.subtrees.specs.Facts.{Known, OwnBefore}
 use Rattle.subtrees.specs.Laws.Survey.{before-still, known-all, known-more}
 use Rattle.subtrees.proofs.mark_around.Statement.{statement}
