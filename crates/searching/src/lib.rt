@@ -65,27 +65,8 @@ fn later_rule_at(table: &[u8], extents: &[usize], marks: &[u8], i: usize, out: &
     rules8and9::rule9_at(table, extents, marks, i, out)
 }
 
-// The lowest of rules 2 to 9, where no rule fits a subtree that ends at record `at` or before: there none is tried.
-fn rule_again_at(
-    table: &[u8],
-    extents: &[usize],
-    marks: &[u8],
-    at: usize,
-    i: usize,
-    out: &mut [u8],
-) -> usize
-    requires { ⌜ Surveyed (now table) (now extents) (now marks) ⌝ ∗ ⌜ i < recordCount (now table) ⌝ ∗ ⌜ length (now table) ≤ length (now out) ⌝ ∗ ⌜ Simplifiable (now table) ⌝ }
-    requires { ⌜ Settled (now table) (now extents) at ⌝ }
-    ensures { λ r. ⌜ Wrote (ruleAt rule (treesAt (now (table .entry)) i)) r (now (out .exit)) ⌝ }
-{
-    let end = i + extents[i];
-    if end <= at {
-        return 0;
-    }
-    rule_at(table, extents, marks, i, out)
-}
-
-// The earliest record where one of rules 2 to 9 fits. `at` is the record from which on the last step changed the table, 0 where nothing is known.
+// The earliest record where one of rules 2 to 9 fits. `at` is the record from which on the last step changed the table, 0 where nothing is known: a subtree
+// that ends there or before is passed over.
 pub fn find(table: &[u8], extents: &[usize], marks: &[u8], at: usize, out: &mut [u8]) -> Spot
     requires { ⌜ Surveyed (now table) (now extents) (now marks) ⌝ ∗ ⌜ length (now table) ≤ length (now out) ⌝ ∗ ⌜ Simplifiable (now table) ⌝ }
     requires { ⌜ Settled (now table) (now extents) at ⌝ }
@@ -95,11 +76,16 @@ pub fn find(table: &[u8], extents: &[usize], marks: &[u8], at: usize, out: &mut 
     let n = table.len() / RECORD_LENGTH;
     let mut i = 0;
     while i < n {
-        let len = rule_again_at(table, extents, marks, at, i, out);
-        if len != 0 {
-            return Spot { at: i, len: len };
+        let end = i + extents[i];
+        if end <= at {
+            i = end;
+        } else {
+            let len = rule_at(table, extents, marks, i, out);
+            if len != 0 {
+                return Spot { at: i, len: len };
+            }
+            i += 1;
         }
-        i += 1;
     }
     Spot { at: 0, len: 0 }
 }

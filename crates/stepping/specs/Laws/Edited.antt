@@ -1,14 +1,14 @@
 -- A table that a step changed: which of its subtrees are the old one's, and what is known of them.
-use mathlib.Core.Path.{_≡_, refl, ap, ap₂, sym, _∙_, subst}
+use mathlib.Core.Path.{_≡_, ap, ap₂, sym, _∙_, subst}
 use mathlib.Core.List.{List, _++_, append-assoc}
 use Prim.Native.Nat.{ℕ, _+_, _-_, _*_, _/_, _≤_, _<_}
 use native.Mathlib.Omega.{arith}
-use lib.ListN.{drop, getD, length, length-append, length-drop, length-take, take, take-append-drop}
+use lib.ListN.{drop, getD, length, length-append, length-drop, take, take-append-drop}
 use lib.Seq.{drop-append-add, drop-append-le, drop-drop, length-take-le, take-append-le, take-at, take-take}
 use Rattle.table.specs.Checking.{IsTable}
 use Rattle.table.specs.Numbers.{recordLength}
 use Rattle.table.specs.Table.{encode, encodes, forest, recordCount, top}
-use Rattle.table.specs.Trees.{Forest, Tree, nil, node, _▸_, records, recordsIn}
+use Rattle.table.specs.Trees.{_▸_, records, recordsIn}
 use Rattle.table.specs.Laws.Reading.{part-to}
 use Rattle.table.specs.Laws.RoundTrip.{length-encode}
 use Rattle.table.specs.Laws.Tables.{length-is}
