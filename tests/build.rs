@@ -1,8 +1,8 @@
-//! Links `libvolefleece.a`, from `../target/staticlib` or from the folder in `VOLEFLEECE_LIB_DIR`, and builds the library
-//! that tests load into the programs.
+//! Links `libvolefleece.a`, from `../target/staticlib` or from the folder in `VOLEFLEECE_LIB_DIR`, and `libprobes.a`, always from
+//! the first, and builds the library that tests load into the programs.
 
 use std::env;
-use std::path::PathBuf;
+use std::path::{Path, PathBuf};
 use std::process::Command;
 
 const LIB_DIR: &str = "VOLEFLEECE_LIB_DIR";
@@ -11,18 +11,22 @@ const LIB_DIR: &str = "VOLEFLEECE_LIB_DIR";
 const CALLS: &str = "preload/calls.rs";
 
 fn main() {
-    let dir = lib_dir();
-    let archive = dir.join("libvolefleece.a");
     println!("cargo:rerun-if-env-changed={LIB_DIR}");
+    link("volefleece", &lib_dir());
+    link("probes", &built_here());
+    build_calls();
+}
+
+fn link(name: &str, dir: &Path) {
+    let archive = dir.join(format!("lib{name}.a"));
     println!("cargo:rerun-if-changed={}", archive.display());
     assert!(
         archive.is_file(),
-        "{} is missing: build it with `rt staticlib volefleece`, or set {LIB_DIR}",
+        "{} is missing: build it with `rt staticlib {name}`; {LIB_DIR} may name another folder for libvolefleece.a",
         archive.display()
     );
     println!("cargo:rustc-link-search=native={}", dir.display());
-    println!("cargo:rustc-link-lib=static=volefleece");
-    build_calls();
+    println!("cargo:rustc-link-lib=static={name}");
 }
 
 fn build_calls() {
@@ -47,8 +51,12 @@ fn build_calls() {
 fn lib_dir() -> PathBuf {
     match env::var_os(LIB_DIR) {
         Some(dir) => PathBuf::from(dir),
-        None => set_by_cargo("CARGO_MANIFEST_DIR").join("../target/staticlib"),
+        None => built_here(),
     }
+}
+
+fn built_here() -> PathBuf {
+    set_by_cargo("CARGO_MANIFEST_DIR").join("../target/staticlib")
 }
 
 fn set_by_cargo(variable: &str) -> PathBuf {

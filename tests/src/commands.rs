@@ -161,6 +161,7 @@ ci | check | staticlib)
         cp "$HERE/program" target/bin/desk
         cp "$HERE/program" target/bin/sales
         cp "$HERE/program" target/staticlib/libvolefleece.a
+        cp "$HERE/program" target/staticlib/libprobes.a
         printf '%s\n' "$stamp" >"target/stamp/$2"
     fi
     rmdir "$HERE/busy"

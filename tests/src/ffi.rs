@@ -1,12 +1,15 @@
-//! The library's exported functions. Nothing checks these declarations against its source, so they
-//! stay few and plain; the tests use the safe wrappers, and `raw` only for what no slice can lend.
+//! The library's exported functions, and the probes, which are no part of it. Nothing checks these
+//! declarations against their source, so they stay few and plain; the tests use the safe wrappers, and
+//! `raw` only for what no slice can lend.
 
 mod figure;
 mod graft;
+mod probes;
 mod simplify;
 
 pub use figure::{figure, list, Figure, Listed};
 pub use graft::{graft, Grafted};
+pub use probes::{compare, Comparison};
 pub use simplify::{simplify, Simplified};
 
 /// The functions themselves.

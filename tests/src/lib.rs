@@ -9,7 +9,7 @@
 //! - `grafter`: the second grafter, questions 11 and 12.
 //! - `fits`: where the rules of simplifying fit, for small tables.
 //! - `members`, `runs`: lists member by member, and the dearest run, both for small trees.
-//! - `ffi`: the library's functions, declared and wrapped.
+//! - `ffi`: the library's functions and the probes, declared and wrapped.
 //! - `notation`: trees as docs/FORMAT.md writes them on a line.
 //! - `tables`, `cases`: hand-written tables, and document 01's cases.
 //! - `damage`, `faults`, `noise`: tables that are wrong in some way.

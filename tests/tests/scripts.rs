@@ -504,6 +504,7 @@ fn the_gate_ends_with_the_count() {
             "fmt --check",
             "ci",
             "staticlib volefleece",
+            "staticlib probes",
             "cargo test --release --offline"
         ]
     );
@@ -565,10 +566,15 @@ fn the_benchmarks_are_of_what_is_built() {
     assert_eq!(copy.run("bench").output, ran);
     assert_eq!(
         copy.calls(),
-        ["staticlib volefleece", "check desk", benched]
+        [
+            "staticlib volefleece",
+            "staticlib probes",
+            "check desk",
+            benched
+        ]
     );
     assert_eq!(copy.run("bench").status, Some(0));
-    assert_eq!(copy.calls()[3..], [benched]);
+    assert_eq!(copy.calls()[4..], [benched]);
 }
 
 #[test]
