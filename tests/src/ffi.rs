@@ -9,7 +9,7 @@ mod simplify;
 
 pub use figure::{figure, list, Figure, Listed};
 pub use graft::{graft, Grafted};
-pub use probes::{compare, Comparison};
+pub use probes::{compare, Compared};
 pub use simplify::{simplify, Simplified};
 
 /// The functions themselves.

@@ -13,6 +13,7 @@
 //! - `notation`: trees as docs/FORMAT.md writes them on a line.
 //! - `tables`, `cases`: hand-written tables, and document 01's cases.
 //! - `damage`, `faults`, `noise`: tables that are wrong in some way.
+//! - `fenced`: memory that kills who reaches outside it.
 //! - `compare`: one table, both readers, and what is lent to any call.
 //! - `quotes`: one table with values, both evaluators.
 //! - `simplifications`: one table with an allowance and a buffer, both simplifiers.
@@ -27,6 +28,7 @@ pub mod compare;
 pub mod damage;
 pub mod evaluator;
 pub mod faults;
+pub mod fenced;
 pub mod ffi;
 pub mod fits;
 pub mod format;
