@@ -1,2 +1,4 @@
 -- Definitions.
 pub mod Probes
+-- What is proved of them.
+pub mod Laws

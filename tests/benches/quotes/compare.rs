@@ -1,19 +1,14 @@
 //! The calls of this build against those of another one, on the same tables in one run: what a change
 //! made faster or slower. Both need the same C interface.
 //!
-//! Where a build lies in memory alone makes it up to a sixth slower. So each is loaded four times, a
-//! quarter of a cache line further each time, and the means of the best times there are compared.
+//! Each is loaded at four places, and the means of the best times there are compared.
 
 use crate::graft;
+use crate::places::{Loaded, PLACES};
 use crate::quote::{quotes, Limits, Quote, LIMITS, SIZES};
 use crate::simplify;
 use std::env;
-use std::ffi::{c_char, c_int, c_void, CStr, CString};
-use std::fs;
 use std::hint::black_box;
-use std::mem::transmute_copy;
-use std::path::Path;
-use std::process::Command;
 use std::rc::Rc;
 use std::time::{Duration, Instant};
 use volefleece_tests::ffi::{Checked, Figure, Grafted, Listed, Simplified};
@@ -25,7 +20,6 @@ const REPETITIONS: usize = 201;
 const SIMPLIFYING_REPETITIONS: usize = 21;
 
 const LONGEST: usize = MOST_RECORDS * RECORD_BYTES;
-const CACHE_LINE: usize = 64;
 
 const THIS_BUILD: &str = concat!(
     env!("CARGO_MANIFEST_DIR"),
@@ -41,15 +35,12 @@ pub fn measure(before: &str) {
     println!("Microseconds a call, before and now, and now's time by before's: means over four places in");
     println!("memory of the best of {REPETITIONS} repetitions ({SIMPLIFYING_REPETITIONS} for simplifying) over {TABLES} tables.");
     println!("\nrecords tables     call     |   before      now ratio");
-    let places = (0..CACHE_LINE).step_by(CACHE_LINE / 4);
-    let builds: Vec<[Build; 2]> = places
-        .map(|place| {
-            [
-                Build::load("before", before, place),
-                Build::load("now", THIS_BUILD, place),
-            ]
-        })
-        .collect();
+    let builds = PLACES.map(|place| {
+        [
+            Build::load("before", before, place),
+            Build::load("now", THIS_BUILD, place),
+        ]
+    });
     let mut ratios: Vec<(&str, f64)> = Vec::new();
     for records in SIZES {
         for mut work in works(records) {
@@ -188,14 +179,6 @@ fn grafting(records: usize, parts: graft::Parts) -> Work {
     }
 }
 
-extern "C" {
-    fn dlopen(path: *const c_char, mode: c_int) -> *mut c_void;
-    fn dlsym(library: *mut c_void, name: *const c_char) -> *mut c_void;
-}
-
-/// To bind every name when the library is loaded.
-const RTLD_NOW: c_int = 2;
-
 /// A build's functions.
 struct Build {
     check: unsafe extern "C" fn(*const u8, usize) -> Checked,
@@ -206,47 +189,19 @@ struct Build {
 }
 
 impl Build {
-    /// Loads an archive's functions, so many bytes behind a cache line's start.
     fn load(name: &str, archive: &str, place: usize) -> Build {
-        let folder = Path::new(env!("CARGO_TARGET_TMPDIR"));
-        let space = folder.join("space.s");
-        let library = folder.join(format!("{name}-{place}.so"));
-        // One line more, as the assembler warns of none at all.
-        let bytes = CACHE_LINE + place;
-        let lines =
-            format!(".section .note.GNU-stack,\"\",@progbits\n.text\n.p2align 6\n.skip {bytes}\n");
-        fs::write(&space, lines).expect("the assembler's file is written");
-        let linked = Command::new("cc")
-            .args(["-shared", "-nostdlib", "-o"])
-            .args([&library, &space])
-            .args(["-Wl,--whole-archive", archive, "-Wl,--no-whole-archive"])
-            .status();
-        assert!(
-            linked.is_ok_and(|status| status.success()),
-            "cc -shared {archive}"
-        );
-        let path = CString::new(library.to_str().expect("a path in UTF-8")).expect("no zero byte");
-        // SAFETY: the library runs nothing when it is loaded, and its functions have the header's types.
+        let library = Loaded::new(name, archive, place);
+        // SAFETY: the functions have the header's types.
         unsafe {
-            let library = dlopen(path.as_ptr(), RTLD_NOW);
-            assert!(!library.is_null(), "{path:?} is not loaded");
             Build {
-                check: function(library, c"vf_check"),
-                figure: function(library, c"vf_figure"),
-                list: function(library, c"vf_list"),
-                simplify: function(library, c"vf_simplify"),
-                graft: function(library, c"vf_graft"),
+                check: library.function(c"vf_check"),
+                figure: library.function(c"vf_figure"),
+                list: library.function(c"vf_list"),
+                simplify: library.function(c"vf_simplify"),
+                graft: library.function(c"vf_graft"),
             }
         }
     }
-}
-
-/// A loaded library's function, of the type `F`.
-unsafe fn function<F>(library: *mut c_void, name: &CStr) -> F {
-    let found = dlsym(library, name.as_ptr());
-    assert!(!found.is_null(), "{name:?} is missing");
-    assert_eq!(size_of::<F>(), size_of_val(&found));
-    transmute_copy(&found)
 }
 
 // SAFETY, of each: the pointers and lengths are those of live slices, and only the one that is lent

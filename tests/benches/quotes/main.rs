@@ -1,13 +1,15 @@
 //! Measures the library against plain Rust, on the same tables in one run: checking against the second
 //! reader, the figure and list calls against reader and evaluator, simplifying and grafting against the
 //! second simplifier and grafter. Both sides start from bytes and are built for release, Rust without
-//! overflow checks. Then come the stack that the calls want and, where they are there, the desk program
-//! and `lp_solve` as processes. Where another build of the library is named, the calls are measured
-//! against that one instead.
+//! overflow checks. The comparison that rule 8 makes is measured by itself, against loops of its kind.
+//! Then come the stack that the calls want and, where they are there, the desk program and `lp_solve`
+//! as processes. Where another build of the library is named, the calls are measured against that one
+//! instead.
 
 mod calls;
 mod compare;
 mod graft;
+mod places;
 mod processes;
 mod program;
 mod quote;
@@ -15,6 +17,7 @@ mod shared;
 mod simplify;
 mod stack;
 mod timing;
+mod words;
 
 fn main() {
     if stack::is_probe() {
@@ -26,6 +29,8 @@ fn main() {
     calls::measure();
     println!();
     simplify::measure();
+    println!();
+    words::measure();
     println!();
     graft::measure();
     println!();
