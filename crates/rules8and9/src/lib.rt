@@ -41,11 +41,14 @@ fn same_records(table: &[u8], a: usize, b: usize, n: usize) -> bool
     }
 }
 
-// Are the subtrees at records a and b the same?
+// Are the subtrees at records a and b the same? Nothing is read of one and the same subtree, nor where their lengths differ.
 fn same_subtrees(table: &[u8], extents: &[usize], a: usize, b: usize) -> bool
     requires { ⌜ Extents (now table) (now extents) ⌝ ∗ ⌜ a < recordCount (now table) ⌝ ∗ ⌜ b < recordCount (now table) ⌝ }
     ensures { λ r. ⌜ r ≡ same (subtree (now (table .entry)) a) (subtree (now (table .entry)) b) ⌝ }
 {
+    if a == b {
+        return true;
+    }
     let n = extents[a];
     if n != extents[b] {
         return false;

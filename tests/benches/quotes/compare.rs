@@ -6,6 +6,7 @@
 use crate::graft;
 use crate::places::{Loaded, PLACES};
 use crate::quote::{quotes, Limits, Quote, LIMITS, SIZES};
+use crate::shared;
 use crate::simplify;
 use std::env;
 use std::hint::black_box;
@@ -42,16 +43,14 @@ pub fn measure(before: &str) {
         ]
     });
     let mut ratios: Vec<(&str, f64)> = Vec::new();
-    for records in SIZES {
-        for mut work in works(records) {
-            print!("{records:7} {:10} {:8} | ", work.tables, work.call);
-            match work.times(&builds) {
-                Some([before, now]) => {
-                    println!("{before:8.2} {now:8.2} {:5.2}", now / before);
-                    ratios.push((work.call, now / before));
-                }
-                None => println!("the answers differ"),
+    for mut work in SIZES.into_iter().flat_map(works).chain(shared_works()) {
+        print!("{:7} {:10} {:8} | ", work.records, work.tables, work.call);
+        match work.times(&builds) {
+            Some([before, now]) => {
+                println!("{before:8.2} {now:8.2} {:5.2}", now / before);
+                ratios.push((work.call, now / before));
             }
+            None => println!("the answers differ"),
         }
     }
     println!();
@@ -70,6 +69,7 @@ fn print_range(call: &str, ratios: Vec<f64>) {
 
 /// One call on some tables.
 struct Work {
+    records: usize,
     tables: &'static str,
     call: &'static str,
     repetitions: usize,
@@ -105,7 +105,7 @@ fn works(records: usize) -> Vec<Work> {
     let quotes = LIMITS.map(|limits| (limits, quotes(TABLES, records, limits).into()));
     let quoting = quotes
         .iter()
-        .flat_map(|(limits, quotes)| quoting(*limits, quotes));
+        .flat_map(|(limits, quotes)| quoting(records, *limits, quotes));
     let plain = quotes.iter().map(|(limits, quotes)| {
         let tables = quotes.iter().map(|quote| quote.table.clone());
         simplifying(limits.name(), tables.collect())
@@ -118,8 +118,18 @@ fn works(records: usize) -> Vec<Work> {
     quoting.chain(plain).chain(made).chain(grafting).collect()
 }
 
-fn quoting(limits: Limits, quotes: &Rc<[Quote]>) -> [Work; 3] {
+/// Simplifying of tables whose second children rule 8 compares.
+fn shared_works() -> impl Iterator<Item = Work> {
+    let kinds = shared::SHAPES
+        .into_iter()
+        .flat_map(|shape| shared::SECONDS.map(|seconds| (shape, seconds)));
+    kinds
+        .map(|(shape, seconds)| simplifying(seconds.name(), shared::tables(TABLES, shape, seconds)))
+}
+
+fn quoting(records: usize, limits: Limits, quotes: &Rc<[Quote]>) -> [Work; 3] {
     let work = |call, run| Work {
+        records,
         tables: limits.name(),
         call,
         repetitions: REPETITIONS,
@@ -156,6 +166,7 @@ fn quoting(limits: Limits, quotes: &Rc<[Quote]>) -> [Work; 3] {
 fn simplifying(name: &'static str, tables: Vec<Vec<u8>>) -> Work {
     let mut out = [0; LONGEST];
     Work {
+        records: tables[0].len() / RECORD_BYTES,
         tables: name,
         call: "simplify",
         repetitions: SIMPLIFYING_REPETITIONS,
@@ -167,6 +178,7 @@ fn grafting(records: usize, parts: graft::Parts) -> Work {
     let pairs = graft::pairs(records, parts);
     let mut out = [0; LONGEST];
     Work {
+        records,
         tables: parts.name(),
         call: "graft",
         repetitions: REPETITIONS,

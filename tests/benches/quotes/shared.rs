@@ -29,7 +29,11 @@ impl Seconds {
 }
 
 /// Tables that take some steps, the same in every run.
-pub fn tables(count: usize, (alternatives, records): (usize, usize), seconds: Seconds) -> Vec<Vec<u8>> {
+pub fn tables(
+    count: usize,
+    (alternatives, records): (usize, usize),
+    seconds: Seconds,
+) -> Vec<Vec<u8>> {
     let mut rng = Rng::new((alternatives * records) as u64);
     let random = || tree(&mut rng, alternatives, records, seconds).encode();
     let tables = std::iter::repeat_with(random)

@@ -88,6 +88,11 @@ module _ (b : List ℕ) (i j n : ℕ) where
 -- ---- two subtrees compared
 
 module _ (b extents : List ℕ) (s : Extents b extents) (i j : ℕ) (l : i < recordCount b) (m : j < recordCount b) where
+  pub same-place : i ≡ j → true ≡ same (subtree b i) (subtree b j)
+  same-place e =
+      let p = s .table in
+      sym (T-is _ (bytes-same (subtree b i) (subtree b j) (subtree-sound b p i l .fair .listed) (subtree-sound b p j m .fair .listed) (ap (λ k. encode (subtree b k)) e)))
+
   -- they differ in how many records they have
   pub other-sizes : (getD extents i 0 ≡ getD extents j 0 → ⊥) → false ≡ same (subtree b i) (subtree b j)
   other-sizes e =
