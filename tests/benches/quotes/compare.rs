@@ -120,11 +120,7 @@ fn works(records: usize) -> Vec<Work> {
 
 /// Simplifying of tables whose second children rule 8 compares.
 fn shared_works() -> impl Iterator<Item = Work> {
-    let kinds = shared::SHAPES
-        .into_iter()
-        .flat_map(|shape| shared::SECONDS.map(|seconds| (shape, seconds)));
-    kinds
-        .map(|(shape, seconds)| simplifying(seconds.name(), shared::tables(TABLES, shape, seconds)))
+    shared::kinds(TABLES).map(|kind| simplifying(kind.name, kind.tables))
 }
 
 fn quoting(records: usize, limits: Limits, quotes: &Rc<[Quote]>) -> [Work; 3] {

@@ -1,7 +1,7 @@
 //! The simplifying call against plain Rust.
 
 use crate::quote::{quotes, LIMITS, SIZES};
-use crate::shared;
+use crate::shared::{self, Shared};
 use crate::timing::{each, median, microseconds};
 use volefleece_tests::ffi;
 use volefleece_tests::format::{MOST_RECORDS, RECORD_BYTES};
@@ -24,11 +24,15 @@ pub fn measure() {
         "library's time by plain Rust's, and the medians of the steps taken and the records left. The"
     );
     println!(
-        "trees are those above by their limits, some with much to simplify, and some of zeros, which go"
+        "trees are those above by their limits, some with much to simplify, some of zeros, which go one at"
     );
     println!(
-        "one at a step. The library's buffer is used again and not cleared; plain Rust makes a new table."
+        "a step, and choices of two to six alternatives with long second children: shared, nearly shared,"
     );
+    println!(
+        "and nearly shared with all steps behind them. The library's buffer is used again and not cleared;"
+    );
+    println!("plain Rust makes a new table.");
     println!("{HEADING}");
     for records in SIZES {
         for limits in LIMITS {
@@ -39,11 +43,8 @@ pub fn measure() {
         measure_tables(records, "redundant", &redundant(records));
         measure_tables(records, "zeros", &zeros(records));
     }
-    for shape in shared::SHAPES {
-        for seconds in shared::SECONDS {
-            let tables = shared::tables(TABLES, shape, seconds);
-            measure_tables(tables[0].len() / RECORD_BYTES, seconds.name(), &tables);
-        }
+    for Shared { name, tables } in shared::kinds(TABLES) {
+        measure_tables(tables[0].len() / RECORD_BYTES, name, &tables);
     }
 }
 
