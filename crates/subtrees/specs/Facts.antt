@@ -129,7 +129,7 @@ Moved from to n extents marks extents' marks' = (k : ℕ) → k < n → SameFact
 abbrev pub Own : Tree → (extents marks : List ℕ) → ℕ → Type 0
 Own t extents marks k = (getD extents k 0 ≡ records t) × Marked t marks k
 
--- those of each record before `at`, where what stands there as its extent ends at `at` or before
+-- so it is with each record before record i whose extent, as it stands there, ends at record `at` or before
 abbrev pub OwnBefore : (b extents marks : List ℕ) (at i : ℕ) → Type 0
 OwnBefore b extents marks at i = (j : ℕ) → j < i → j + getD extents j 0 ≤ at → Own (subtree b j) extents marks j
 
