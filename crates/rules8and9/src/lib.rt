@@ -26,7 +26,7 @@ use words::Comparison;
 
 // ---- Rule 8
 
-// Are the n records from record a on the same, byte for byte, as those from record b on? A record is two words.
+// Are the n records from record a on the same, byte for byte, as those from record b on? A record is two words, so a subtree is a whole number of them.
 fn same_records(table: &[u8], a: usize, b: usize, n: usize) -> bool
     requires { ⌜ (recordLength * (a + n) ≤ length (now table)) × (recordLength * (b + n) ≤ length (now table)) ⌝ }
     ensures { λ r. ⌜ r ≡ sameBytes (slice (now (table .entry)) a n) (slice (now (table .entry)) b n) ⌝ }

@@ -19,10 +19,14 @@ NoRule (node n f) = rule n f ≡ none
 abbrev pub Settled : (b extents : List ℕ) → ℕ → Type 0
 Settled b extents at = (j : ℕ) → j < recordCount b → j + getD extents j 0 ≤ at → NoRule (subtree b j)
 
--- A step at record `at`: no rule fits before, and the n records at the front of a buffer are a tree in the place of the one there, which ends before
--- record `end`, and then those that stand from there on.
+-- no rule fits before record i
+abbrev pub Quiet : List ℕ → ℕ → Type 0
+Quiet b i = (j : ℕ) → j < i → NoRule (subtree b j)
+
+-- a step at record `at`, before which no rule fits: the first n records of a buffer are a tree in the place of the one there, and then those from record
+-- `end` on
 pub record Placed (b : List ℕ) (at end n : ℕ) (out : List ℕ) : Type 0 where
-  pub quiet : (j : ℕ) → j < at → NoRule (subtree b j)
+  pub quiet : Quiet b at
   pub inside : at < recordCount b
   pub tree : Tree
   pub count : n ≡ records tree + (recordCount b - end)

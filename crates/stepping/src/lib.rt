@@ -53,7 +53,7 @@ fn rule1_at(table: &[u8], marks: &[u8], out: &mut [u8]) -> usize
 
 // A step: rule 1 for the whole table, or the earliest record where a rule fits and there the lowest. `at` is the record from which on the last step changed
 // the table, 0 where nothing is known.
-pub fn step_onto(table: &[u8], extents: &[usize], marks: &[u8], at: usize, out: &mut [u8]) -> Spot
+fn step_onto(table: &[u8], extents: &[usize], marks: &[u8], at: usize, out: &mut [u8]) -> Spot
     requires { ⌜ Simplifiable (now table) ⌝ ∗ ⌜ Surveyed (now table) (now extents) (now marks) ⌝ ∗ ⌜ Settled (now table) (now extents) at ⌝ ∗ ⌜ length (now table) ≤ length (now out) ⌝ }
     ensures { λ r. ⌜ Rewritten (stepped (decode (now (table .entry)))) (now (table .entry)) (r .at) (r .len) (now (out .exit)) ⌝ }
     ensures { λ r. ⌜ Found (now (table .entry)) (now (extents .entry)) (r .at) (r .len) (now (out .exit)) ⌝ }

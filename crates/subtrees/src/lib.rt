@@ -1,4 +1,4 @@
-// Facts of a table's subtrees, each given by its record: one pass over the table finds those of all.
+// Facts of a table's subtrees, each given by its record: one pass over the table finds those of all, and after a change another those that it outdated.
 ghost use mathlib.Core.Path.{_≡_};
 ghost use mathlib.Core.Bool.{cond, false};
 ghost use Prim.Native.Nat.{_+_, _*_, _<_, _≤_, max};

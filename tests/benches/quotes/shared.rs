@@ -9,7 +9,7 @@ use volefleece_tests::trees::{self, Kind, Tree};
 /// How many alternatives there are, and how many records each second child has.
 const SHAPES: [(usize, usize); 6] = [(2, 60), (2, 160), (3, 160), (4, 120), (6, 60), (6, 80)];
 
-/// The records of what stands behind the choice, where that is simplified.
+/// The records of what stands behind the choice, where that is simplified, and of the root.
 const BEHIND: usize = 100;
 
 /// What the second children have in common, and where there is something to simplify.
@@ -86,7 +86,9 @@ impl Seconds {
         let choice = Tree::new(Kind::Choice, pairs);
         match self {
             Seconds::Behind => {
-                let behind = trees::redundant(rng, BEHIND - 1).unlimited();
+                // In a choice, as the root would take a sequence in.
+                let inner = trees::redundant(rng, BEHIND - 3).unlimited();
+                let behind = Tree::new(Kind::Choice, vec![inner, Tree::symbol_block(16)]);
                 Tree::new(Kind::Sequence, vec![choice, behind])
             }
             _ => choice,
@@ -94,7 +96,7 @@ impl Seconds {
     }
 }
 
-/// A sequence of so many records, five or more, that no rule fits: of choices of two symbols, the last of
+/// A sequence of so many records, seven or more, that no rule fits: of choices of two symbols, the last of
 /// up to four.
 fn finished(records: usize) -> Tree {
     let choice = |symbols| Tree::new(Kind::Choice, vec![Tree::symbol_block(16); symbols]);

@@ -5,7 +5,8 @@ use native.Mathlib.Omega.{arith}
 use borrow.Author.Needs.{needs}
 use lib.ListN.{length}
 use Rattle.subtrees.specs.Laws.Parts.{extent-some, past-inside}
-use Rattle.searching.specs.Laws.Found.{Quiet, passed-over, placed, quiet-next, quiet-none}
+use Rattle.searching.specs.Found.{Quiet}
+use Rattle.searching.specs.Laws.Found.{passed-over, placed, quiet-next, quiet-none}
 use Rattle.searching.specs.Laws.Search.{Sought, sought-end, sought-found, sought-next, sought-none}
 use Rattle.searching.proofs.find.Statement.{statement}
 use Rattle.searching.proofs.find.Tie as tie
@@ -42,7 +43,7 @@ loop-again c =
     let turn = c .before .before in
     let start = turn .before .before .before .before .before .before in
     let (sought, quiet, same) = turn .before .loop .inv in
-    let past = passed-over _ _ (start .pre .0 .sizes) _ (start .pre .1 .1 .1) _ (turn .loop-test .taken) (c .if1 .taken) sought quiet in
+    let past = passed-over _ _ (start .pre .0 .sizes) _ (start .pre .1 .1 .1) _ (turn .loop-test .taken) (omega (arith, c .if1 .taken)) sought quiet in
     (past .0, past .1, same)
 
 rule-at-requires : tie.Need-rule-at-requires Inv-loop μ-loop

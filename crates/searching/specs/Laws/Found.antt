@@ -19,19 +19,16 @@ use Rattle.subtrees.specs.Parts.{subtree, treesAt}
 use Rattle.subtrees.specs.Laws.Forests.{records-⧺}
 use Rattle.subtrees.specs.Laws.Parts.{back-at, here-at, next-at, past-node, records-at, top-at}
 use Rattle.rewrite.specs.Wrote.{Wrote, ruleAt}
-use Rattle.searching.specs.Found.{NoRule, Placed, Settled}
+use Rattle.rewrite.specs.Laws.Records.{⧺-assoc}
+use Rattle.searching.specs.Found.{NoRule, Placed, Quiet, Settled}
 use Rattle.searching.specs.Laws.Search.{Sought, fits-here, fits-not, rule-here, sought-next}
-
--- no rule fits before record i
-abbrev pub Quiet : List ℕ → ℕ → Type 0
-Quiet b i = (j : ℕ) → j < i → NoRule (subtree b j)
 
 pub quiet-none : (b : List ℕ) → Quiet b 0
 quiet-none b j l = absurd (omega arith)
 
 module _ (b : List ℕ) (s : IsTable b) (i : ℕ) (l : i < recordCount b) where
   -- where no rule fits, nothing is to be written
-  pub skipped : (out : List ℕ) → NoRule (subtree b i) → Wrote (ruleAt rule (treesAt b i)) 0 out
+  skipped : (out : List ℕ) → NoRule (subtree b i) → Wrote (ruleAt rule (treesAt b i)) 0 out
   unfolding NoRule Wrote also
   skipped out q = let h = here-at b s i l in rw (rule-here b i h, subst NoRule (top-at b i (h .here)) q) refl
 
@@ -47,11 +44,6 @@ module _ (b : List ℕ) (s : IsTable b) (i : ℕ) (l : i < recordCount b) where
       go false e = q j (omega (arith, eqb-false j i e))
 
 -- ---- a subtree passed over
-
-row-assoc : (f g h : Forest) → (f ⧺ g) ⧺ h ≡ f ⧺ (g ⧺ h)
-unfolding _⧺_
-row-assoc nil g h = refl
-row-assoc (t ▸ f) g h = ap (λ k. t ▸ k) (row-assoc f g h)
 
 -- n records' trees stand at record i, before others
 record Stands (b : List ℕ) (i n : ℕ) (others : Forest) : Type 0 where
@@ -71,7 +63,7 @@ module _ (b extents : List ℕ) (x : Extents b extents) where
       go nil e c = absurd (unfold recordsIn in omega (arith, c))
       go (node m f ▸ r) e c = record {
         row = f ⧺ r;
-        here = next-at b s i m f (r ⧺ g) (unfold _⧺_ in e) ∙ sym (row-assoc f r g);
+        here = next-at b s i m f (r ⧺ g) (unfold _⧺_ in e) ∙ sym (⧺-assoc f r g);
         count = records-⧺ f r ∙ (unfold recordsIn in unfold records in omega (arith, c));
       }
 

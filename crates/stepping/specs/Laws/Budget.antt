@@ -189,7 +189,7 @@ module _ (b₀ : List ℕ) (n : ℕ) (work : List ℕ) (long k : ℕ) (extents m
         let t = s .going .simplifiable in
         omega (arith, next-one .count, kept-step _ _ (next-one .is) .noMore (λ x. t .fits) (t .table .accepted), length-encode (decode (take long work)), ap length (t .table .back), long-is)
 
-    pub stage-next : k < n → Going b₀ n (front at (take long work) ++ front m out) (k + 1)
+    stage-next : k < n → Going b₀ n (front at (take long work) ++ front m out) (k + 1)
     stage-next l = going-next b₀ n (take long work) k (s .going) l next-one
 
     pub stage-spent : n ≤ k → Ends b₀ n (take long work) k false

@@ -102,7 +102,7 @@ module _ (b extents marks : List ℕ) (v : Surveyed b extents marks) (at n : ℕ
         let same = same-before b new s u at (omega (arith, p .inside)) (omega (arith, count)) same-front j l (omega (arith, o, size)) in
         subst (λ t. Own t extents marks j) (sym same) (size, v .each j l)
 
-    pub outdated : at + n ≤ recordCount b → Outdated new extents marks at end (recordCount b - end)
+    outdated : at + n ≤ recordCount b → Outdated new extents marks at end (recordCount b - end)
     outdated f = record {
       changed = omega (arith, count, p .count);
       fewer = omega (arith, count, f, end-inside);
@@ -111,7 +111,7 @@ module _ (b extents marks : List ℕ) (v : Surveyed b extents marks) (at n : ℕ
       before = λ j l o. before j (omega (arith, l, p .inside)) o;
     }
 
-    pub settled : {extents' marks' : List ℕ} → Surveyed new extents' marks' → Settled new extents' at
+    settled : {extents' marks' : List ℕ} → Surveyed new extents' marks' → Settled new extents' at
     settled w j l o =
         let size = w .sizes .each j l in
         let same = same-before new b u s at (omega (arith, count)) (omega (arith, p .inside)) (sym same-front) j l (omega (arith, o, size)) in

@@ -205,7 +205,7 @@ then-same p q =
     record { size = q .size ∙ p .size; symbols = q .symbols ∙ p .symbols; named = q .named ∙ p .named; reach = q .reach ∙ p .reach; below = q .below ∙ p .below }
 
 -- a tree's facts are its own wherever they stand
-pub own-moved : (t : Tree) {extents marks extents' marks' : List ℕ} {j k : ℕ} → SameFacts extents marks j extents' marks' k → Own t extents marks j → Own t extents' marks' k
+own-moved : (t : Tree) {extents marks extents' marks' : List ℕ} {j k : ℕ} → SameFacts extents marks j extents' marks' k → Own t extents marks j → Own t extents' marks' k
 own-moved t s (e, m) =
     (s .size ∙ e, record { symbols = s .symbols ∙ m .symbols; named = s .named ∙ m .named; reach = s .reach ∙ m .reach; below = s .below ∙ m .below })
 
