@@ -5,14 +5,13 @@ use Prim.Native.Nat.{ℕ}
 use denote.Enum.Declared.{tagOf}
 use types.Run.{OneOf, miss}
 use Rattle.table.proofs.Kind.{the-type}
-use Rattle.table.specs.Numbers.{wholeRun}
 use Rattle.table.specs.Trees.{rest}
 use Rattle.table.specs.declared.Kind.{Kind}
 use Rattle.table.specs.declared.Kind.the-variants.{Block, Sequence, Choice, Loop}
 use Rattle.lists.specs.Operations.{addPairs}
-use Rattle.lists.specs.Pairs.{Pairs, ever}
-use Rattle.evaluate.specs.Evaluate.{Values}
-use Rattle.evaluate.specs.Evaluator.{Found, evaluateBelow, evaluateMore, found, goneRound, joinPairs}
+use Rattle.lists.specs.Pairs.{Pairs}
+use Rattle.evaluate.specs.Evaluate.{Values, noBranch}
+use Rattle.evaluate.specs.Evaluator.{Found, evaluateBelow, evaluateMore, goneRound, held, joinPairs, noneYet}
 
 -- the kind's number is one of these: 0 a block, 1 a sequence, 2 a choice, 3 a loop
 abbrev pub Among : List ℕ → Kind → Type 0
@@ -32,6 +31,13 @@ join-other Sequence r s h = refl
 join-other Choice r s h = absurd (miss (0 ∷ 1 ∷ 3 ∷ []) 2 tt h)
 join-other (Loop n) r s h = refl
 
+pub held-other : (k : Kind) (c x i y : ℕ) → Among (0 ∷ 1 ∷ 3 ∷ []) k → noBranch ≡ held k c x i y
+unfolding held
+held-other (Block t) c x i y h = refl
+held-other Sequence c x i y h = refl
+held-other Choice c x i y h = absurd (miss (0 ∷ 1 ∷ 3 ∷ []) 2 tt h)
+held-other (Loop n) c x i y h = refl
+
 pub round-other : (v : Values) (k : Kind) (c : Found) → Among (0 ∷ 1 ∷ 2 ∷ []) k → c ≡ goneRound v k c
 unfolding goneRound
 round-other v (Block t) c h = refl
@@ -40,7 +46,7 @@ round-other v Choice c h = refl
 round-other v (Loop n) c h = absurd (miss (0 ∷ 1 ∷ 2 ∷ []) 3 tt h)
 
 pub below-other : (v : Values) (f : List ℕ → Found) (k : Kind) (n : ℕ) (b : List ℕ) → Among (1 ∷ 2 ∷ 3 ∷ []) k
-    → evaluateMore v f k n b (found (ever 0) wholeRun 0) ≡ evaluateBelow v f k n b
+    → evaluateMore v f k 0 n b noneYet ≡ evaluateBelow v f k n b
 unfolding evaluateBelow
 below-other v f (Block t) n b h = absurd (miss (1 ∷ 2 ∷ 3 ∷ []) 0 tt h)
 below-other v f Sequence n b h = refl

@@ -16,32 +16,32 @@ use Rattle.table.specs.declared.Most.{Most}
 use Rattle.lists.specs.Operations.{capPairs, first, groupPairs}
 use Rattle.lists.specs.Pairs.{Pairs, ever, top, width}
 use Rattle.evaluate.specs.Evaluate.{Values, outward}
-use Rattle.evaluate.specs.Evaluator.{Found, andThen, checked, evaluateBelow, evaluateMore, evaluateNode, found, goneRound, joinPairs, joined, limited, looked, looped, unfit}
+use Rattle.evaluate.specs.Evaluator.{Found, andThen, checked, evaluateBelow, evaluateMore, evaluateNode, found, goneRound, held, joinPairs, joined, limited, looked, looped, unfit}
 use Rattle.evaluate.specs.Shown.{withNext}
 
 -- ---- steps
 
-pub checked-low : (p : Pairs) (k n : ℕ) → top p ≤ mostTime → checked p k n ≡ found p k n
-checked-low p k n l = rw (le-leb (top p) mostTime l) refl
+pub checked-low : (p : Pairs) (k n c : ℕ) → top p ≤ mostTime → checked p k n c ≡ found p k n c
+checked-low p k n c l = rw (le-leb (top p) mostTime l) refl
 
-pub checked-high : (p : Pairs) (k n : ℕ) → mostTime < top p → checked p k n ≡ unfit
-checked-high p k n l = rw (lt-leb (top p) mostTime l) refl
+pub checked-high : (p : Pairs) (k n c : ℕ) → mostTime < top p → checked p k n c ≡ unfit
+checked-high p k n c l = rw (lt-leb (top p) mostTime l) refl
 
-pub joined-wide : (k : Kind) (s c : Found) → mostWeight < width (s .pairs) + width (c .pairs) → joined k s c ≡ unfit
+pub joined-wide : (k : Kind) (i : ℕ) (s c : Found) → mostWeight < width (s .pairs) + width (c .pairs) → joined k i s c ≡ unfit
 unfolding joined
-joined-wide k s c l = rw (lt-leb (width (s .pairs) + width (c .pairs)) mostWeight l) refl
+joined-wide k i s c l = rw (lt-leb (width (s .pairs) + width (c .pairs)) mostWeight l) refl
 
-pub joined-room : (k : Kind) (s c : Found) → width (s .pairs) + width (c .pairs) ≤ mostWeight
-    → joined k s c ≡ checked (joinPairs k (s .pairs) (c .pairs)) (min (s .named) (c .named)) (s .records + c .records)
+pub joined-room : (k : Kind) (i : ℕ) (s c : Found) → width (s .pairs) + width (c .pairs) ≤ mostWeight
+    → joined k i s c ≡ checked (joinPairs k (s .pairs) (c .pairs)) (min (s .named) (c .named)) (s .records + c .records) (held k (s .branch) (top (s .pairs)) i (top (c .pairs)))
 unfolding joined
-joined-room k s c l = rw (le-leb (width (s .pairs) + width (c .pairs)) mostWeight l) refl
+joined-room k i s c l = rw (le-leb (width (s .pairs) + width (c .pairs)) mostWeight l) refl
 
 module _ (n : ℕ) (c : Found) where
   pub looped-many : mostCount < n → looped n c ≡ unfit
   unfolding looped
   looped-many m = rw (lt-leb n mostCount m) refl
 
-  pub looped-own : n ≤ mostCount → c .named ≤ 1 → looped n c ≡ checked (ever (first (c .pairs) n)) (outward (c .named)) (c .records)
+  pub looped-own : n ≤ mostCount → c .named ≤ 1 → looped n c ≡ checked (ever (first (c .pairs) n)) (outward (c .named)) (c .records) (c .branch)
   unfolding looped
   looped-own m o = rw (le-leb n mostCount m, le-leb (c .named) 1 o) refl
 
@@ -49,7 +49,7 @@ module _ (n : ℕ) (c : Found) where
   unfolding looped
   looped-wide m o l = rw (le-leb n mostCount m, lt-leb (c .named) 1 o, lt-leb (2 * width (c .pairs)) mostWeight l) refl
 
-  pub looped-room : n ≤ mostCount → 1 < c .named → 2 * width (c .pairs) ≤ mostWeight → looped n c ≡ checked (groupPairs n (c .pairs)) (outward (c .named)) (c .records)
+  pub looped-room : n ≤ mostCount → 1 < c .named → 2 * width (c .pairs) ≤ mostWeight → looped n c ≡ checked (groupPairs n (c .pairs)) (outward (c .named)) (c .records) (c .branch)
   unfolding looped
   looped-room m o l = rw (le-leb n mostCount m, lt-leb (c .named) 1 o, le-leb (2 * width (c .pairs)) mostWeight l) refl
 
@@ -63,7 +63,7 @@ module _ (v : Values) (k : ℕ) (m : Most) (s : Found) where
   limited-wide l w = rw (le-leb (looked v m) mostCount l, lt-leb (suc (width (s .pairs))) mostWeight w) refl
 
   pub limited-room : looked v m ≤ mostCount → suc (width (s .pairs)) ≤ mostWeight
-      → limited v (AtMost k m) s ≡ found (capPairs (looked v m) (s .pairs)) (min k (s .named)) (suc (s .records))
+      → limited v (AtMost k m) s ≡ found (capPairs (looked v m) (s .pairs)) (min k (s .named)) (suc (s .records)) (s .branch)
   unfolding limited
   limited-room l w = rw (le-leb (looked v m) mostCount l, le-leb (suc (width (s .pairs))) mostWeight w) refl
 
@@ -84,9 +84,9 @@ unfolding evaluateNode
 node-read v zero b f l = absurd (f refl)
 node-read v (suc h) b f l = rw (le-leb recordLength (length b) l, sub-one (suc h)) refl
 
-pub more-done : (v : Values) (f : List ℕ → Found) (k : Kind) (n : ℕ) (b : List ℕ) (s : Found) → n ≡ 0 → evaluateMore v f k n b s ≡ s
+pub more-done : (v : Values) (f : List ℕ → Found) (k : Kind) (i n : ℕ) (b : List ℕ) (s : Found) → n ≡ 0 → evaluateMore v f k i n b s ≡ s
 unfolding evaluateMore
-more-done v f k n b s e = rw e refl
+more-done v f k i n b s e = rw e refl
 
 -- one after the other, in two ways
 regrouped : (c : Found) (f g h : Found → Found) → andThen c (λ c. andThen (f c) (λ d. andThen (g d) h)) ≡ andThen (andThen c (λ c. andThen (f c) g)) h
@@ -97,8 +97,8 @@ regrouped c f g h = go (c .fits) (f c .fits)
     go true false = refl
     go false u = refl
 
-pub more-next : (v : Values) (f : List ℕ → Found) (k : Kind) (n : ℕ) (b : List ℕ) (s : Found) → 0 < n
-    → evaluateMore v f k n b s ≡ andThen (withNext v k s (f (drop (recordLength * s .records) b))) (evaluateMore v f (rest k) (n - 1) b)
+pub more-next : (v : Values) (f : List ℕ → Found) (k : Kind) (i n : ℕ) (b : List ℕ) (s : Found) → 0 < n
+    → evaluateMore v f k i n b s ≡ andThen (withNext v k i s (f (drop (recordLength * s .records) b))) (evaluateMore v f (rest k) (suc i) (n - 1) b)
 unfolding evaluateMore withNext
-more-next v f k zero b s p = absurd (omega arith)
-more-next v f k (suc n) b s p = rw (sub-one (suc n)) (regrouped (f (drop (recordLength * s .records) b)) (goneRound v k) (joined k s) (evaluateMore v f (rest k) n b))
+more-next v f k i zero b s p = absurd (omega arith)
+more-next v f k i (suc n) b s p = rw (sub-one (suc n)) (regrouped (f (drop (recordLength * s .records) b)) (goneRound v k) (joined k i s) (evaluateMore v f (rest k) (suc i) n b))

@@ -9,7 +9,7 @@ use Rattle.booleans.specs.Tests.{_and_}
 use Rattle.table.specs.Numbers.{wholeRun, mostTime}
 use Rattle.table.specs.Trees.{Tree, node, Forest, nil, _▸_, rest}
 use Rattle.triangular.specs.Triangular.{triangular}
-use Rattle.lists.specs.Streams.{Stream, cap, const, group, add, merge}
+use Rattle.lists.specs.Streams.{Stream, cap, const, group, add, merge, holder}
 
 -- what the symbols stand for
 abbrev pub Values : Type 0
@@ -100,6 +100,28 @@ unfoldable mutual
 -- the root list's first member
 unfoldable pub figure : Values → Tree → ℕ
 figure v t = list v t 0
+
+-- ---- the branch that sets the quote (document 02, CR 5)
+
+-- what a node that is no choice has: a choice has at most 255 children, so that no child has this number
+abbrev pub noBranch : ℕ
+noBranch = 255
+
+-- which of a choice's children, counted from 0, holds the largest first member after its own limit, the earliest on ties
+unfoldable pub holderIn : Values → Forest → ℕ
+holderIn v nil = 0
+holderIn v (t ▸ f) = holder (list v t) (before v Choice f) (holderIn v f)
+
+-- only a choice says; the others pass nothing on
+unfoldable pub branchIn : Values → Kind → Forest → ℕ
+branchIn v (Block t) f = noBranch
+branchIn v Sequence f = noBranch
+branchIn v Choice f = holderIn v f
+branchIn v (Loop n) f = noBranch
+
+-- the node's own limit changes its list, not the branch
+unfoldable pub branch : Values → Tree → ℕ
+branch v (node n f) = branchIn v (n .kind) f
 
 -- question 10: every node's first member, before its own limit, is at most the ceiling
 unfoldable mutual

@@ -13,6 +13,7 @@ pub mod Covered
 pub mod Reached
 pub mod CaseI
 pub mod Alike
+pub mod Branch
 pub mod Found
 pub mod Children
 pub mod Evaluator

@@ -8,7 +8,7 @@ ghost use Rattle.table.specs.Trees.{rest};
 ghost use Rattle.lists.specs.Pairs.{ever};
 ghost use Rattle.lists.specs.Reading.{Addable, Is, Mergeable, Proper, listIn, pairsOf};
 ghost use Rattle.evaluate.specs.Evaluate.{amount, outward, valuesOf};
-ghost use Rattle.evaluate.specs.Evaluator.{andThen, checked, evaluateNode, goneRound, joinPairs, joined, limited, looked, looped, triangleIn};
+ghost use Rattle.evaluate.specs.Evaluator.{andThen, checked, evaluateNode, goneRound, held, joinPairs, joined, limited, looked, looped, triangleIn};
 ghost use Rattle.evaluate.specs.Shown.{Ready, Roomy, Shows, evaluateChildren, foundIn, withNext};
 use lists::List;
 use lists::MOST_PAIRS;
@@ -23,15 +23,19 @@ use table::Number;
 use table::RECORD_LENGTH;
 use table::WHOLE_RUN;
 
+// The branch of a node that is no choice: a choice has at most 255 children, so that no child has this number.
+pub const NO_BRANCH: usize = 255;
+
 // An array with room for any list.
 type Pairs = [u64; 2 * MOST_PAIRS];
 
 // What evaluating finds of a tree, or of a node's children so far: how many pairs its list has, which stands in a lent array, the loop that it names,
-// and how many records. Where question 10 says no, `fits` is false and nothing else is found.
+// how many records, and which child of a choice holds the largest first member. Where question 10 says no, `fits` is false and nothing else is found.
 pub struct Valued {
     pub len: usize,
     pub named: u8,
     pub records: usize,
+    pub branch: usize,
     pub fits: bool,
 }
 
@@ -40,6 +44,7 @@ impl Valued {
         len: 0,
         named: WHOLE_RUN,
         records: 0,
+        branch: NO_BRANCH,
         fits: false,
     };
 }
@@ -120,15 +125,16 @@ fn rest_of(kind: Kind) -> Kind
 // ---- Steps, each on the list in an array
 
 // Question 10: is the list's first value within the ceiling?
-fn check_top(list: &Pairs, len: usize, named: u8, records: usize) -> Valued
+fn check_top(list: &Pairs, len: usize, named: u8, records: usize, branch: usize) -> Valued
     requires { ⌜ Proper (listIn (now list) len) ⌝ ∗ ⌜ Roomy (now list) ⌝ }
-    ensures { λ r. ⌜ Shows r (now (list .entry)) (checked (pairsOf (listIn (now (list .entry)) len)) named records) ⌝ }
+    ensures { λ r. ⌜ Shows r (now (list .entry)) (checked (pairsOf (listIn (now (list .entry)) len)) named records branch) ⌝ }
 {
     if list[0] <= MOST_TIME {
         Valued {
             len: len,
             named: named,
             records: records,
+            branch: branch,
             fits: true,
         }
     } else {
@@ -137,12 +143,12 @@ fn check_top(list: &Pairs, len: usize, named: u8, records: usize) -> Valued
 }
 
 // The list that repeats one value.
-fn repeat_in(value: u64, named: u8, records: usize, out: &mut Pairs) -> Valued
+fn repeat_in(value: u64, named: u8, records: usize, branch: usize, out: &mut Pairs) -> Valued
     requires { ⌜ Roomy (now out) ⌝ }
-    ensures { λ r. ⌜ Shows r (now (out .exit)) (checked (ever value) named records) ⌝ }
+    ensures { λ r. ⌜ Shows r (now (out .exit)) (checked (ever value) named records branch) ⌝ }
 {
     let len = List::constant(value).store(out);
-    check_top(out, len, named, records)
+    check_top(out, len, named, records, branch)
 }
 
 // A loop over its body: the first sum for ever where the body names this very loop, else groups, which may double the pairs.
@@ -156,14 +162,15 @@ fn loop_in(bound: u64, body: Valued, list: &mut Pairs, spare: &mut Pairs) -> Val
     }
     let named = outward_of(body.named);
     if body.named <= 1 {
-        return repeat_in(lists::total_of(list, len, bound), named, body.records, list);
+        let total = lists::total_of(list, len, bound);
+        return repeat_in(total, named, body.records, body.branch, list);
     }
     if MOST_PAIRS < 2 * len - 1 {
         return Valued::UNFIT;
     }
     let n = grouping::group_onto(list, len, bound, spare);
     lists::copy_onto(spare, n, list);
-    check_top(list, n, named, body.records)
+    check_top(list, n, named, body.records, body.branch)
 }
 
 // The first child, as its parent takes it: a loop goes round its body.
@@ -201,9 +208,21 @@ fn join_lists(
     }
 }
 
-// The children so far, whose list is replaced, and the next one, where there is room for the pairs of both.
+// Which of a choice's children holds the largest first member: the next one, where its first member is larger than `largest`, which child `holder` has.
+// A node of another kind has no branch, whatever its children have.
+fn holder_of(kind: Kind, holder: usize, largest: u64, number: usize, first: u64) -> usize
+    ensures { λ r. ⌜ r ≡ held kind holder largest number first ⌝ }
+{
+    match kind {
+        Kind::Choice => { if first <= largest { holder } else { number } }
+        _ => NO_BRANCH,
+    }
+}
+
+// The children so far, whose list is replaced, and the next one, child `number`, where there is room for the pairs of both.
 fn join_in(
     kind: Kind,
+    number: usize,
     done: Valued,
     out: &mut Pairs,
     child: Valued,
@@ -211,26 +230,29 @@ fn join_in(
     spare: &mut Pairs,
 ) -> Valued
     requires { ⌜ Ready done (now out) ⌝ ∗ ⌜ Ready child (now list) ⌝ ∗ ⌜ Roomy (now spare) ⌝ }
-    ensures { λ r. ⌜ Shows r (now (out .exit)) (joined kind (foundIn done (now (out .entry))) (foundIn child (now (list .entry)))) ⌝ ∗ ⌜ Roomy (now (spare .exit)) ⌝ }
+    ensures { λ r. ⌜ Shows r (now (out .exit)) (joined kind number (foundIn done (now (out .entry))) (foundIn child (now (list .entry)))) ⌝ ∗ ⌜ Roomy (now (spare .exit)) ⌝ }
 {
     let al = done.len;
     let bl = child.len;
     if MOST_PAIRS < al + bl - 1 {
         return Valued::UNFIT;
     }
+    let branch = holder_of(kind, done.branch, out[0], number, list[0]);
     let n = join_lists(kind, out, al, list, bl, spare);
     check_top(
         out,
         n,
         inner_of(done.named, child.named),
         done.records + child.records,
+        branch,
     )
 }
 
-// The children so far and the next one, where it fits.
+// The children so far and the next one, child `number`, where it fits.
 fn take_child(
     kind: Kind,
     values: &[u64],
+    number: usize,
     done: Valued,
     out: &mut Pairs,
     child: Valued,
@@ -238,7 +260,7 @@ fn take_child(
     spare: &mut Pairs,
 ) -> Valued
     requires { ⌜ Ready done (now out) ⌝ ∗ ⌜ (child .fits ≡ true → Ready child (now list)) ⌝ ∗ ⌜ Roomy (now list) ⌝ ∗ ⌜ Roomy (now spare) ⌝ }
-    ensures { λ r. ⌜ Shows r (now (out .exit)) (withNext (valuesOf (now (values .entry))) kind (foundIn done (now (out .entry))) (foundIn child (now (list .entry)))) ⌝ }
+    ensures { λ r. ⌜ Shows r (now (out .exit)) (withNext (valuesOf (now (values .entry))) kind number (foundIn done (now (out .entry))) (foundIn child (now (list .entry)))) ⌝ }
     ensures { λ r. ⌜ Roomy (now (list .exit)) ⌝ ∗ ⌜ Roomy (now (spare .exit)) ⌝ }
 {
     if !child.fits {
@@ -248,7 +270,7 @@ fn take_child(
     if !turned.fits {
         return Valued::UNFIT;
     }
-    join_in(kind, done, out, turned, list, spare)
+    join_in(kind, number, done, out, turned, list, spare)
 }
 
 // A node's record, and its own limit, which may add a pair to the list below.
@@ -266,6 +288,7 @@ fn limit_in(limit: Limit, values: &[u64], below: Valued, list: &mut Pairs) -> Va
             len: len,
             named: below.named,
             records: records,
+            branch: below.branch,
             fits: true,
         };
     };
@@ -280,6 +303,7 @@ fn limit_in(limit: Limit, values: &[u64], below: Valued, list: &mut Pairs) -> Va
         len: lists::cap_in(list, len, most),
         named: inner_of(name, below.named),
         records: records,
+        branch: below.branch,
         fits: true,
     }
 }
@@ -305,7 +329,7 @@ pub fn evaluate_node(
     }
     let kind = table::read_kind(table);
     if let Kind::Block(time) = kind {
-        let below = repeat_in(amount_of(time, values), WHOLE_RUN, 0, out);
+        let below = repeat_in(amount_of(time, values), WHOLE_RUN, 0, NO_BRANCH, out);
         return limit_in(table::read_limit(table), values, below, out);
     }
     let count = table::child_count(table);
@@ -337,18 +361,27 @@ pub fn evaluate_children(
     ensures { λ r. ⌜ Shows r (now (out .exit)) (evaluateChildren (valuesOf (now (values .entry))) depth kind count (now (table .entry))) ⌝ ∗ ⌜ Roomy (now (spare .exit)) ⌝ }
 {
     let mut list = List::zero();
-    let mut done = repeat_in(0, WHOLE_RUN, 0, out);
+    let mut done = repeat_in(0, WHOLE_RUN, 0, 0, out);
     let mut seen_as = kind;
-    let mut left = count;
-    while 0 < left {
+    let mut number = 0;
+    while number < count {
         let at = RECORD_LENGTH * done.records;
         let child = evaluate_node(&table[at..], values, depth, &mut list.pairs, spare);
-        done = take_child(seen_as, values, done, out, child, &mut list.pairs, spare);
+        done = take_child(
+            seen_as,
+            values,
+            number,
+            done,
+            out,
+            child,
+            &mut list.pairs,
+            spare,
+        );
         if !done.fits {
             return Valued::UNFIT;
         }
         seen_as = rest_of(seen_as);
-        left = left - 1;
+        number += 1;
     }
     done
 }

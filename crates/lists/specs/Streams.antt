@@ -43,3 +43,8 @@ taken f g (suc n) = next f g (taken f g n)
 -- choice: the members of both taken together, largest first
 unfoldable pub merge : Stream → Stream → Stream
 merge f g n = max (f (taken f g n .0)) (g (taken f g n .1))
+
+-- and which list holds the first of them, the largest, counted from 0 (document 02, CR 5): f, the first, or where g's first member is larger the one that
+-- is number c of the lists that g takes together
+unfoldable pub holder : (f g : Stream) (c : ℕ) → ℕ
+holder f g c = cond (leb (g 0) (f 0)) 0 (suc c)

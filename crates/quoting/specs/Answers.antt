@@ -8,7 +8,7 @@ use Rattle.table.specs.Table.{decode, recordCount}
 use Rattle.table.specs.Asking.{Question, _asks_, byRefusal, firstNo}
 use Rattle.table.specs.Checking.{questions, refusal}
 use Rattle.lists.specs.Pairs.{width, numbers}
-use Rattle.evaluate.specs.Evaluate.{valuesOf, figure, fits}
+use Rattle.evaluate.specs.Evaluate.{valuesOf, figure, branch, fits}
 use Rattle.evaluate.specs.ListPairs.{listPairs}
 use Rattle.quoting.specs.declared.Checked.{Checked}
 use Rattle.quoting.specs.declared.Quote.{Quote}
@@ -38,21 +38,25 @@ quoteQuestions b vs = valueQuestions b vs ++ 10 asks fits (valuesOf vs) (decode 
 unfoldable pub figureRefusal : (table values : List ℕ) → ℕ
 figureRefusal b vs = firstNo (questions b ++ quoteQuestions b vs)
 
--- what was asked for
+-- what was asked for: the figure, and which child of the root sets it
 abbrev pub quoteOf : (table values : List ℕ) → Quote
-quoteOf b vs = Quote.Figure (figure (valuesOf vs) (decode b))
+quoteOf b vs = Quote.Figure (figure (valuesOf vs) (decode b)) (branch (valuesOf vs) (decode b))
 
 unfoldable pub figureAnswer : (table values : List ℕ) → Quote
 figureAnswer b vs = byRefusal (figureRefusal b vs) (quoteOf b vs) Quote.Refused
 
--- document 01's number for each case, 0 for none, and the figure, 0 where there is none
+-- document 01's number for each case, 0 for none, and figure and branch, 0 where there are none
 unfoldable pub quotedRefusal : Quote → ℕ
-quotedRefusal (Quote.Figure x) = 0
+quotedRefusal (Quote.Figure x c) = 0
 quotedRefusal (Quote.Refused q) = q
 
 unfoldable pub quotedFigure : Quote → ℕ
-quotedFigure (Quote.Figure x) = x
+quotedFigure (Quote.Figure x c) = x
 quotedFigure (Quote.Refused q) = 0
+
+unfoldable pub quotedBranch : Quote → ℕ
+quotedBranch (Quote.Figure x c) = c
+quotedBranch (Quote.Refused q) = 0
 
 -- ---- the list call: questions 1 to 9, 13 and 10, of which 8 asks the output buffer for 512 numbers
 

@@ -22,7 +22,7 @@ use Rattle.table.specs.Limits.{limitHolds}
 use Rattle.quoting.specs.Answers.{figureAnswer, figureRefusal, quoteQuestions}
 
 pub isFigure : ℕ → Quote → Bool
-isFigure x (Quote.Figure y) = eqb x y
+isFigure x (Quote.Figure y c) = eqb x y
 isFigure x (Quote.Refused q) = false
 
 -- the figure call answers this figure on the tree's table, with 32 zeros
@@ -40,7 +40,7 @@ pub lists : Tree → Pairs → Bool
 lists t ps = samePairs ps (listPairs zeros t)
 
 pub isRefused : ℕ → Quote → Bool
-isRefused q (Quote.Figure y) = false
+isRefused q (Quote.Figure y c) = false
 isRefused q (Quote.Refused r) = eqb q r
 
 -- to unfold this is to unfold all that the cases compute with

@@ -4,4 +4,5 @@ pub mod Values
 pub mod Lent
 pub mod Figures
 pub mod Evaluated
+pub mod Branches
 pub mod Promises

@@ -2,6 +2,7 @@
 pub mod Values
 pub mod Answers
 pub mod Promises
+pub mod Branches
 pub mod Lent
 pub mod Cases
 pub mod Triangles

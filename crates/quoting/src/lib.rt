@@ -11,6 +11,7 @@ ghost use mathlib.Core.Path.{_≡_};
 ghost use Prim.Native.Nat.{_*_, _≤_};
 ghost use lib.ListN.{length, take};
 ghost use Rattle.table.specs.Numbers.{howManyValues, listRoom, mostRecords, recordLength};
+ghost use Rattle.quoting.specs.Branches.{BranchPromises};
 ghost use Rattle.quoting.specs.Promises.{ListPromises, NeverLowered, Promises};
 ghost use Rattle.quoting.specs.Values.{ceiling, question13, question9, recordSmall, triangleSmall, valuesRefusal};
 ghost use Rattle.evaluate.specs.Evaluate.{valuesOf};
@@ -34,9 +35,9 @@ pub enum Checked {
     Refused(u64),
 }
 
-// The figure call: the figure.
+// The figure call: the figure, and which child of the root sets it.
 pub enum Quote {
-    Figure(u64),
+    Figure(u64, u64),
     Refused(u64),
 }
 
@@ -192,6 +193,7 @@ fn write_front(list: &[u64; LIST_ROOM], n: usize, out: &mut [u64])
 pub fn figure(table: &[u8], values: &[u64]) -> Quote
     ensures answer { λ r. ⌜ r ≡ figureAnswer (now (table .entry)) (now (values .entry)) ⌝ }
     ensures promise { λ r. ⌜ Promises (now (table .entry)) (now (values .entry)) r ⌝ }
+    ensures branch { λ r. ⌜ BranchPromises (now (table .entry)) (now (values .entry)) r ⌝ }
     ensures rising { λ r. ⌜ (quotedRefusal r ≡ 0 → NeverLowered (now (table .entry)) (now (values .entry)) (quotedFigure r)) ⌝ }
 {
     let number = table::refusal_of(table);
@@ -207,7 +209,7 @@ pub fn figure(table: &[u8], values: &[u64]) -> Quote
     let found = walk(table, values, free, &mut list);
     if found.fits {
         let first = list[0];
-        Quote::Figure(first)
+        Quote::Figure(first, found.branch as u64)
     } else {
         Quote::Refused(10)
     }

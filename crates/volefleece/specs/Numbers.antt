@@ -4,7 +4,8 @@ use mathlib.Core.List.{List}
 use Prim.Native.Nat.{ℕ}
 use Rattle.table.specs.Table.{decode}
 use Rattle.evaluate.specs.Evaluate.{valuesOf}
-use Rattle.quoting.specs.Answers.{checkedRecords, checkedRefusal, quotedFigure, quotedRefusal}
+use Rattle.quoting.specs.Answers.{checkedRecords, checkedRefusal, quotedBranch, quotedFigure, quotedRefusal}
+use Rattle.quoting.specs.Branches.{BranchOf}
 use Rattle.quoting.specs.Promises.{NeverLowered, Promised}
 use Rattle.quoting.specs.declared.Checked.{Checked}
 use Rattle.quoting.specs.declared.Quote.{Quote}
@@ -18,11 +19,15 @@ abbrev pub CheckedAs : VfChecked → Checked → Type 0
 CheckedAs r answer = (r .refused ≡ checkedRefusal answer) × (r .records ≡ checkedRecords answer)
 
 abbrev pub QuotedAs : VfFigureAnswer → Quote → Type 0
-QuotedAs r answer = (r .refused ≡ quotedRefusal answer) × (r .figure ≡ quotedFigure answer)
+QuotedAs r answer = (r .refused ≡ quotedRefusal answer) × ((r .figure ≡ quotedFigure answer) × (r .branch ≡ quotedBranch answer))
 
 -- demand 2's promise of a figure
 abbrev pub FigurePromised : (table values : List ℕ) → VfFigureAnswer → Type 0
 FigurePromised b vs r = r .refused ≡ 0 → Promised (valuesOf vs) (decode b) (r .figure)
+
+-- what the branch says of the root's children
+abbrev pub BranchPromised : (table values : List ℕ) → VfFigureAnswer → Type 0
+BranchPromised b vs r = r .refused ≡ 0 → BranchOf (valuesOf vs) (decode b) (r .figure) (r .branch)
 
 -- values none lower never lower it
 abbrev pub FigureRises : (table values : List ℕ) → VfFigureAnswer → Type 0

@@ -16,7 +16,7 @@ ghost use Rattle.simplifying.specs.Answers.{finishedNumber, simplifyAnswer, sim
 ghost use Rattle.simplifying.specs.Demand.{Demand3};
 ghost use Rattle.graft.specs.Answers.{graftAnswer, graftWrites, graftedLength, graftedRefusal};
 ghost use Rattle.graft.specs.Promises.{GraftPromised};
-ghost use Rattle.volefleece.specs.Numbers.{CheckedAs, FigurePromised, FigureRises, QuotedAs, SimplifiedAs};
+ghost use Rattle.volefleece.specs.Numbers.{BranchPromised, CheckedAs, FigurePromised, FigureRises, QuotedAs, SimplifiedAs};
 ghost use Rattle.volefleece.specs.BothDesks.{AskedInC, quotedBy, simplifiedBy};
 
 #[repr(C)]
@@ -46,23 +46,27 @@ pub extern "C" fn vf_check(table: &[u8]) -> VfChecked
 pub struct VfFigureAnswer {
     pub refused: u64,
     pub figure: u64,
+    pub branch: u64,
 }
 
 #[no_mangle]
 pub extern "C" fn vf_figure(table: &[u8], values: &[u64]) -> VfFigureAnswer
     ensures promise { λ r. ⌜ FigurePromised (now (table .entry)) (now (values .entry)) r ⌝ }
     ensures answer { λ r. ⌜ QuotedAs r (figureAnswer (now (table .entry)) (now (values .entry))) ⌝ }
+    ensures branch { λ r. ⌜ BranchPromised (now (table .entry)) (now (values .entry)) r ⌝ }
     ensures rising { λ r. ⌜ FigureRises (now (table .entry)) (now (values .entry)) r ⌝ }
 {
     let answer = quoting::figure(table, values);
     match answer {
-        Quote::Figure(figure) => VfFigureAnswer {
+        Quote::Figure(figure, branch) => VfFigureAnswer {
             refused: 0,
             figure: figure,
+            branch: branch,
         },
         Quote::Refused(number) => VfFigureAnswer {
             refused: number,
             figure: 0,
+            branch: 0,
         },
     }
 }

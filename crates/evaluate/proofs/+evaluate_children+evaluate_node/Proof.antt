@@ -1,6 +1,6 @@
 -- The two functions of the walk: each answer shows what the definition finds.
--- The depth falls from a node to its children and stays from the children to each of them; the children's loop counts them down.
-use Prim.Native.Nat.{ℕ, _+_, _*_, _<_}
+-- The depth falls from a node to its children and stays from the children to each of them; the children's loop counts them up to how many there are.
+use Prim.Native.Nat.{ℕ, _+_, _*_, _-_, _<_}
 use native.Mathlib.Omega.{arith}
 use borrow.Author.Needs.{needs}
 use borrow.Author.Tests.{not-true, not-false}
@@ -85,11 +85,11 @@ node-calls t = (
 
 -- the children left, after those done, give the whole answer
 abbrev Inv-loop : children-lts.InvT-loop
-Inv-loop table values depth count out₀ spare₀ list₀ done₀ seen-as₀ left₀ out spare list done seen-as left =
-    Walked (valuesOf values) depth table (evaluateChildren (valuesOf values) depth seen-as₀ left₀ table) seen-as left done out × Roomy (list .pairs) × Roomy spare
+Inv-loop table values depth count out₀ spare₀ list₀ done₀ seen-as₀ number₀ out spare list done seen-as number =
+    Walked (valuesOf values) depth table (evaluateChildren (valuesOf values) depth seen-as₀ count table) seen-as number (count - number) done out × Roomy (list .pairs) × Roomy spare
 
 abbrev μ-loop : children-lts.MeasureT-loop
-μ-loop table values depth count out₀ spare₀ list₀ done₀ seen-as₀ left₀ out spare list done seen-as left = left
+μ-loop table values depth count out₀ spare₀ list₀ done₀ seen-as₀ number₀ out spare list done seen-as number = count - number
 
 module _ (t : ℕ) where
   children-zero-requires : children-lts.Need-zero-requires (children-calls t) (children-at t) children.Post Inv-loop μ-loop
@@ -102,7 +102,7 @@ module _ (t : ℕ) where
   children-loop-holds c =
       let zero = c .before .before in
       let start = zero .before .before .before in
-      (none-yet (start .pre .1 .0) (start .args .kind) (start .args .count) (c .repeat-in .ensures), zero .zero .ensures .proper .long, start .pre .1 .1 .1)
+      (none-yet (start .pre .1 .0) (start .args .kind) (start .args .count) (omega arith) (c .repeat-in .ensures), zero .zero .ensures .proper .long, start .pre .1 .1 .1)
 
   children-mul-at : children-lts.Need-mul-at (children-calls t) (children-at t) children.Post Inv-loop μ-loop
   children-mul-at c = search needs
@@ -138,13 +138,17 @@ module _ (t : ℕ) where
       let start = head .before .before .before .before .before .before in
       let shows = rw (part-from (start .args .table .now) (recordLength * head .loop .done .records)) at (child .evaluate-node .ensures .0) in
       let (next, (_, l)) = take .take-child .ensures in
-      (unfit-shown (next .room) (next-ends (start .pre .1 .0) (head .loop .inv .0) (turn .loop-test .taken) shows next (not-true _ (c .if1 .taken))), l)
+      (unfit-shown (next .room) (next-ends (start .pre .1 .0) (head .loop .inv .0) (omega (arith, turn .loop-test .taken)) shows next (not-true _ (c .if1 .taken))), l)
 
   children-rest-of-requires : children-lts.Need-rest-of-requires (children-calls t) (children-at t) children.Post Inv-loop μ-loop
   children-rest-of-requires c κs = search needs
 
-  children-sub-left : children-lts.Need-sub-left (children-calls t) (children-at t) children.Post Inv-loop μ-loop
-  children-sub-left c = search needs
+  children-add-number : children-lts.Need-add-number (children-calls t) (children-at t) children.Post Inv-loop μ-loop
+  children-add-number c =
+      let take = c .before .before .before in
+      let child = take .before .before .before .before in
+      let turn = child .before .before .before .before .before in
+      omega (arith, turn .loop-test .taken, turn .before .before .before .before .before .before .before .fits .count)
 
   children-loop-less : children-lts.Need-loop-less (children-calls t) (children-at t) children.Post Inv-loop μ-loop
   children-loop-less c = search needs
@@ -158,7 +162,7 @@ module _ (t : ℕ) where
       let start = head .before .before .before .before .before .before in
       let shows = rw (part-from (start .args .table .now) (recordLength * head .loop .done .records)) at (child .evaluate-node .ensures .0) in
       let (next, (k, l)) = take .take-child .ensures in
-      (rw (c .rest-of .ensures) (next-fits (start .pre .1 .0) (head .loop .inv .0) (turn .loop-test .taken) shows next (not-false _ (c .before .if1 .left))), k, l)
+      (rw (c .rest-of .ensures) (next-fits (start .pre .1 .0) (head .loop .inv .0) (omega (arith, turn .loop-test .taken)) shows next (omega arith) (omega arith) (not-false _ (c .before .if1 .left))), k, l)
 
   children-returns-2 : children-lts.Need-returns-2 (children-calls t) (children-at t) children.Post Inv-loop μ-loop
   children-returns-2 c =
@@ -266,7 +270,7 @@ pub +evaluate-children+evaluate-node-spec : {M : Type 1} → statement M
     (children-take-child-requires t)
     (children-returns t)
     (children-rest-of-requires t)
-    (children-sub-left t)
+    (children-add-number t)
     (children-loop-less t)
     (children-loop-again t)
     (children-returns-2 t))

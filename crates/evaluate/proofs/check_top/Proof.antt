@@ -12,12 +12,12 @@ element-copy-out-if1 c = search needs
 returns : tie.Need-returns
 returns c =
     let p = c .before .before .pre in
-    found-shown refl (record { proper = p .0; pairs = refl }) (checked-low _ _ _ (rw (first-top (p .0)) (c .if1 .taken)))
+    found-shown refl (record { proper = p .0; pairs = refl }) (checked-low _ _ _ _ (rw (first-top (p .0)) (c .if1 .taken)))
 
 returns-2 : tie.Need-returns-2
 returns-2 c =
     let p = c .before .before .pre in
-    unfit-shown (p .1) (checked-high _ _ _ (rw (first-top (p .0)) (c .if1 .left)))
+    unfit-shown (p .1) (checked-high _ _ _ _ (rw (first-top (p .0)) (c .if1 .left)))
 
 pub check-top-spec : {M : Type 1} → statement M
 check-top-spec = tie.close (tie.spec element-copy-out-if1 returns returns-2)

@@ -2,7 +2,7 @@
 use native.Mathlib.Omega.{arith}
 use borrow.Author.Needs.{needs}
 use Rattle.evaluate.specs.Shown.{foundIn}
-use Rattle.evaluate.specs.Laws.Shown.{len-width, unfit-shown}
+use Rattle.evaluate.specs.Laws.Shown.{first-top, len-width, unfit-shown}
 use Rattle.evaluate.proofs.Steps.{joined-room, joined-wide}
 use Rattle.evaluate.proofs.join_in.Statement.{statement}
 use Rattle.evaluate.proofs.join_in.Tie as tie
@@ -16,11 +16,20 @@ sub-if1 c = search needs
 returns : tie.Need-returns
 returns c =
     let (s, (d, l)) = c .before .pre in
-    (unfit-shown (s .room) (joined-wide _ _ _ (omega (arith, len-width (s .proper), len-width (d .proper)))), l)
+    (unfit-shown (s .room) (joined-wide _ _ _ _ (omega (arith, len-width (s .proper), len-width (d .proper)))), l)
+
+element-copy-out-holder-of : tie.Need-element-copy-out-holder-of
+element-copy-out-holder-of c = search needs
+
+element-copy-out-holder-of-2 : tie.Need-element-copy-out-holder-of-2
+element-copy-out-holder-of-2 c = search needs
+
+holder-of-requires : tie.Need-holder-of-requires
+holder-of-requires c κs = search needs
 
 join-lists-requires : tie.Need-join-lists-requires
 join-lists-requires c κs =
-    let (s, (d, l)) = c .before .before .before .pre in
+    let (s, (d, l)) = c .before .before .before .before .before .before .pre in
     let w = len-width (s .proper) in
     let x = len-width (d .proper) in (
       record { left = s .proper; right = d .proper; narrow = omega arith; low = omega (arith, s .low, d .low) },
@@ -40,11 +49,12 @@ returns-2 : tie.Need-returns-2
 returns-2 c =
     let inner = c .before .before .before in
     let join = inner .before .before in
-    let start = join .before .before .before .before in
+    let holder = join .before .before .before in
+    let start = holder .before .before .before .before in
     let a = start .args in
     let (s, (d, l)) = start .pre in
-    let room = joined-room (a .kind) (foundIn (a .done) (a .out .now)) (foundIn (a .child) (a .list .now)) (omega (arith, len-width (s .proper), len-width (d .proper))) in
-    (rw (room, ← inner .inner-of .ensures, ← join .join-lists .ensures .0 .pairs) (c .check-top .ensures), join .join-lists .ensures .1)
+    let room = joined-room (a .kind) (a .number) (foundIn (a .done) (a .out .now)) (foundIn (a .child) (a .list .now)) (omega (arith, len-width (s .proper), len-width (d .proper))) in
+    (rw (room, first-top (s .proper), first-top (d .proper), ← holder .holder-of .ensures, ← inner .inner-of .ensures, ← join .join-lists .ensures .0 .pairs) (c .check-top .ensures), join .join-lists .ensures .1)
 
 pub join-in-spec : {M : Type 1} → statement M
 join-in-spec =
@@ -53,6 +63,9 @@ join-in-spec =
     add-if1
     sub-if1
     returns
+    element-copy-out-holder-of
+    element-copy-out-holder-of-2
+    holder-of-requires
     join-lists-requires
     inner-of-requires
     add-check-top

@@ -11,7 +11,7 @@ use Rattle.evaluate.proofs.take_child.Tie as tie
 returns : tie.Need-returns
 returns c =
     let (s, (_, l)) = c .before .before .before .pre in
-    (unfit-shown (s .room) (next-unfit _ _ _ _ (not-true _ (c .if1 .taken))), l)
+    (unfit-shown (s .room) (next-unfit _ _ _ _ _ (not-true _ (c .if1 .taken))), l)
 
 go-round-requires : tie.Need-go-round-requires
 go-round-requires c κs =
@@ -25,7 +25,7 @@ returns-2 c =
     let fits = round .before .before .before in
     let s = fits .before .before .before .pre .0 in
     let (shows, l) = round .go-round .ensures in
-    (unfit-shown (s .room) (next-unfit-round _ _ _ _ (not-false _ (fits .if1 .left)) shows (not-true _ (c .if2 .taken))), (shows .room, l))
+    (unfit-shown (s .room) (next-unfit-round _ _ _ _ _ (not-false _ (fits .if1 .left)) shows (not-true _ (c .if2 .taken))), (shows .room, l))
 
 join-in-requires : tie.Need-join-in-requires
 join-in-requires c κs =
@@ -46,7 +46,7 @@ returns-3 c =
     let fits = round .before .before .before in
     let a = fits .before .before .before .args in
     let (shows, _) = round .go-round .ensures in
-    let next = next-joined (valuesOf (a .values .now)) (a .kind) (foundIn (a .done) (a .out .now)) (foundIn (a .child) (a .list .now)) (not-false _ (fits .if1 .left)) shows (not-false _ (turned .if2 .left)) in
+    let next = next-joined (valuesOf (a .values .now)) (a .kind) (a .number) (foundIn (a .done) (a .out .now)) (foundIn (a .child) (a .list .now)) (not-false _ (fits .if1 .left)) shows (not-false _ (turned .if2 .left)) in
     (rw next (c .join-in .ensures .0), (shows .room, c .join-in .ensures .1))
 
 pub take-child-spec : {M : Type 1} → statement M

@@ -18,12 +18,12 @@ use Rattle.table.specs.Trees.{Tree, Forest, node, _▸_, around, rest, records,
 use Rattle.table.specs.Laws.Accepted.{is-table}
 use Rattle.table.specs.Laws.NotRefused.{tree-writes}
 use Rattle.table.specs.Laws.RoundTrip.{WritesNode, head-bytes, children-bytes, drop-bytes, length-bytes, Writes, drop-tree}
-use Rattle.lists.specs.Pairs.{top, ever}
+use Rattle.lists.specs.Pairs.{top}
 use Rattle.lists.specs.Streams.{Stream, const}
 use Rattle.lists.specs.Laws.Pairs.{top-is}
 use Rattle.evaluate.specs.Nodes.{Kind, Node}
-use Rattle.evaluate.specs.Evaluate.{Values, before, name, list, figure, fits, start}
-use Rattle.evaluate.specs.Evaluator.{Agree, alike, andThen, limited, evaluateBelow, evaluateNode, Found, found, evaluateMore}
+use Rattle.evaluate.specs.Evaluate.{Values, before, branch, name, list, figure, fits, start}
+use Rattle.evaluate.specs.Evaluator.{Agree, alike, andThen, limited, evaluateBelow, evaluateNode, Found, evaluateMore, noneYet}
 use Rattle.evaluate.specs.ListPairs.{listPairs}
 use Rattle.evaluate.specs.Laws.Children.{More, SoFar, rest-start, from-none, no-more, none-yet, below-finds, next-more}
 use Rattle.evaluate.specs.Laws.Found.{Holds, Finds, known-finds, same-finds, then-finds, limited-holds}
@@ -78,19 +78,21 @@ evaluate-record v n c r h w =
 
 -- ---- the walk
 
--- what the walk e of the tree t answers: question 10 and, where it says yes, the list, its pairs and its first member
+-- what the walk e of the tree t answers: question 10 and, where it says yes, the list, its pairs, its first member and the branch
 pub record Evaluated (v : Values) (t : Tree) (e : Found) : Type 0 where
-  pub holds : T (fits v t) → Holds e (list v t) (bound t) (name t) (records t)
+  pub holds : T (fits v t) → Holds e (list v t) (bound t) (name t) (records t) (branch v t)
   pub pairs : T (fits v t) → e .pairs ≡ listPairs v t
   pub figure : T (fits v t) → top (e .pairs) ≡ figure v t
+  pub branch : T (fits v t) → e .branch ≡ branch v t
   pub fits : e .fits ≡ fits v t
 
-finds-evaluated : (v : Values) (t : Tree) (e : Found) → Finds (T (fits v t)) e (list v t) (bound t) (name t) (records t) → Evaluated v t e
+finds-evaluated : (v : Values) (t : Tree) (e : Found) → Finds (T (fits v t)) e (list v t) (bound t) (name t) (records t) (branch v t) → Evaluated v t e
 unfolding figure
 finds-evaluated v t e h = record {
   holds = h .holds;
   pairs = λ i. pairs-are v t (e .pairs) (h .holds i .are);
   figure = λ i. top-is (h .holds i .are);
+  branch = λ i. h .holds i .branch;
   fits = same-test (e .fits) (fits v t) (λ i. h .only (T-is _ i)) (λ i. is-T _ (h .holds i .fits));
 }
 
@@ -98,9 +100,9 @@ module _ (u v : Values) (agree : Agree u v) (ranged : (k : ℕ) → k < firstTim
   -- by what is found of the children, whatever the fuel
   node-finds : (n : Node) (f : Forest) (d h : ℕ) (b z : List ℕ) → b ≡ encode (node n f) ++ z → Fair (node n f) d → T (everyMost (alike u v) (node n f)) → depth (node n f) ≤ h
       → ((i : ℕ) → depthIn f ≤ i → start v (n .kind) ≡ const 0
-      → More v (const 0) 0 wholeRun 0 (n .kind) f (evaluateMore u (evaluateNode u i) (n .kind) (size f) (encodes f ++ z) (found (ever 0) wholeRun 0)))
-      → Finds (T (fits v (node n f))) (evaluateNode u h b) (list v (node n f)) (bound (node n f)) (name (node n f)) (records (node n f))
-  unfolding encode depth fits list bound name records listed Writes everyLimit
+      → More v (const 0) 0 wholeRun 0 0 0 (n .kind) f (evaluateMore u (evaluateNode u i) (n .kind) 0 (size f) (encodes f ++ z) noneYet))
+      → Finds (T (fits v (node n f))) (evaluateNode u h b) (list v (node n f)) (bound (node n f)) (name (node n f)) (records (node n f)) (branch v (node n f))
+  unfolding encode depth fits list bound name records branch listed Writes everyLimit
   node-finds n f d zero b z e a y l q = absurd (omega arith)
   node-finds n f d (suc h) b z e a y l q =
       let (p, o) = both _ _ (a .listed) in
@@ -109,38 +111,38 @@ module _ (u v : Values) (agree : Agree u v) (ranged : (k : ℕ) → k < firstTim
       (same-finds
       (λ x. join-and _ _ (le→leb _ _ (x .0 .0)) (x .0 .1))
       (λ x. let (x₁, x₂) = both _ _ x in ((leb→le _ _ x₁, x₂), tt))
-      refl refl refl refl
+      refl refl refl refl refl
       (then-finds {q = Unit {0}} (below-finds u v agree (n .kind) f (evaluateNode u h) (encodes f ++ z) (both _ _ p₁ .0) p₂ (q h (omega arith))) (λ x w.
-      known-finds tt (limited-holds u v agree ranged (n .limit) _ _ _ _ _ w (both _ _ p₁ .1) (both _ _ y .0) (le-trans (bound-weight (node n f) d (a .nested) (a .named)) (a .weighed))))))
+      known-finds tt (limited-holds u v agree ranged (n .limit) _ _ _ _ _ _ w (both _ _ p₁ .1) (both _ _ y .0) (le-trans (bound-weight (node n f) d (a .nested) (a .named)) (a .weighed))))))
 
   mutual
     unfolding depth encode evaluateMore size boundIn everyLimit
 
     pub tree-finds : (t : Tree) (d h : ℕ) (b z : List ℕ) → b ≡ encode t ++ z → Fair t d → T (everyMost (alike u v) t) → depth t ≤ h
-        → Finds (T (fits v t)) (evaluateNode u h b) (list v t) (bound t) (name t) (records t)
+        → Finds (T (fits v t)) (evaluateNode u h b) (list v t) (bound t) (name t) (records t) (branch v t)
     tree-finds (node n f) d h b z e a y l =
         let c = fair-below n f d a in
-        node-finds n f d h b z e a y l (λ i o q. forest-finds f (n .kind) d i (encodes f ++ z) z (const 0) 0 wholeRun 0 _ refl c (both _ _ y .1) o q none-yet
+        node-finds n f d h b z e a y l (λ i o q. forest-finds f (n .kind) d i (encodes f ++ z) z (const 0) 0 wholeRun 0 0 0 _ refl c (both _ _ y .1) o q none-yet
         (omega (arith, boundIn-weight (n .kind) f d (c .nested) (c .named), c .weighed)))
 
-    pub forest-finds : (f : Forest) (k : Kind) (d h : ℕ) (b z : List ℕ) (a : Stream) (w j m : ℕ) (s : Found) → drop (recordLength * m) b ≡ encodes f ++ z → FairIn k f d → T (everyLimitIn (λ k m. alike u v m) f) → depthIn f ≤ h
-        → start v k ≡ const 0 → SoFar s a w j m → w + boundIn k f ≤ mostWeight → More v a w j m k f (evaluateMore u (evaluateNode u h) k (size f) b s)
-    forest-finds nil k d h b z a w j m s e c y l o g x = no-more v k a w j m s o g
-    forest-finds (t ▸ f) k d h b z a w j m s e c y l o g x =
+    pub forest-finds : (f : Forest) (k : Kind) (d h : ℕ) (b z : List ℕ) (a : Stream) (w j m p i : ℕ) (s : Found) → drop (recordLength * m) b ≡ encodes f ++ z → FairIn k f d → T (everyLimitIn (λ k m. alike u v m) f) → depthIn f ≤ h
+        → start v k ≡ const 0 → SoFar s a w j m p → w + boundIn k f ≤ mostWeight → More v a w j m p i k f (evaluateMore u (evaluateNode u h) k i (size f) b s)
+    forest-finds nil k d h b z a w j m p i s e c y l o g x = no-more v k a w j m p i s o g
+    forest-finds (t ▸ f) k d h b z a w j m p i s e c y l o g x =
         let q = e ∙ append-assoc (encode t) (encodes f) z in
-        next-more u v agree ranged k t f (evaluateNode u h) b a w j m s g (c .ranged) x
+        next-more u v agree ranged k t f (evaluateNode u h) b a w j m p i s g (c .ranged) x
         (tree-finds t (around k d) h _ (encodes f ++ z) (ap (λ n. drop (recordLength * n) b) (g .holds .records) ∙ q) (fair-first k t f d c) (both _ _ y .0) (omega arith))
-        (λ r i. forest-finds f (rest k) d h b z _ _ _ _ r (drop-tree t m b (encodes f ++ z) q) (fair-rest k t f d c) (both _ _ y .1) (omega arith) (rest-start v k) i (omega arith))
+        (λ r n. forest-finds f (rest k) d h b z _ _ _ _ _ _ r (drop-tree t m b (encodes f ++ z) q) (fair-rest k t f d c) (both _ _ y .1) (omega arith) (rest-start v k) n (omega arith))
 
   -- a node's children, before its own limit, where question 10 says yes
   pub children-found : (n : Node) (f : Forest) (d h : ℕ) (b z : List ℕ) → b ≡ encodes f ++ z → Fair (node n f) d → T (everyMost (alike u v) (node n f)) → depthIn f ≤ h → start v (n .kind) ≡ const 0 → T (fits v (node n f))
-      → let e = evaluateMore u (evaluateNode u h) (n .kind) (size f) b (found (ever 0) wholeRun 0) in (e .fits ≡ true) × (top (e .pairs) ≡ before v (n .kind) f 0)
+      → let e = evaluateMore u (evaluateNode u h) (n .kind) 0 (size f) b noneYet in (e .fits ≡ true) × (top (e .pairs) ≡ before v (n .kind) f 0)
   unfolding fits everyLimit
   children-found n f d h b z e a r l o q =
       let c = fair-below n f d a in
       let (x, y) = both _ _ q in
-      let m = from-none v (n .kind) f _
-      (forest-finds f (n .kind) d h b z (const 0) 0 wholeRun 0 _ e c (both _ _ r .1) l o none-yet (omega (arith, boundIn-weight (n .kind) f d (c .nested) (c .named), c .weighed))) in
+      let m = from-none v (n .kind) f _ refl
+      (forest-finds f (n .kind) d h b z (const 0) 0 wholeRun 0 0 0 _ e c (both _ _ r .1) l o none-yet (omega (arith, boundIn-weight (n .kind) f d (c .nested) (c .named), c .weighed))) in
       let w = m .holds (leb→le _ _ x, y) in
       (w .fits, top-is (w .are))
 

@@ -14,8 +14,8 @@ use Rattle.lists.specs.Pairs.{top, width, places, Canonical, ever, Pairs}
 use Rattle.lists.specs.Laws.Cap.{cap-facts}
 use Rattle.lists.specs.Laws.Group.{group-canonical, group-thin}
 use Rattle.evaluate.specs.Nodes.{Kind, Block, Sequence, Choice, Loop, Limit, Unlimited, AtMost}
-use Rattle.evaluate.specs.Evaluate.{Values, amount}
-use Rattle.evaluate.specs.Evaluator.{Found, unfit, found, checked, joined, looped, goneRound, limited, evaluateMore, evaluateBelow, evaluateNode, looked}
+use Rattle.evaluate.specs.Evaluate.{Values, amount, noBranch}
+use Rattle.evaluate.specs.Evaluator.{Found, unfit, noneYet, checked, joined, looped, goneRound, limited, evaluateMore, evaluateBelow, evaluateNode, looked}
 use Rattle.evaluate.specs.Laws.Found.{join-facts}
 
 -- what is found at the start of b
@@ -33,7 +33,7 @@ unfolding Canonical top width places
 sane-unfit b = record { canonical = tt; low = omega arith; thin = omega arith; near = omega arith; short = omega arith }
 
 -- no children yet
-pub sane-none : (b : List ℕ) → Sane b (found (ever 0) wholeRun 0)
+pub sane-none : (b : List ℕ) → Sane b noneYet
 unfolding Canonical top width places
 sane-none b = record { canonical = tt; low = omega arith; thin = omega arith; near = omega arith; short = omega arith }
 
@@ -41,18 +41,18 @@ sane-none b = record { canonical = tt; low = omega arith; thin = omega arith; ne
 pub sane-where : (b : List ℕ) (t : Bool) (e : Found) → (T t → Sane b e) → Sane b (cond t e unfit)
 sane-where b t e h = by-cond (Sane b) t _ _ h (λ i. sane-unfit b)
 
-pub sane-checked : (b : List ℕ) (r : Pairs) (k n : ℕ) → Canonical r → width r ≤ mostWeight → places r ≤ mostCount * n → recordLength * n ≤ length b → Sane b (checked r k n)
-sane-checked b r k n h w p l =
+pub sane-checked : (b : List ℕ) (r : Pairs) (k n c : ℕ) → Canonical r → width r ≤ mostWeight → places r ≤ mostCount * n → recordLength * n ≤ length b → Sane b (checked r k n c)
+sane-checked b r k n c h w p l =
     sane-where b (leb (top r) mostTime) _ (λ t. record { canonical = h; low = leb→le (top r) mostTime t; thin = w; near = p; short = l })
 
--- children s of b, and the next one, c
-pub sane-joined : (k : Kind) (b : List ℕ) (s c : Found) → Sane b s → Sane (drop (recordLength * s .records) b) c → Sane b (joined k s c)
+-- children s of b, and the next one, c, number i
+pub sane-joined : (k : Kind) (i : ℕ) (b : List ℕ) (s c : Found) → Sane b s → Sane (drop (recordLength * s .records) b) c → Sane b (joined k i s c)
 unfolding joined
-sane-joined k b s c p q =
+sane-joined k i b s c p q =
     let j = join-facts k (s .pairs) (c .pairs) (p .canonical) (q .canonical) in
     sane-where b (leb (width (s .pairs) + width (c .pairs)) mostWeight) _
     (λ t.
-    sane-checked b _ _ _ (j .canonical) (omega (arith, j .thin, leb→le)) (omega (arith, j .few, p .near, q .near))
+    sane-checked b _ _ _ _ (j .canonical) (omega (arith, j .thin, leb→le)) (omega (arith, j .few, p .near, q .near))
     (omega (arith, p .short, q .short, length-drop (recordLength * s .records) b)))
 
 pub sane-looped : (n : ℕ) (b : List ℕ) (c : Found) → Sane b c → Sane b (looped n c)
@@ -61,12 +61,12 @@ sane-looped n b c p =
     sane-where b (leb n mostCount) _
     (λ t.
     by-cond (Sane b) (leb (c .named) 1) _ _
-    (λ t. sane-checked b (ever (first (c .pairs) n)) _ _ tt (omega arith) (omega arith) (p .short))
+    (λ t. sane-checked b (ever (first (c .pairs) n)) _ _ _ tt (omega arith) (omega arith) (p .short))
     (λ t.
     sane-where b (leb (2 * width (c .pairs)) mostWeight) _
     (λ t.
     let g = group-thin n (c .pairs) (p .canonical) in
-    sane-checked b _ _ _ (group-canonical n (c .pairs) (p .canonical)) (omega (arith, g .0, leb→le)) (omega (arith, g .1, p .near)) (p .short))))
+    sane-checked b _ _ _ _ (group-canonical n (c .pairs) (p .canonical)) (omega (arith, g .0, leb→le)) (omega (arith, g .1, p .near)) (p .short))))
 
 pub sane-round : (v : Values) (k : Kind) (b : List ℕ) (c : Found) → Sane b c → Sane b (goneRound v k c)
 unfolding goneRound
@@ -97,25 +97,25 @@ sane-limited v (AtMost k m) b s g p =
 -- ---- the walk
 
 -- one more child: what a loop over the children keeps
-pub sane-next : (v : Values) (k : Kind) (b : List ℕ) (s c : Found) → Sane b s → Sane (drop (recordLength * s .records) b) c → Sane b (joined k s (goneRound v k c))
-sane-next v k b s c p q = sane-joined k b s _ p (sane-round v k _ c q)
+pub sane-next : (v : Values) (k : Kind) (i : ℕ) (b : List ℕ) (s c : Found) → Sane b s → Sane (drop (recordLength * s .records) b) c → Sane b (joined k i s (goneRound v k c))
+sane-next v k i b s c p q = sane-joined k i b s _ p (sane-round v k _ c q)
 
 -- n more children, whatever sane things f finds
-pub sane-more : (v : Values) (f : List ℕ → Found) → ((b : List ℕ) → Sane b (f b)) → (k : Kind) (n : ℕ) (b : List ℕ) (s : Found) → Sane b s → Sane b (evaluateMore v f k n b s)
+pub sane-more : (v : Values) (f : List ℕ → Found) → ((b : List ℕ) → Sane b (f b)) → (k : Kind) (i n : ℕ) (b : List ℕ) (s : Found) → Sane b s → Sane b (evaluateMore v f k i n b s)
 unfolding evaluateMore
-sane-more v f h k zero b s p = p
-sane-more v f h k (suc n) b s p =
+sane-more v f h k i zero b s p = p
+sane-more v f h k i (suc n) b s p =
     let c = f (drop (recordLength * s .records) b) in
     let d = goneRound v k c in
-    let e = joined k s d in
-    sane-where b (c .fits) _ (λ t. sane-where b (d .fits) _ (λ t. sane-where b (e .fits) _ (λ t. sane-more v f h (rest k) n b e (sane-next v k b s c p (h _)))))
+    let e = joined k i s d in
+    sane-where b (c .fits) _ (λ t. sane-where b (d .fits) _ (λ t. sane-where b (e .fits) _ (λ t. sane-more v f h (rest k) (suc i) n b e (sane-next v k i b s c p (h _)))))
 
 pub sane-below : (v : Values) (f : List ℕ → Found) → ((b : List ℕ) → Sane b (f b)) → (k : Kind) (n : ℕ) (b : List ℕ) → Sane b (evaluateBelow v f k n b)
 unfolding evaluateBelow Canonical width places
-sane-below v f h (Block t) n b = sane-checked b (ever (amount v t)) wholeRun 0 tt (omega arith) (omega arith) (omega arith)
-sane-below v f h Sequence n b = sane-more v f h Sequence n b _ (sane-none b)
-sane-below v f h Choice n b = sane-more v f h Choice n b _ (sane-none b)
-sane-below v f h (Loop m) n b = sane-more v f h (Loop m) n b _ (sane-none b)
+sane-below v f h (Block t) n b = sane-checked b (ever (amount v t)) wholeRun 0 noBranch tt (omega arith) (omega arith) (omega arith)
+sane-below v f h Sequence n b = sane-more v f h Sequence 0 n b _ (sane-none b)
+sane-below v f h Choice n b = sane-more v f h Choice 0 n b _ (sane-none b)
+sane-below v f h (Loop m) n b = sane-more v f h (Loop m) 0 n b _ (sane-none b)
 
 pub sane : (v : Values) (h : ℕ) (b : List ℕ) → Sane b (evaluateNode v h b)
 unfolding evaluateNode

@@ -13,7 +13,7 @@ use Rattle.lists.specs.Reading.{Is, Proper, listIn, pairsOf, valueAt}
 use Rattle.lists.proofs.Suffix.{len-is, suffix-top, suffix-whole}
 use Rattle.evaluate.specs.declared.Valued.{Valued}
 use Rattle.evaluate.specs.Nodes.{Kind}
-use Rattle.evaluate.specs.Evaluate.{Values}
+use Rattle.evaluate.specs.Evaluate.{Values, noBranch}
 use Rattle.evaluate.specs.Evaluator.{Found, andThen, found, goneRound, joined, unfit}
 use Rattle.evaluate.specs.Shown.{Ready, Roomy, Shows, foundIn, withNext}
 use Rattle.evaluate.specs.Laws.Sane.{Sane}
@@ -30,15 +30,15 @@ first-top {a} {n} p = ap top (sym (suffix-whole (listIn a n))) ∙ suffix-top (l
 
 -- ---- answers
 
-pub unfit-shown : {a : List ℕ} {e : Found} → Roomy a → e ≡ unfit → Shows (record { len = 0; named = wholeRun; records = 0; fits = false }) a e
-unfit-shown {a} l e = subst (Shows _ a) (sym e) (record { fits = refl; named = refl; records = refl; list = λ i. absurd (subst T (sym i) tt); room = l })
+pub unfit-shown : {a : List ℕ} {e : Found} → Roomy a → e ≡ unfit → Shows (record { len = 0; named = wholeRun; records = 0; branch = noBranch; fits = false }) a e
+unfit-shown {a} l e = subst (Shows _ a) (sym e) (record { fits = refl; named = refl; records = refl; branch = refl; list = λ i. absurd (subst T (sym i) tt); room = l })
 
-pub found-shown : {r : Valued} {a : List ℕ} {p : Pairs} {e : Found} → r .fits ≡ true → Is (listIn a (r .len)) p → e ≡ found p (r .named) (r .records) → Shows r a e
-found-shown {r} {a} {p} i h e = subst (Shows r a) (sym e) (record { fits = i; named = refl; records = refl; list = λ _. h; room = h .proper .long })
+pub found-shown : {r : Valued} {a : List ℕ} {p : Pairs} {e : Found} → r .fits ≡ true → Is (listIn a (r .len)) p → e ≡ found p (r .named) (r .records) (r .branch) → Shows r a e
+found-shown {r} {a} {p} i h e = subst (Shows r a) (sym e) (record { fits = i; named = refl; records = refl; branch = refl; list = λ _. h; room = h .proper .long })
 
 -- where it fits, an answer is what it shows
 pub shown-is : {r : Valued} {a : List ℕ} {e : Found} → Shows r a e → r .fits ≡ true → foundIn r a ≡ e
-shown-is {r} {a} {e} s i = rw (s .fits, s .named, s .records, s .list i .pairs) refl
+shown-is {r} {a} {e} s i = rw (s .fits, s .named, s .records, s .branch, s .list i .pairs) refl
 
 -- and what comes next is the same of both
 pub then-shown : {r : Valued} {a : List ℕ} {e : Found} → Shows r a e → (f : Found → Found) → andThen (foundIn r a) f ≡ andThen e f
@@ -53,20 +53,20 @@ then-shown {r} {a} {e} s f = go (r .fits) refl
 pub then-fits : (c : Found) (f : Found → Found) → c .fits ≡ true → andThen c f ≡ f c
 then-fits c f e = ap (λ t. cond t (f c) unfit) e
 
-module _ (v : Values) (k : Kind) (s c : Found) where
-  pub next-unfit : c .fits ≡ false → withNext v k s c ≡ unfit
+module _ (v : Values) (k : Kind) (i : ℕ) (s c : Found) where
+  pub next-unfit : c .fits ≡ false → withNext v k i s c ≡ unfit
   unfolding withNext
   next-unfit e = rw e refl
 
   -- t is what is left of it when it has gone round
   module _ {t : Valued} {a : List ℕ} (fits : c .fits ≡ true) (shows : Shows t a (goneRound v k c)) where
-    pub next-unfit-round : t .fits ≡ false → withNext v k s c ≡ unfit
+    pub next-unfit-round : t .fits ≡ false → withNext v k i s c ≡ unfit
     unfolding withNext
     next-unfit-round e = rw (sym (shows .fits) ∙ e, fits) refl
 
-    pub next-joined : t .fits ≡ true → withNext v k s c ≡ joined k s (foundIn t a)
+    pub next-joined : t .fits ≡ true → withNext v k i s c ≡ joined k i s (foundIn t a)
     unfolding withNext
-    next-joined e = then-fits c (λ c. andThen (goneRound v k c) (joined k s)) fits ∙ sym (then-shown shows (joined k s)) ∙ then-fits (foundIn t a) (joined k s) e
+    next-joined e = then-fits c (λ c. andThen (goneRound v k c) (joined k i s)) fits ∙ sym (then-shown shows (joined k i s)) ∙ then-fits (foundIn t a) (joined k i s) e
 
 -- ---- answers in range
 
@@ -76,7 +76,7 @@ ready-shown l q s i =
     record { proper = h .proper; low = rw (h .pairs) (q .low); near = rw (h .pairs, s .records) (q .near); few = omega (arith, q .short, s .records); room = s .room }
 
 pub itself-shown : {r : Valued} {a : List ℕ} → Ready r a → Shows r a (foundIn r a)
-itself-shown h = record { fits = refl; named = refl; records = refl; list = λ _. record { proper = h .proper; pairs = refl }; room = h .room }
+itself-shown h = record { fits = refl; named = refl; records = refl; branch = refl; list = λ _. record { proper = h .proper; pairs = refl }; room = h .room }
 
 pub sane-ready : {b : List ℕ} {r : Valued} {a : List ℕ} → recordLength * r .records ≤ length b → Ready r a → Sane b (foundIn r a)
 sane-ready l h = record { canonical = h .proper .canonical; low = h .low; thin = omega (arith, len-width (h .proper), h .proper .room); near = h .near; short = l }

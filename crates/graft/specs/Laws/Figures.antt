@@ -15,7 +15,7 @@ use Rattle.table.specs.Table.{decode, recordCount}
 use Rattle.table.specs.Limits.{everyMost}
 use Rattle.table.specs.Checking.{IsTable, refusal}
 use Rattle.table.specs.Laws.Asking.{answered}
-use Rattle.evaluate.specs.Evaluate.{figure, fits, valuesOf}
+use Rattle.evaluate.specs.Evaluate.{branch, figure, fits, valuesOf}
 use Rattle.evaluate.specs.Laws.Ranges.{figure-most}
 use Rattle.quoting.specs.Values.{ceiling, question13, question9, ranged, triangleSmall}
 use Rattle.quoting.specs.Answers.{checkAnswer, figureAnswer, quotedFigure, quotedRefusal}
@@ -25,7 +25,7 @@ use Rattle.quoting.specs.Laws.Values.{thirteen-limits, values-carry, values-nin
 use Rattle.splice.specs.Graft.{graft, uses}
 use Rattle.graft.specs.Answers.{graftTable, question11, question12}
 use Rattle.graft.specs.Promises.{GraftPromised, Quoted, hostValues}
-use Rattle.graft.specs.Laws.Grafted.{graft-figure, graft-fits, graft-needs, set-other, setValue}
+use Rattle.graft.specs.Laws.Grafted.{graft-branch, graft-figure, graft-fits, graft-needs, set-other, setValue}
 use Rattle.graft.specs.Laws.Limits.{graft-limits, sent-limits, smalls-but}
 use Rattle.table.specs.Laws.Tables.{accepted-table}
 use Rattle.graft.specs.Laws.Result.{result-reads, result-table, result-unused, sent-is}
@@ -66,8 +66,9 @@ set-allowed vs s x g l h =
 
 -- what the figure call answers of two tables with values, all of them accepted by questions 1 to 9
 quotes-alike : (b c vs ws : List ℕ) → refusal b ≡ 0 → refusal c ≡ 0 → T (question9 vs) → T (question9 ws) → question13 b vs ≡ question13 c ws
-    → fits (valuesOf vs) (decode b) ≡ fits (valuesOf ws) (decode c) → figure (valuesOf vs) (decode b) ≡ figure (valuesOf ws) (decode c) → figureAnswer b vs ≡ figureAnswer c ws
-quotes-alike b c vs ws e f p q j k l = figure-asked b vs e p ∙ rw (j, k, l) (sym (figure-asked c ws f q))
+    → fits (valuesOf vs) (decode b) ≡ fits (valuesOf ws) (decode c) → figure (valuesOf vs) (decode b) ≡ figure (valuesOf ws) (decode c) → branch (valuesOf vs) (decode b) ≡ branch (valuesOf ws) (decode c)
+    → figureAnswer b vs ≡ figureAnswer c ws
+quotes-alike b c vs ws e f p q j k l m = figure-asked b vs e p ∙ rw (j, k, l, m) (sym (figure-asked c ws f q))
 
 module _ (h b vs : List ℕ) (s : ℕ) (H : IsTable h) (B : IsTable b) (eleven : T (question11 b s)) (twelve : T (question12 (graftTable h b s))) where
   result-is : IsTable (graftTable h b s)
@@ -92,6 +93,8 @@ module _ (h b vs : List ℕ) (s : ℕ) (H : IsTable h) (B : IsTable b) (eleven :
       graft-fits (valuesOf vs) s g (decode b) o (f .small) (decode h) l ∙ ap (λ v. fits v (decode h)) (sym w) in
       let fig : figure (valuesOf vs) (graft s (decode b) (decode h)) ≡ figure (valuesOf (hostValues b s vs)) (decode h) =
       graft-figure (valuesOf vs) s g (decode b) o (decode h) l ∙ ap (λ v. figure v (decode h)) (sym w) in
+      let side : branch (valuesOf vs) (graft s (decode b) (decode h)) ≡ branch (valuesOf (hostValues b s vs)) (decode h) =
+      graft-branch (valuesOf vs) s g (decode b) o (decode h) l ∙ ap (λ v. branch v (decode h)) (sym w) in
       let reads = result-reads h b s H B in
       let same : everyMost (triangleSmall (valuesOf vs)) (decode h) ≡ everyMost (triangleSmall (valuesOf (hostValues b s vs))) (decode h) =
       rw w (smalls-but (valuesOf vs) _ s g (set-other (valuesOf vs) s (figure (valuesOf vs) (decode b))) (decode h) l) in
@@ -99,7 +102,7 @@ module _ (h b vs : List ℕ) (s : ℕ) (H : IsTable h) (B : IsTable b) (eleven :
       let thirteen : question13 (graftTable h b s) vs ≡ question13 h (hostValues b s vs) =
       thirteen-limits _ vs result-is ∙ ap (everyMost (triangleSmall (valuesOf vs))) reads
       ∙ graft-limits (triangleSmall (valuesOf vs)) s (decode b) sent (decode h) l ∙ same ∙ sym (thirteen-limits h _ H) in
-      quotes-alike (graftTable h b s) h vs _ (accepted-table _ result-is) (accepted-table h H) nine (set-allowed vs s _ g small nine) thirteen (ap (fits (valuesOf vs)) reads ∙ fit) (ap (figure (valuesOf vs)) reads ∙ fig)
+      quotes-alike (graftTable h b s) h vs _ (accepted-table _ result-is) (accepted-table h H) nine (set-allowed vs s _ g small nine) thirteen (ap (fits (valuesOf vs)) reads ∙ fit) (ap (figure (valuesOf vs)) reads ∙ fig) (ap (branch (valuesOf vs)) reads ∙ side)
     where
       nine-long : T (question9 vs) → T (eqb (length vs) howManyValues)
       nine-long k = unfold question9 in both _ _ k .0

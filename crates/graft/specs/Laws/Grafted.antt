@@ -19,7 +19,7 @@ use Rattle.table.specs.Numbers.{firstTimeSymbol, mostTime, wholeRun}
 use Rattle.table.specs.Trees.{Tree, node, Forest, nil, _▸_, size, rest, around}
 use Rattle.table.specs.Questions.{Accepted, arity, countInRange, kindInRange, limitInRange, listed, listedIn, nameOk, named, namedIn, timeInRange, mostInRange}
 use Rattle.lists.specs.Streams.{Stream, S, add, cap, const, group, shift}
-use Rattle.evaluate.specs.Evaluate.{Values, amount, before, figure, fits, fitsIn, inner, join, limit, list, name, nameIn, rounds, seen, start, turns, allowed}
+use Rattle.evaluate.specs.Evaluate.{Values, amount, before, branch, branchIn, figure, fits, fitsIn, holderIn, inner, join, limit, list, name, nameIn, noBranch, rounds, seen, start, turns, allowed}
 use Rattle.evaluate.specs.Closed.{stays, closed, closedIn}
 use Rattle.evaluate.specs.Laws.Evaluator.{Fair, rest-ranged}
 use Rattle.evaluate.specs.Laws.Ranges.{figure-most}
@@ -191,6 +191,33 @@ module _ (v : Values) (s : ℕ) (g : firstTimeSymbol ≤ s) (u : Tree) (o : Fair
   pub graft-figure : (t : Tree) → T (listed t) → figure v (graft s u t) ≡ figure (setValue v s (figure v u)) t
   unfolding figure
   graft-figure t h = ap (λ f. f 0) (graft-list t h)
+
+  -- and so does the branch: what stands in place of a block is no choice, as the block is none
+  graft-holder : (f : Forest) → T (listedIn f) → holderIn v (graftIn s u f) ≡ holderIn (setValue v s (figure v u)) f
+  unfolding graft listed holderIn kindInRange isSymbol
+  graft-holder nil h = refl
+  graft-holder (t ▸ f) h = let (a, b) = both _ _ h in rw (graft-list t a, graft-before Choice f tt refl b, graft-holder f b) refl
+
+  symbol-branch : (k : Kind) (f : Forest) → T (isSymbol s k) → noBranch ≡ branchIn (setValue v s (figure v u)) k f
+  unfolding isSymbol branchIn
+  symbol-branch (Block t) f b = refl
+  symbol-branch Sequence f b = absurd b
+  symbol-branch Choice f b = absurd b
+  symbol-branch (Loop n) f b = absurd b
+
+  kind-branch : (k : Kind) (f : Forest) → T (listedIn f) → branchIn v k (graftIn s u f) ≡ branchIn (setValue v s (figure v u)) k f
+  unfolding branchIn
+  kind-branch (Block t) f h = refl
+  kind-branch Sequence f h = refl
+  kind-branch Choice f h = graft-holder f h
+  kind-branch (Loop n) f h = refl
+
+  pub graft-branch : (t : Tree) → T (listed t) → branch v (graft s u t) ≡ branch (setValue v s (figure v u)) t
+  unfolding graft listed branch inPlace branchIn
+  graft-branch (node n f) h =
+      by-cond (λ t. branch v t ≡ branchIn (setValue v s (figure v u)) (n .kind) f) (isSymbol s (n .kind)) _ _
+      (symbol-branch (n .kind) f)
+      (λ e. kind-branch (n .kind) f (both _ _ h .1))
 
 -- ---- question 10
 

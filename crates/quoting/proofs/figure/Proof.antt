@@ -1,5 +1,5 @@
 -- Each return has the answers to the questions before it; the last two have what the walk found.
-use mathlib.Core.Path.{sym, ap, _∙_}
+use mathlib.Core.Path.{sym, ap₂, _∙_}
 use native.Mathlib.Omega.{arith}
 use borrow.Author.Needs.{needs}
 use Rattle.table.specs.Bytes.{AreBytes}
@@ -57,7 +57,7 @@ returns-3 c =
     let known = e₁ .before .before .before in
     let bytes : AreBytes (known .before .args .table .now) = λ i. omega (arith, known .shared-slice-known .given i) in
     kept _ _ bytes _
-    (ap Quote.Figure (list-top _ _ (walk .shows .list (c .if3 .taken)))
+    (ap₂ Quote.Figure (list-top _ _ (walk .shows .list (c .if3 .taken))) (walk .shows .branch)
     ∙ figure-found _ _ (sym (e₁ .before .refusal-of .ensures) ∙ e₁ .if1 .left) bytes (sym (e₂ .before .values-refusal .ensures) ∙ e₂ .if2 .left) _ (walk .agree) (walk .same) (sym (walk .shows .fits) ∙ c .if3 .taken))
 
 returns-4 : tie.Need-returns-4

@@ -1,5 +1,5 @@
 -- What the evaluator's walk finds of a table, as the figure call and the list call answer it.
-use mathlib.Core.Path.{_≡_, refl, sym, ap, _∙_}
+use mathlib.Core.Path.{_≡_, refl, sym, ap, ap₂, _∙_}
 use mathlib.Core.Bool.{Bool, true, false}
 use mathlib.Core.List.{List, [], _∷_}
 use Prim.Native.Nat.{ℕ, suc, _≤_, _<_}
@@ -48,10 +48,10 @@ module _ (b vs : List ℕ) (e : refusal b ≡ 0) (h : AreBytes b) (q : valuesRef
   unfolding firstNo
   quote-found = quote-walked
 
-  pub figure-found : evaluateNode u mostDepth b .fits ≡ true → Quote.Figure (top (evaluateNode u mostDepth b .pairs)) ≡ figureAnswer b vs
+  pub figure-found : evaluateNode u mostDepth b .fits ≡ true → Quote.Figure (top (evaluateNode u mostDepth b .pairs)) (evaluateNode u mostDepth b .branch) ≡ figureAnswer b vs
   figure-found n =
       let f = is-T (fits (valuesOf vs) (decode b)) (sym (walk .fits) ∙ n) in
-      ap Quote.Figure (walk .figure f) ∙ sym (figure-is b vs e q f)
+      ap₂ Quote.Figure (walk .figure f) (walk .branch f) ∙ sym (figure-is b vs e q f)
 
 -- ---- the figure call
 

@@ -10,11 +10,11 @@ use Rattle.table.specs.Asking.{_asks_, byRefusal, firstNo}
 use Rattle.table.specs.Checking.{refusal}
 use Rattle.table.specs.Laws.Asking.{Yes, all-yes, number-is, numbered, passed, passes, stops}
 use Rattle.table.specs.Laws.Refusal.{check-passed, check-passes}
-use Rattle.evaluate.specs.Evaluate.{valuesOf, figure, fits}
+use Rattle.evaluate.specs.Evaluate.{valuesOf, figure, branch, fits}
 use Rattle.evaluate.specs.Laws.Monotone.{figure-mono}
 use Rattle.quoting.specs.declared.Quote.{Quote}
 use Rattle.quoting.specs.Values.{NoneLower, question13, question9, ranged, valueQuestions, valuesRefusal}
-use Rattle.quoting.specs.Answers.{figureAnswer, figureRefusal, quoteOf, quoteQuestions, quotedFigure, quotedRefusal}
+use Rattle.quoting.specs.Answers.{figureAnswer, figureRefusal, quoteOf, quoteQuestions, quotedBranch, quotedFigure, quotedRefusal}
 use Rattle.quoting.specs.Laws.Values.{values-nine, values-thirteen}
 
 module _ (b vs : List ℕ) where
@@ -43,18 +43,19 @@ module _ (b vs : List ℕ) where
     pub allowed : valuesRefusal b vs ≡ 0
     pub small : T (fits (valuesOf vs) (decode b))
     pub is : quotedFigure (figureAnswer b vs) ≡ figure (valuesOf vs) (decode b)
+    pub branches : quotedBranch (figureAnswer b vs) ≡ branch (valuesOf vs) (decode b)
 
   asked : quotedRefusal (figureAnswer b vs) ≡ figureRefusal b vs
   unfolding figureAnswer quotedRefusal
   asked = number-is quotedRefusal (figureRefusal b vs) _ Quote.Refused refl (λ q. refl)
 
   pub figured : quotedRefusal (figureAnswer b vs) ≡ 0 → Figured
-  unfolding figureRefusal quoteQuestions valuesRefusal valueQuestions quotedFigure numbered Yes
+  unfolding figureRefusal quoteQuestions valuesRefusal valueQuestions quotedFigure quotedBranch numbered Yes
   figured p =
       let (e, m) = check-passed b (quoteQuestions b vs) (sym asked ∙ p) in
       let (q, l) = passed (valueQuestions b vs) _ tt m in
       let f = all-yes (10 asks fits (valuesOf vs) (decode b) ∷ []) tt l .0 in
-      record { accepted = e; allowed = q; small = f; is = ap quotedFigure (figure-is e q f) }
+      record { accepted = e; allowed = q; small = f; is = ap quotedFigure (figure-is e q f); branches = ap quotedBranch (figure-is e q f) }
 
 -- values none lower give no lower figure, where both get one
 pub figure-monotone : (b vs ws : List ℕ) → NoneLower vs ws → quotedRefusal (figureAnswer b vs) ≡ 0 → quotedRefusal (figureAnswer b ws) ≡ 0

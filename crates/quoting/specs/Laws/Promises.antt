@@ -26,9 +26,11 @@ use Rattle.quoting.specs.declared.Listed.{Listed}
 use Rattle.quoting.specs.declared.Quote.{Quote}
 use Rattle.writing.specs.Over.{over}
 use Rattle.quoting.specs.Answers.{figureAnswer, listAnswer, listRefusal, listWrites, listedPairs, listedRefusal, quotedFigure, quotedRefusal}
+use Rattle.quoting.specs.Branches.{BranchPromises}
 use Rattle.quoting.specs.Promises.{ListPromises, NeverLowered, Promised, Promises, byRule}
 use Rattle.quoting.specs.Values.{triangleSmall}
 use Rattle.writing.specs.Laws.Over.{take-over}
+use Rattle.quoting.specs.Laws.Branches.{branch-of}
 use Rattle.quoting.specs.Laws.Figures.{figure-monotone, figured}
 use Rattle.quoting.specs.Laws.Values.{thirteen-limits, values-thirteen}
 use Rattle.quoting.specs.Laws.Evaluated.{Lists}
@@ -54,13 +56,19 @@ figure-promises b vs h = λ p.
     let small = subst T (thirteen-limits b vs i) (values-thirteen b vs (f .allowed)) in
     subst (Promised (valuesOf vs) (decode b)) (sym (f .is)) (figure-promised (valuesOf vs) (decode b) (i .accepted) small)
 
+pub branch-promises : (b vs : List ℕ) → AreBytes b → BranchPromises b vs (figureAnswer b vs)
+unfolding BranchPromises
+branch-promises b vs h = λ p.
+    let f = figured b vs p in
+    rw (f .is, f .branches) (branch-of (valuesOf vs) (decode b) (is-table b h (f .accepted) .accepted .listed))
+
 -- an answer that is the figure call's keeps them too, and values none lower never lower it
 pub kept : (b vs : List ℕ) → AreBytes b → (r : Quote) → r ≡ figureAnswer b vs
-    → (r ≡ figureAnswer b vs) × (Promises b vs r × (quotedRefusal r ≡ 0 → NeverLowered b vs (quotedFigure r)))
+    → (r ≡ figureAnswer b vs) × (Promises b vs r × (BranchPromises b vs r × (quotedRefusal r ≡ 0 → NeverLowered b vs (quotedFigure r))))
 unfolding NeverLowered
 kept b vs h r e = (
   e,
-  (subst (Promises b vs) (sym e) (figure-promises b vs h), λ p w l q. rw e (figure-monotone b vs w l (ap quotedRefusal (sym e) ∙ p) q)),
+  (subst (Promises b vs) (sym e) (figure-promises b vs h), (subst (BranchPromises b vs) (sym e) (branch-promises b vs h), λ p w l q. rw e (figure-monotone b vs w l (ap quotedRefusal (sym e) ∙ p) q))),
 )
 
 -- ---- the list call

@@ -28,7 +28,7 @@ use Rattle.quoting.specs.declared.Quote.{Quote}
 use Rattle.simplifying.specs.declared.Simplified.{Simplified}
 use Rattle.quoting.specs.Values.{valuesRefusal}
 use Rattle.writing.specs.Over.{over}
-use Rattle.quoting.specs.Answers.{checkAnswer, checkedRefusal, figureAnswer, quotedFigure, quotedRefusal}
+use Rattle.quoting.specs.Answers.{checkAnswer, checkedRefusal, figureAnswer, quoteOf, quotedFigure, quotedRefusal}
 use Rattle.simplifying.specs.Answers.{endingOf, finishedNumber, made, madeAnswer, simplifiedFinished, simplifiedLength, simplifiedRefusal, simplifiedSteps, simplifyAnswer, simplifyRefusal, simplifyWrites}
 use Rattle.quoting.specs.Promises.{Promises}
 use Rattle.simplifying.specs.Demand.{Asked, Demand3, FigureNumbers, SimplifyNumbers, Sold, quotedNumbers, simplifiedNumbers, soldBytes}
@@ -74,9 +74,8 @@ module _ (b : List ℕ) (n : ℕ) (v w : List ℕ) (h : AreBytes b) (e : refusal
             let f = figured b v p in
             let allowed : valuesRefusal (encode (m .tree)) v ≡ 0 = values-carry b _ v i j (λ q x. rw back (k .limits (λ n m. q m) x)) (f .allowed) in
             let small : T (fits (valuesOf v) (decode (encode (m .tree)))) = rw back (k .stillFits (valuesOf v) (f .small)) in
-            let same : figureAnswer (encode (m .tree)) w ≡ Quote.Figure (figure (valuesOf v) t) =
-            ap (figureAnswer (encode (m .tree))) (sym q) ∙ figure-is _ v ok allowed small ∙ ap Quote.Figure (ap (figure (valuesOf v)) back ∙ k .sameFigure (valuesOf v)) in
-            (ap quotedRefusal same, ap quotedFigure same ∙ sym (f .is));
+            let same : figureAnswer (encode (m .tree)) w ≡ quoteOf (encode (m .tree)) v = ap (figureAnswer (encode (m .tree))) (sym q) ∙ figure-is _ v ok allowed small in
+            (ap quotedRefusal same, ap quotedFigure same ∙ ap (figure (valuesOf v)) back ∙ k .sameFigure (valuesOf v) ∙ sym (f .is));
       }
 
   too-large : fits zeros (decode b) ≡ false → (u : List ℕ) → quotedRefusal (figureAnswer b u) ≡ 0 → ⊥

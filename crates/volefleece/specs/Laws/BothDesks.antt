@@ -23,7 +23,7 @@ simplified-numbers : (r : VfSimplified) (answer : Simplified) → SimplifiedAs r
 simplified-numbers r answer s = rw (s .refused, s .length, s .steps, s .finished) refl
 
 quoted-numbers : (r : VfFigureAnswer) (answer : Quote) → QuotedAs r answer → quotedBy r ≡ quotedNumbers answer
-quoted-numbers r answer (e, f) = rw (e, f) refl
+quoted-numbers r answer (e, (f, _)) = rw (e, f) refl
 
 -- where sales are lent the first bytes of the buffer, as many as simplifying answered
 pub both-asked : (b : List ℕ) (n : ℕ) (v w out buffer : List ℕ) (r : VfBothDesks) → AreBytes b

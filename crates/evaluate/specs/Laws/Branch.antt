@@ -1,0 +1,83 @@
+-- The branch as the walk finds it, child by child, is the definition's.
+use mathlib.Core.Path.{_≡_, refl, sym, ap, _∙_}
+use mathlib.Core.Bool.{Bool, true, false, cond}
+use Prim.Native.Nat.{ℕ, suc, _+_, _<_, max}
+use native.Mathlib.Omega.{arith}
+use lib.Dec.{leb}
+use borrow.Author.Tests.{le-leb, leb-false, leb-true, lt-leb}
+use Rattle.table.specs.Trees.{Tree, Forest, nil, _▸_, rest, size}
+use Rattle.lists.specs.Streams.{Stream, const, holder, merge, taken}
+use Rattle.evaluate.specs.Nodes.{Kind, Block, Sequence, Choice, Loop}
+use Rattle.evaluate.specs.Evaluate.{Values, before, branchIn, holderIn, join, list, name, noBranch, start, turns}
+use Rattle.evaluate.specs.Evaluator.{held}
+
+-- a child's list, as its parent takes it
+abbrev pub childList : Values → Kind → Tree → Stream
+childList v k t = turns v k (name t) (list v t)
+
+-- after the children f, numbers i and on, where child c holds the first member of the list a of those before them
+unfoldable pub leads : Values → Kind → (c i : ℕ) → Stream → Forest → ℕ
+leads v k c i a nil = c
+leads v k c i a (t ▸ f) = leads v (rest k) (held k c (a 0) i (childList v k t 0)) (suc i) (join k a (childList v k t)) f
+
+-- ---- a choice
+
+-- by the first members: x of the children so far, y of the next one, child i, and z of the others taken together, of which child h holds it
+next-holds : (x y z c i h : ℕ) → cond (leb z (max x y)) (cond (leb y x) c i) (suc i + h) ≡ cond (leb (max y z) x) c (i + cond (leb z y) 0 (suc h))
+next-holds x y z c i h = go (leb y x) (leb z x) (leb z y) refl refl refl
+  where
+    go : (p q r : Bool) → leb y x ≡ p → leb z x ≡ q → leb z y ≡ r → cond (leb z (max x y)) (cond p c i) (suc i + h) ≡ cond (leb (max y z) x) c (i + cond r 0 (suc h))
+    go true true r p q s =
+        let l = leb-true y x p in
+        let m = leb-true z x q in
+        rw (le-leb z (max x y) (omega arith), le-leb (max y z) x (omega arith)) refl
+    go true false true p q s = absurd (omega (arith, leb-true y x p, leb-false z x q, leb-true z y s))
+    go true false false p q s =
+        let l = leb-true y x p in
+        let m = leb-false z x q in
+        rw (lt-leb z (max x y) (omega arith), lt-leb (max y z) x (omega arith)) (omega arith)
+    go false q true p o s =
+        let l = leb-false y x p in
+        let m = leb-true z y s in
+        rw (le-leb z (max x y) (omega arith), lt-leb (max y z) x (omega arith)) (omega arith)
+    go false q false p o s =
+        let l = leb-false y x p in
+        let m = leb-false z y s in
+        rw (lt-leb z (max x y) (omega arith), lt-leb (max y z) x (omega arith)) (omega arith)
+
+-- those before keep it, unless one of f is larger
+choice-leads : (v : Values) (c i : ℕ) (a : Stream) (f : Forest) → leads v Choice c i a f ≡ cond (leb (before v Choice f 0) (a 0)) c (i + holderIn v f)
+unfolding leads before start const rest held turns join merge taken holderIn holder
+choice-leads v c i a nil = rw (le-leb 0 (a 0) (omega arith)) refl
+choice-leads v c i a (t ▸ f) = choice-leads v _ (suc i) (merge a (list v t)) f ∙ next-holds (a 0) (list v t 0) (before v Choice f 0) c i (holderIn v f)
+
+-- where every first member is 0, the first child holds it
+zero-holder : (v : Values) (f : Forest) → leb (before v Choice f 0) 0 ≡ true → holderIn v f ≡ 0
+unfolding holderIn holder before join turns merge taken rest
+zero-holder v nil e = refl
+zero-holder v (t ▸ f) e = let l = leb-true (max (list v t 0) (before v Choice f 0)) 0 e in rw (le-leb (before v Choice f 0) (list v t 0) (omega arith)) refl
+
+choice-branch : (v : Values) (f : Forest) → leads v Choice 0 0 (const 0) f ≡ holderIn v f
+unfolding const
+choice-branch v f = choice-leads v 0 0 (const 0) f ∙ go (leb (before v Choice f 0) 0) refl
+  where
+    go : (b : Bool) → leb (before v Choice f 0) 0 ≡ b → cond b 0 (0 + holderIn v f) ≡ holderIn v f
+    go true e = sym (zero-holder v f e)
+    go false e = omega arith
+
+-- ---- the others
+
+sequence-leads : (v : Values) (i : ℕ) (a : Stream) (f : Forest) → leads v Sequence noBranch i a f ≡ noBranch
+unfolding leads rest held
+sequence-leads v i a nil = refl
+sequence-leads v i a (t ▸ f) = sequence-leads v (suc i) _ f
+
+-- ---- all kinds
+
+pub branch-leads : (v : Values) (k : Kind) (f : Forest) → 0 < size f → leads v k 0 0 (const 0) f ≡ branchIn v k f
+unfolding leads branchIn size rest held
+branch-leads v k nil l = absurd (omega arith)
+branch-leads v (Block b) (t ▸ f) l = sequence-leads v 1 _ f
+branch-leads v Sequence (t ▸ f) l = sequence-leads v 1 _ f
+branch-leads v Choice (t ▸ f) l = choice-branch v (t ▸ f)
+branch-leads v (Loop n) (t ▸ f) l = sequence-leads v 1 _ f
