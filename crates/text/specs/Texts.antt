@@ -10,7 +10,7 @@ mostDigits = 20
 
 -- as LONGEST_LINE
 abbrev pub longestLine : ℕ
-longestLine = 64
+longestLine = 96
 
 -- a text and then a number's decimal digits, as few as hold it
 pub record Numbered (before : List ℕ) (n : ℕ) (text : List ℕ) : Type 0 where
@@ -23,3 +23,11 @@ pub record Line (before : List ℕ) (n : ℕ) (text : List ℕ) : Type 0 where
   pub numbered : List ℕ
   pub digits : Numbered before n numbered
   pub said : text ≡ numbered ++ (10 ∷ [])
+
+-- a text and a number, a text and another number, and an ending
+pub record TwoNumbers (before : List ℕ) (m : ℕ) (between : List ℕ) (n : ℕ) (ending text : List ℕ) : Type 0 where
+  pub front : List ℕ
+  pub numbers : List ℕ
+  pub first : Numbered before m front
+  pub second : Numbered (front ++ between) n numbers
+  pub said : text ≡ numbers ++ ending

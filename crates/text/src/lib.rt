@@ -4,7 +4,7 @@ ghost use mathlib.Core.List.{_++_};
 ghost use Prim.Native.Nat.{_+_, _≤_};
 ghost use lib.ListN.{length, take};
 ghost use Rattle.io.specs.Counts.{Counts};
-ghost use Rattle.text.specs.Texts.{Line, Numbered, longestLine, mostDigits};
+ghost use Rattle.text.specs.Texts.{Line, Numbered, TwoNumbers, longestLine, mostDigits};
 use libc::STDOUT_FILENO;
 
 // The most digits that a number has.
@@ -34,15 +34,44 @@ pub fn put_number(out: &mut [u8], at: usize, number: u64) -> usize
     put_word(out, at, &digits[..k])
 }
 
+// Puts a word and a number there.
+fn put_numbered(out: &mut [u8], at: usize, word: &[u8], number: u64) -> usize
+    requires { ⌜ at + length (now word) + mostDigits ≤ length (now out) ⌝ }
+    ensures { λ r. ⌜ Counts r (now (out .exit)) ⌝ }
+    ensures { λ r. ⌜ r ≤ at + length (now (word .entry)) + mostDigits ⌝ }
+    ensures { λ r. ⌜ Numbered (take at (now (out .entry)) ++ now (word .entry)) number (take r (now (out .exit))) ⌝ }
+{
+    let named = put_word(out, at, word);
+    put_number(out, named, number)
+}
+
 // Puts a line there: a word, a number and the line's end.
 pub fn put_line(out: &mut [u8], at: usize, word: &[u8], number: u64) -> usize
     requires { ⌜ at + length (now word) + mostDigits + 1 ≤ length (now out) ⌝ }
     ensures { λ r. ⌜ Counts r (now (out .exit)) ⌝ }
     ensures { λ r. ⌜ Line (take at (now (out .entry)) ++ now (word .entry)) number (take r (now (out .exit))) ⌝ }
 {
-    let named = put_word(out, at, word);
-    let numbered = put_number(out, named, number);
+    let numbered = put_numbered(out, at, word, number);
     put_word(out, numbered, b"\n")
+}
+
+// Puts two numbers there, each after its word, and then an ending.
+pub fn put_two_numbers(
+    out: &mut [u8],
+    at: usize,
+    word: &[u8],
+    first: u64,
+    between: &[u8],
+    second: u64,
+    ending: &[u8],
+) -> usize
+    requires { ⌜ at + length (now word) + mostDigits + length (now between) + mostDigits + length (now ending) ≤ length (now out) ⌝ }
+    ensures { λ r. ⌜ Counts r (now (out .exit)) ⌝ }
+    ensures { λ r. ⌜ TwoNumbers (take at (now (out .entry)) ++ now (word .entry)) first (now (between .entry)) second (now (ending .entry)) (take r (now (out .exit))) ⌝ }
+{
+    let front = put_numbered(out, at, word, first);
+    let numbers = put_numbered(out, front, between, second);
+    put_word(out, numbers, ending)
 }
 
 // Writes a line to standard output, or says on standard error why it cannot. The whole line goes to the system in one call: in pieces, another program's could come between.
@@ -52,8 +81,8 @@ pub fn say(line: &[u8]) {
     }
 }
 
-// Room for any line of words and a number that the programs say.
-pub const LONGEST_LINE: usize = 64;
+// Room for any line that the programs say.
+pub const LONGEST_LINE: usize = 96;
 
 // Says a line of a word and a number.
 pub fn say_number(word: &[u8], number: u64)
@@ -61,5 +90,14 @@ pub fn say_number(word: &[u8], number: u64)
 {
     let mut line = [0u8; LONGEST_LINE];
     let n = put_line(&mut line, 0, word, number);
+    say(&line[..n]);
+}
+
+// Says a line of two words, each before its number.
+pub fn say_two_numbers(word: &[u8], first: u64, between: &[u8], second: u64)
+    requires { ⌜ length (now word) + mostDigits + length (now between) + mostDigits + 1 ≤ longestLine ⌝ }
+{
+    let mut line = [0u8; LONGEST_LINE];
+    let n = put_two_numbers(&mut line, 0, word, first, between, second, b"\n");
     say(&line[..n]);
 }
