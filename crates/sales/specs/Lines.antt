@@ -1,8 +1,7 @@
 -- The line of a written table.
-use mathlib.Core.Path.{_≡_}
-use mathlib.Core.List.{List, [], _∷_, _++_}
+use mathlib.Core.List.{List, [], _∷_}
 use Prim.Native.Nat.{ℕ}
-use Rattle.text.specs.Texts.{Numbered}
+use Rattle.text.specs.Texts.{TwoNumbers}
 
 -- "simplified "
 abbrev pub simplifiedWord : List ℕ
@@ -13,9 +12,5 @@ abbrev pub stepsWord : List ℕ
 stepsWord = 32 ∷ 115 ∷ 116 ∷ 101 ∷ 112 ∷ 115 ∷ 32 ∷ []
 
 -- a word and the bytes written, a word and the steps taken, and how it ended
-pub record Line (bytes steps : ℕ) (ending line : List ℕ) : Type 0 where
-  pub front : List ℕ
-  pub numbers : List ℕ
-  pub first : Numbered simplifiedWord bytes front
-  pub second : Numbered (front ++ stepsWord) steps numbers
-  pub said : line ≡ numbers ++ ending
+abbrev pub Line : (bytes steps : ℕ) (ending line : List ℕ) → Type 0
+Line bytes steps ending line = TwoNumbers simplifiedWord bytes stepsWord steps ending line

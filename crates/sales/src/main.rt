@@ -5,10 +5,12 @@ use simplifying::Ending;
 use simplifying::Simplified;
 use table::MOST_RECORDS;
 use table::RECORD_LENGTH;
+use text::LONGEST_LINE;
 ghost use Prim.Native.Nat.{_+_, _≤_};
 ghost use lib.ListN.{length, take};
 ghost use Rattle.io.specs.Counts.{Counts};
 ghost use Rattle.sales.specs.Lines.{Line};
+ghost use Rattle.text.specs.Texts.{longestLine};
 
 // One record more than a table may have, so that a longer file shows.
 const ROOM: usize = RECORD_LENGTH * (MOST_RECORDS + 1);
@@ -33,24 +35,17 @@ fn allowance() -> Allowance {
     arguments::allowance_of(&argument[..len])
 }
 
-// The bytes before a line's ending are at most 58: two words of 11 and 7, and two numbers of 20 digits. The longest ending has 10.
-const LONGEST_LINE: usize = 68;
-
-// Puts the line of a written table into the buffer; answers its length.
+// Puts the line of a written table into the buffer; answers its length. The bytes before its ending are at most 58: two words of 11 and 7, and two numbers of 20 digits.
 fn put_line(line: &mut [u8], len: u64, steps: u64, ending: &[u8]) -> usize
     requires { ⌜ 58 + length (now ending) ≤ length (now line) ⌝ }
     ensures { λ r. ⌜ Counts r (now (line .exit)) ⌝ }
     ensures { λ r. ⌜ Line len steps (now (ending .entry)) (take r (now (line .exit))) ⌝ }
 {
-    let at = text::put_word(line, 0, b"simplified ");
-    let at = text::put_number(line, at, len);
-    let at = text::put_word(line, at, b" steps ");
-    let at = text::put_number(line, at, steps);
-    text::put_word(line, at, ending)
+    text::put_two_numbers(line, 0, b"simplified ", len, b" steps ", steps, ending)
 }
 
 fn say(len: u64, steps: u64, ending: &[u8])
-    requires { ⌜ length (now ending) ≤ 10 ⌝ }
+    requires { ⌜ 58 + length (now ending) ≤ longestLine ⌝ }
 {
     let mut line = [0u8; LONGEST_LINE];
     let n = put_line(&mut line, len, steps, ending);
