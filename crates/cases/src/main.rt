@@ -21,6 +21,23 @@ fn say(name: &[u8], word: &[u8], number: u64)
     text::say(&line[..n]);
 }
 
+fn say_figure(name: &[u8], figure: u64, branch: u64)
+    requires { ⌜ length (now name) ≤ 32 ⌝ }
+{
+    let mut line = [0u8; LONGEST_LINE];
+    let named = text::put_word(&mut line, 0, name);
+    let n = text::put_two_numbers(
+        &mut line,
+        named,
+        b" figure ",
+        figure,
+        b" branch ",
+        branch,
+        b"\n",
+    );
+    text::say(&line[..n]);
+}
+
 // The figure of a case's table, with every symbol 0.
 fn quote(path: &[u8])
     requires { ⌜ length (now path) ≤ 32 ⌝ }
@@ -33,7 +50,7 @@ fn quote(path: &[u8])
     let len = file.len;
     let answer = quoting::figure(&table[..len], &[0; HOW_MANY_VALUES]);
     match answer {
-        Quote::Figure(figure) => say(path, b" figure ", figure),
+        Quote::Figure(figure, branch) => say_figure(path, figure, branch),
         Quote::Refused(number) => say(path, b" refused ", number),
     }
 }

@@ -21,7 +21,12 @@ fn main() {
     let values_len = v.len;
     let quote = deskfiles::quote_files(&tree[..tree_len], &values[..values_len]);
     match quote {
-        Quote::Figure(figure) => text::say_number(b"figure ", figure),
+        Quote::Figure(figure, branch) => text::say_two_numbers(
+            b"figure ",
+            figure,
+            b" branch ",
+            branch,
+        ),
         Quote::Refused(number) => text::say_number(b"refused ", number),
     }
 }
