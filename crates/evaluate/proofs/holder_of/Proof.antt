@@ -1,11 +1,12 @@
 -- A choice is told its constructor, and compares; the others are among those left.
+use mathlib.Core.Path.{refl}
+use native.Mathlib.Omega.{arith}
 use borrow.Author.Needs.{needs}
 use borrow.Author.Tests.{le-leb, lt-leb}
 use Rattle.evaluate.specs.Evaluator.{held}
 use Rattle.evaluate.proofs.Others.{held-other}
 use Rattle.evaluate.proofs.holder_of.Statement.{statement}
 use Rattle.evaluate.proofs.holder_of.Tie as tie
-use mathlib.Core.Path.{refl}
 
 enum-told : tie.Need-enum-told
 enum-told c = search needs
@@ -14,13 +15,13 @@ returns : tie.Need-returns
 unfolding held
 returns c =
     let a = c .before .before .before .args in
-    rw (c .before .enum-told .given .1, le-leb (a .first) (a .largest) (c .if1 .taken)) refl
+    rw (c .before .enum-told .given .1, le-leb (a .first) (a .largest) (omega (arith, c .if1 .taken))) refl
 
 returns-2 : tie.Need-returns-2
 unfolding held
 returns-2 c =
     let a = c .before .before .before .args in
-    rw (c .before .enum-told .given .1, lt-leb (a .first) (a .largest) (c .if1 .left)) refl
+    rw (c .before .enum-told .given .1, lt-leb (a .first) (a .largest) (omega (arith, c .if1 .left))) refl
 
 returns-3 : tie.Need-returns-3
 returns-3 c = let a = c .before .args in held-other (a .kind) (a .holder) (a .largest) (a .number) (a .first) (c .match .keys2)

@@ -5,7 +5,7 @@ use Prim.Native.Nat.{ℕ, suc, _+_, _<_, max}
 use native.Mathlib.Omega.{arith}
 use lib.Dec.{leb}
 use borrow.Author.Tests.{le-leb, leb-false, leb-true, lt-leb}
-use Rattle.table.specs.Trees.{Tree, Forest, nil, _▸_, rest, size}
+use Rattle.table.specs.Trees.{Tree, Forest, nil, node, _▸_, rest, size}
 use Rattle.lists.specs.Streams.{Stream, const, holder, merge, taken}
 use Rattle.evaluate.specs.Nodes.{Kind, Block, Sequence, Choice, Loop}
 use Rattle.evaluate.specs.Evaluate.{Values, before, branchIn, holderIn, join, list, name, noBranch, start, turns}
@@ -49,13 +49,16 @@ next-holds x y z c i h = go (leb y x) (leb z x) (leb z y) refl refl refl
 choice-leads : (v : Values) (c i : ℕ) (a : Stream) (f : Forest) → leads v Choice c i a f ≡ cond (leb (before v Choice f 0) (a 0)) c (i + holderIn v f)
 unfolding leads before start const rest held turns join merge taken holderIn holder
 choice-leads v c i a nil = rw (le-leb 0 (a 0) (omega arith)) refl
-choice-leads v c i a (t ▸ f) = choice-leads v _ (suc i) (merge a (list v t)) f ∙ next-holds (a 0) (list v t 0) (before v Choice f 0) c i (holderIn v f)
+choice-leads v c i a (node n g ▸ f) =
+    choice-leads v _ (suc i) (merge a (list v (node n g))) f ∙ next-holds (a 0) (list v (node n g) 0) (before v Choice f 0) c i (holderIn v f)
 
 -- where every first member is 0, the first child holds it
 zero-holder : (v : Values) (f : Forest) → leb (before v Choice f 0) 0 ≡ true → holderIn v f ≡ 0
 unfolding holderIn holder before join turns merge taken rest
 zero-holder v nil e = refl
-zero-holder v (t ▸ f) e = let l = leb-true (max (list v t 0) (before v Choice f 0)) 0 e in rw (le-leb (before v Choice f 0) (list v t 0) (omega arith)) refl
+zero-holder v (node n g ▸ f) e =
+    let l = leb-true (max (list v (node n g) 0) (before v Choice f 0)) 0 e in
+    rw (le-leb (before v Choice f 0) (list v (node n g) 0) (omega arith)) refl
 
 choice-branch : (v : Values) (f : Forest) → leads v Choice 0 0 (const 0) f ≡ holderIn v f
 unfolding const
