@@ -1,7 +1,7 @@
 //! Document 01's cases A to N as far as the quoting calls go, in its order and words, with what they
-//! answer at `VALUES`.
+//! answer at `VALUES`, document 02's branch included.
 
-use crate::evaluator::Pair;
+use crate::evaluator::{Pair, Quoted};
 use crate::tables::*;
 
 pub struct Case {
@@ -9,6 +9,20 @@ pub struct Case {
     pub table: Vec<u8>,
     /// The whole list, whose first member is the figure, or the refusal's number.
     pub answer: Result<Vec<Pair>, u64>,
+    branch: u64,
+}
+
+impl Case {
+    /// What the figure call answers.
+    pub fn quoted(&self) -> Result<Quoted, u64> {
+        match &self.answer {
+            Ok(pairs) => Ok(Quoted {
+                figure: pairs[0].0,
+                branch: self.branch,
+            }),
+            Err(question) => Err(*question),
+        }
+    }
 }
 
 /// Symbol 16, the X of cases J and K, stands for 100; no other is used.
@@ -51,7 +65,7 @@ pub fn cases() -> Vec<Case> {
             sequence(&[block(9), symbol_block(16)]),
             &[(109, 0)],
         ),
-        listed("K", case_k(), &[(105, 0)]),
+        of_branch(0, listed("K", case_k(), &[(105, 0)])),
         listed(
             "K simplified",
             sequence(&[block(5), symbol_block(16)]),
@@ -68,12 +82,19 @@ pub fn cases() -> Vec<Case> {
     ]
 }
 
+/// A case whose root is no choice.
 fn listed(name: &'static str, table: Vec<u8>, pairs: &[Pair]) -> Case {
     Case {
         name,
         table,
         answer: Ok(pairs.to_vec()),
+        branch: 255,
     }
+}
+
+/// The case with the branch of its root choice.
+fn of_branch(branch: u64, case: Case) -> Case {
+    Case { branch, ..case }
 }
 
 fn refused(name: &'static str, table: Vec<u8>, question: u64) -> Case {
@@ -81,6 +102,7 @@ fn refused(name: &'static str, table: Vec<u8>, question: u64) -> Case {
         name,
         table,
         answer: Err(question),
+        branch: 0,
     }
 }
 

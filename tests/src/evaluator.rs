@@ -1,7 +1,7 @@
-//! The second evaluator: document 01's evaluation and questions 8 to 10, and question 13 of document
-//! 02, written apart from the library and in its own way. A named loop is its level, and a sequence or
-//! choice joins the lists of all its children at once. It is plain Rust, fast enough to be measured
-//! against the library.
+//! The second evaluator: document 01's evaluation and questions 8 to 10, and question 13 and the branch
+//! of document 02, written apart from the library and in its own way. A named loop is its level, and a
+//! sequence or choice joins the lists of all its children at once. It is plain Rust, fast enough to be
+//! measured against the library.
 
 use crate::format::*;
 use crate::reader;
@@ -11,11 +11,19 @@ use std::cmp::Reverse;
 /// A value and how often it stands in a list. The last pair's count is 0, meaning for ever.
 pub type Pair = (u64, u64);
 
-/// The figure call: questions 1 to 7, 9, 13 and 10, then the figure.
-pub fn figure(table: &[u8], values: &[u64]) -> Result<u64, u64> {
+/// What the figure call answers.
+#[derive(Clone, Copy, Debug, PartialEq, Eq)]
+pub struct Quoted {
+    pub figure: u64,
+    /// The root choice's child that sets the figure, counted from 0, or `NO_BRANCH`.
+    pub branch: u64,
+}
+
+/// The figure call: questions 1 to 7, 9, 13 and 10, then the figure and its branch.
+pub fn figure(table: &[u8], values: &[u64]) -> Result<Quoted, u64> {
     let tree = reader::check(table)?;
     let root = evaluate(&tree, values)?;
-    Ok(root.list.first())
+    Ok(root.quoted())
 }
 
 /// The list call on a buffer of so many numbers: questions 1 to 9, 13 and 10, then the pairs.
@@ -70,18 +78,34 @@ pub struct Evaluated {
     /// The level of the named loop: 0 is the whole run, 1 the outermost loop around the node, and
     /// so on inward. The innermost of some loops is thus the largest level.
     pub level: usize,
+    /// Of a choice: the child with the largest first member, the earliest of equal ones. No other node
+    /// has one.
+    pub branch: Option<usize>,
+}
+
+impl Evaluated {
+    /// What the figure call answers where this is the root's value.
+    pub fn quoted(&self) -> Quoted {
+        Quoted {
+            figure: self.list.first(),
+            branch: self.branch.map_or(NO_BRANCH, |place| place as u64),
+        }
+    }
 }
 
 /// The value of a node that has so many loops around it, or 10, question 10's refusal. The values
 /// have passed questions 9 and 13.
 pub fn evaluate_at(tree: &Tree, around: usize, values: &[u64]) -> Result<Evaluated, u64> {
     let before_limit = match tree.kind {
-        Kind::Block(time) => Evaluated {
-            list: List::constant(number(time, values)),
-            level: 0,
-        },
+        Kind::Block(time) => branchless(List::constant(number(time, values)), 0),
         Kind::Sequence => join(&children(tree, around, values)?, added),
-        Kind::Choice => join(&children(tree, around, values)?, taken_together),
+        Kind::Choice => {
+            let children = children(tree, around, values)?;
+            Evaluated {
+                branch: first_largest(&children),
+                ..join(&children, taken_together)
+            }
+        }
         Kind::Loop(bound) => {
             let body = evaluate_at(&tree.children[0], around + 1, values)?;
             let exit = evaluate_at(&tree.children[1], around, values)?;
@@ -106,27 +130,35 @@ fn children(tree: &Tree, around: usize, values: &[u64]) -> Result<Vec<Evaluated>
     Ok(children)
 }
 
-/// A sequence's or choice's value. It names the innermost loop named by any child, even where the
-/// list is constant.
-fn join(children: &[Evaluated], lists: fn(&[Evaluated]) -> List) -> Evaluated {
+/// The value of what is no choice.
+fn branchless(list: List, level: usize) -> Evaluated {
     Evaluated {
-        list: lists(children),
-        level: children.iter().map(|child| child.level).max().unwrap_or(0),
+        list,
+        level,
+        branch: None,
     }
+}
+
+/// A sequence's value, and a choice's but for its branch. It names the innermost loop named by any
+/// child, even where the list is constant.
+fn join(children: &[Evaluated], lists: fn(&[Evaluated]) -> List) -> Evaluated {
+    let level = children.iter().map(|child| child.level).max().unwrap_or(0);
+    branchless(lists(children), level)
+}
+
+/// The first place of the largest first member. The children's own limits are in their lists.
+fn first_largest(children: &[Evaluated]) -> Option<usize> {
+    let mut firsts = children.iter().map(|child| child.list.first());
+    let largest = firsts.clone().max()?;
+    firsts.position(|first| first == largest)
 }
 
 /// What the passes of a loop's body add up to. `this` is the loop's own level.
 fn passes(body: Evaluated, bound: u64, this: usize) -> Evaluated {
     if body.level == this {
-        Evaluated {
-            list: List::constant(body.list.first_sum(bound)),
-            level: 0,
-        }
+        branchless(List::constant(body.list.first_sum(bound)), 0)
     } else {
-        Evaluated {
-            list: body.list.grouped(bound),
-            level: body.level,
-        }
+        branchless(body.list.grouped(bound), body.level)
     }
 }
 
@@ -139,6 +171,7 @@ fn limited(node: Evaluated, limit: Limit, around: usize, values: &[u64]) -> Eval
     Evaluated {
         list: node.list.cut(number(limit.amount, values)),
         level: node.level.max(level),
+        ..node
     }
 }
 

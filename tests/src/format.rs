@@ -35,6 +35,9 @@ pub const MOST_DEPTH: usize = 32;
 pub const MOST_LOOPS: usize = 8;
 pub const MOST_WEIGHT: u64 = 255;
 
+/// The branch of a figure whose root is no choice: no child has this number.
+pub const NO_BRANCH: u64 = 255;
+
 /// How many values a quoting call wants.
 pub const VALUES: usize = 32;
 /// The numbers of 64 bits that a list's buffer must have room for.

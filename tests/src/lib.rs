@@ -4,11 +4,12 @@
 //! - `format`: the numbers of the table's format, each behind one name.
 //! - `trees`: a plain tree, its encoder and its random generators.
 //! - `reader`: the second reader, questions 1 to 7.
-//! - `evaluator`: the second evaluator, questions 8 to 10 and 13.
+//! - `evaluator`: the second evaluator, questions 8 to 10 and 13, and the branch.
 //! - `simplifier`: the second simplifier.
 //! - `grafter`: the second grafter, questions 11 and 12.
 //! - `fits`: where the rules of simplifying fit, for small tables.
-//! - `members`, `runs`: lists member by member, and the dearest run, both for small trees.
+//! - `members`, `runs`: lists member by member with their branches, and the dearest run, both for small
+//!   trees.
 //! - `ffi`: the library's functions and the probes, declared and wrapped.
 //! - `notation`: trees as docs/FORMAT.md writes them on a line.
 //! - `tables`, `cases`: hand-written tables, and document 01's cases.

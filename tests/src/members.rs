@@ -1,8 +1,9 @@
-//! A third evaluator, for small trees only: lists written out member by member, and the named loop
-//! as byte 3 counts it. It shares nothing with the second.
+//! A third evaluator, for small trees only: lists written out member by member, the named loop as byte
+//! 3 counts it, and a choice's branch. It shares nothing with the second.
 
 use crate::format::*;
 use crate::trees::{Amount, Kind, Tree};
+use std::cmp::Reverse;
 
 /// The first members of a node's list.
 #[derive(Clone, Debug)]
@@ -10,6 +11,8 @@ pub struct Front {
     pub members: Vec<u64>,
     /// The named loop as byte 3 would name it at the node, so that the inner of two is the smaller.
     pub names: u8,
+    /// The child that has a choice's first member, counted from 0.
+    pub branch: Option<usize>,
 }
 
 /// The front of a node's list, with so many members and at least one; or 10, question 10's refusal.
@@ -19,6 +22,7 @@ pub fn front(tree: &Tree, members: usize, values: &[u64]) -> Result<Front, u64> 
         Kind::Block(time) => Front {
             members: vec![number(time, values); members],
             names: WHOLE_RUN,
+            branch: None,
         },
         Kind::Sequence => sequence(&fronts(&tree.children, members, values)?),
         Kind::Choice => choice(&fronts(&tree.children, members, values)?),
@@ -49,20 +53,24 @@ fn sequence(fronts: &[Front]) -> Front {
             .map(|place| fronts.iter().map(|front| front.members[place]).sum())
             .collect(),
         names: innermost(fronts),
+        branch: None,
     }
 }
 
+/// Each member is taken together with its child. The sort leaves equal ones as they were, child by
+/// child, so that the first of all is the earliest child's.
 fn choice(fronts: &[Front]) -> Front {
-    let mut members: Vec<u64> = fronts
+    let mut members: Vec<(u64, usize)> = fronts
         .iter()
-        .flat_map(|front| front.members.clone())
+        .enumerate()
+        .flat_map(|(child, front)| front.members.iter().map(move |&member| (member, child)))
         .collect();
-    members.sort();
-    members.reverse();
+    members.sort_by_key(|&(member, _)| Reverse(member));
     members.truncate(fronts[0].members.len());
     Front {
-        members,
         names: innermost(fronts),
+        branch: members.first().map(|&(_, child)| child),
+        members: members.into_iter().map(|(member, _)| member).collect(),
     }
 }
 
@@ -73,19 +81,15 @@ fn innermost(fronts: &[Front]) -> u8 {
 
 fn passes(body: Front, bound: usize, members: usize) -> Front {
     let sum = |group: usize| body.members[group * bound..][..bound].iter().sum();
-    match body.names {
-        1 => Front {
-            members: vec![sum(0); members],
-            names: WHOLE_RUN,
-        },
-        WHOLE_RUN => Front {
-            members: (0..members).map(sum).collect(),
-            names: WHOLE_RUN,
-        },
-        names => Front {
-            members: (0..members).map(sum).collect(),
-            names: names - 1,
-        },
+    let (members, names) = match body.names {
+        1 => (vec![sum(0); members], WHOLE_RUN),
+        WHOLE_RUN => ((0..members).map(sum).collect(), WHOLE_RUN),
+        names => ((0..members).map(sum).collect(), names - 1),
+    };
+    Front {
+        members,
+        names,
+        branch: None,
     }
 }
 

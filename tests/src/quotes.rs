@@ -2,22 +2,40 @@
 //! second evaluator's, and neither call may change anything but the front of the list's buffer.
 
 use crate::compare::{has_flag_4, lend, shown};
-use crate::evaluator::{self, Pair};
+use crate::evaluator::{self, Pair, Quoted};
 use crate::ffi::{self, Figure, Listed};
 use crate::format::LIST_ROOM;
 use crate::rng::Rng;
+use std::ops::RangeInclusive;
 
 /// Numbers on both sides of what is lent, which no answer may depend on.
 const SIDE: usize = 4;
 
-/// The library's figure or refusal, from a lent table and lent values.
-pub fn figure(rng: &mut Rng, table: &[u8], values: &[u64]) -> Result<u64, u64> {
+/// The library's figure and branch, or its refusal, from a lent table and lent values.
+pub fn figure(rng: &mut Rng, table: &[u8], values: &[u64]) -> Result<Quoted, u64> {
     let answer = lend_all(rng, table, values, ffi::figure);
     match answer {
-        Figure { refused: 0, figure } => Ok(figure),
-        Figure { refused, figure: 0 } => Err(refused),
-        Figure { .. } => panic!("a refusal with a figure: {answer:?}"),
+        Figure {
+            refused: 0,
+            figure,
+            branch,
+        } => Ok(Quoted { figure, branch }),
+        Figure {
+            refused,
+            figure: 0,
+            branch: 0,
+        } => Err(refused),
+        Figure { .. } => panic!("a refusal with a figure or branch: {answer:?}"),
     }
+}
+
+/// What the figure call answers, which must be what the second evaluator does.
+#[track_caller]
+pub fn agreed(table: &[u8], values: &[u64]) -> Result<Quoted, u64> {
+    let answer = figure(&mut Rng::new(0), table, values);
+    let second = evaluator::figure(table, values);
+    assert_eq!(answer, second, "{}", shown_quote(table, values));
+    answer
 }
 
 /// The library's pairs or refusal, on a buffer of so many numbers.
@@ -77,8 +95,15 @@ fn lend_numbers<A>(numbers: &[u64], filler: u64, call: impl FnOnce(&[u64]) -> A)
 
 /// What both calls answer.
 pub struct Quote {
-    pub figure: Result<u64, u64>,
+    pub quoted: Result<Quoted, u64>,
     pub list: Result<Vec<Pair>, u64>,
+}
+
+impl Quote {
+    /// The figure call's answer without the branch.
+    pub fn figure(&self) -> Result<u64, u64> {
+        self.quoted.map(|quoted| quoted.figure)
+    }
 }
 
 /// How often each answer, 0 or a refusal's number, occurred.
@@ -91,6 +116,8 @@ pub struct Quotes {
     lists: Answers,
     /// The figures and refusals of tables with flag 4.
     triangular: Answers,
+    /// How many figures had that branch.
+    branches: [u64; 256],
     /// How many lists had so many pairs; those refused had none.
     pairs: [u64; 257],
 }
@@ -103,6 +130,7 @@ impl Quotes {
             figures: [0; 14],
             lists: [0; 14],
             triangular: [0; 14],
+            branches: [0; 256],
             pairs: [0; 257],
         }
     }
@@ -115,11 +143,11 @@ impl Quotes {
 
     /// The same with a list's buffer of so many numbers.
     pub fn compare_with_room(&mut self, table: &[u8], values: &[u64], room: usize) -> Quote {
-        let figure = figure(&mut self.rng, table, values);
+        let quoted = figure(&mut self.rng, table, values);
         let second = evaluator::figure(table, values);
         assert!(
-            figure == second,
-            "the library's figure is {figure:?}, the second evaluator's {second:?}\n{}",
+            quoted == second,
+            "the library answers {quoted:?}, the second evaluator {second:?}\n{}",
             shown_quote(table, values)
         );
         let list = list(&mut self.rng, table, values, room);
@@ -129,11 +157,14 @@ impl Quotes {
             "the library's list is {list:?},\nthe second evaluator's {second:?}, room {room}\n{}",
             shown_quote(table, values)
         );
-        self.figures[refusal(&figure)] += 1;
+        self.figures[refusal(&quoted)] += 1;
         self.lists[refusal(&list)] += 1;
-        self.triangular[refusal(&figure)] += u64::from(has_flag_4(table));
+        self.triangular[refusal(&quoted)] += u64::from(has_flag_4(table));
+        if let Ok(quoted) = quoted {
+            self.branches[quoted.branch as usize] += 1;
+        }
         self.pairs[list.as_ref().map_or(0, Vec::len)] += 1;
-        Quote { figure, list }
+        Quote { quoted, list }
     }
 
     /// Asserts that each of these answers of both calls, 0 or a refusal's number, occurred at least
@@ -153,8 +184,19 @@ impl Quotes {
         assert_occurred("flag 4's figure", &self.triangular, least);
     }
 
+    /// Asserts that so many figures had each of these branches.
+    pub fn assert_branches(&self, branches: impl IntoIterator<Item = usize>, times: u64) {
+        for branch in branches {
+            assert!(
+                self.branches[branch] >= times,
+                "branch {branch} must occur {times} times; all: {:?}",
+                self.branches
+            );
+        }
+    }
+
     /// Asserts that so many lists had a number of pairs in that range.
-    pub fn assert_pairs(&self, range: std::ops::RangeInclusive<usize>, times: u64) {
+    pub fn assert_pairs(&self, range: RangeInclusive<usize>, times: u64) {
         let reached: u64 = self.pairs[range.clone()].iter().sum();
         assert!(
             reached >= times,

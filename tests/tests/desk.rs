@@ -3,7 +3,7 @@
 
 use volefleece_tests::cases::{self, cases};
 use volefleece_tests::compare::shown;
-use volefleece_tests::evaluator;
+use volefleece_tests::evaluator::{self, Quoted};
 use volefleece_tests::faults;
 use volefleece_tests::programs::{
     complains, sample, values_file, written, Folder, NONE, TREE, VALUES,
@@ -57,9 +57,9 @@ fn quotes(tree: &[u8], values: &[u8], line: &str) {
     assert_eq!(folder.read(VALUES).as_deref(), Some(values));
 }
 
-/// It answers what the second evaluator does, whose figure or refusal is returned.
+/// It answers what the second evaluator does, which is returned.
 #[track_caller]
-fn expect(tree: &[u8], values: &[u8]) -> Result<u64, u64> {
+fn expect(tree: &[u8], values: &[u8]) -> Result<Quoted, u64> {
     println!("values {values:?}\n{}", shown(tree));
     let answer = match numbers(values) {
         Some(numbers) => evaluator::figure(tree, &numbers),
@@ -82,9 +82,9 @@ fn numbers(values: &[u8]) -> Option<[u64; 32]> {
     Some(numbers)
 }
 
-fn line(answer: Result<u64, u64>) -> String {
+fn line(answer: Result<Quoted, u64>) -> String {
     match answer {
-        Ok(figure) => format!("figure {figure}"),
+        Ok(quoted) => format!("figure {}", quoted.figure),
         Err(question) => format!("refused {question}"),
     }
 }
@@ -402,7 +402,7 @@ fn cases_are_quoted() {
     for case in cases() {
         println!("case {}", case.name);
         let answer = expect(&case.table, &values_file(&cases::VALUES));
-        assert_eq!(answer, case.answer.map(|pairs| pairs[0].0));
+        assert_eq!(answer, case.quoted());
     }
 }
 
@@ -422,7 +422,7 @@ fn random_tables_are_quoted() {
         }
         let values = values_file(&values[..count]);
         match expect(&tree.encode(), &values) {
-            Ok(figure) => {
+            Ok(Quoted { figure, .. }) => {
                 figures += u64::from(figure > 0);
                 triangular += u64::from(figure > 0 && !tree.triangles().is_empty());
             }
@@ -477,6 +477,7 @@ fn leaving_values_out_never_lowers_a_quote() {
         let fewer = rng.size(0..=written);
         let long = expect(&tree, &values[..8 * written]);
         if let (Ok(long), Ok(short)) = (long, expect(&tree, &values[..8 * fewer])) {
+            let (long, short) = (long.figure, short.figure);
             assert!(long <= short, "{long}, {short}");
             same += u64::from(long == short);
             higher += u64::from(long < short);

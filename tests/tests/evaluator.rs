@@ -1,8 +1,8 @@
 //! The second evaluator itself: document 01's cases, triangular numbers, lists written out member by
-//! member, and the runs that a figure covers. The library is not called.
+//! member, the branches of choices, and the runs that a figure covers. The library is not called.
 
 use volefleece_tests::cases::{self, cases};
-use volefleece_tests::evaluator::{self, evaluate_at, List};
+use volefleece_tests::evaluator::{self, evaluate_at, Evaluated, List};
 use volefleece_tests::members;
 use volefleece_tests::rng::Rng;
 use volefleece_tests::runs;
@@ -14,9 +14,8 @@ fn cases_have_the_lists_of_document_01() {
     for case in cases() {
         let list = evaluator::list(&case.table, &cases::VALUES, 512);
         assert_eq!(list, case.answer, "case {}", case.name);
-        let figure = evaluator::figure(&case.table, &cases::VALUES);
-        let first = case.answer.map(|pairs| pairs[0].0);
-        assert_eq!(figure, first, "case {}", case.name);
+        let quoted = evaluator::figure(&case.table, &cases::VALUES);
+        assert_eq!(quoted, case.quoted(), "case {}", case.name);
     }
 }
 
@@ -50,10 +49,13 @@ const TINY: Amounts = Amounts {
 };
 
 #[test]
-fn every_node_has_its_members_and_its_named_loop() {
+fn every_node_has_its_members_its_named_loop_and_its_branch() {
     let mut rng = Rng::new(101);
     // How often a loop of each level, or the whole run, was named.
     let mut named = [0; 4];
+    // How often each of the first children was the branch, and how often an equal one came after it.
+    let mut branches = [0; 5];
+    let mut ties = 0;
     let mut triangular = 0;
     for _ in 0..20_000 {
         let mut tree = tiny_tree(&mut rng, 40);
@@ -62,13 +64,35 @@ fn every_node_has_its_members_and_its_named_loop() {
         let around = trees::loops_around(&tree);
         for (record, &around) in around.iter().enumerate() {
             let node = tree.node_mut(record);
-            let level = compare_members(node, around, &values).expect("small numbers");
-            named[level] += 1;
+            let value = compare_members(node, around, &values).expect("small numbers");
+            named[value.level] += 1;
+            assert_eq!(value.branch.is_some(), node.kind == Kind::Choice);
+            if let Some(branch) = value.branch {
+                branches[branch.min(4)] += 1;
+                ties += u64::from(is_tied(node, around, &values));
+            }
         }
         triangular += tree.triangles().len();
     }
     assert!(named.iter().all(|&times| times > 1_000), "{named:?}");
+    assert!(branches.iter().all(|&times| times > 200), "{branches:?}");
+    assert!(ties > 1_000, "{ties}");
     assert!(triangular > 10_000, "{triangular}");
+}
+
+/// Whether more than one child of a choice has the largest first member.
+fn is_tied(choice: &Tree, around: usize, values: &[u64]) -> bool {
+    let firsts = choice.children.iter().map(|child| {
+        let value = evaluate_at(child, around, values);
+        value.expect("small numbers").list.first()
+    });
+    let firsts: Vec<u64> = firsts.collect();
+    let largest = firsts.iter().max();
+    firsts
+        .iter()
+        .filter(|&first| Some(first) == largest)
+        .count()
+        > 1
 }
 
 /// A tree of few records with at most 3 loops around a node, and limits up to that weight.
@@ -89,8 +113,9 @@ fn tiny_tree(rng: &mut Rng, weight: u64) -> Tree {
     tree
 }
 
-/// The level of the loop that the node names, or its refusal, both the same for either evaluator.
-fn compare_members(node: &Tree, around: usize, values: &[u64]) -> Result<usize, u64> {
+/// The node's value by the second evaluator, or its refusal. The third one's members, named loop and
+/// branch are the same.
+fn compare_members(node: &Tree, around: usize, values: &[u64]) -> Result<Evaluated, u64> {
     const MEMBERS: usize = 20;
     let second = evaluate_at(node, around, values);
     let third = members::front(node, MEMBERS, values);
@@ -101,16 +126,18 @@ fn compare_members(node: &Tree, around: usize, values: &[u64]) -> Result<usize, 
         names => around + 1 - usize::from(names),
     };
     assert_eq!(second.level, level, "{node:?}");
+    assert_eq!(second.branch, third.branch, "{node:?}");
     assert_eq!(
-        first_members(second.list, MEMBERS),
+        first_members(&second.list, MEMBERS),
         third.members,
         "{node:?}"
     );
-    Ok(level)
+    Ok(second)
 }
 
-fn first_members(list: List, members: usize) -> Vec<u64> {
-    let runs = list.into_pairs().into_iter().map(|(value, count)| {
+fn first_members(list: &List, members: usize) -> Vec<u64> {
+    let pairs = list.clone().into_pairs();
+    let runs = pairs.into_iter().map(|(value, count)| {
         let count = if count == 0 { members } else { count as usize };
         vec![value; count.min(members)]
     });

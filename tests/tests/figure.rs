@@ -1,10 +1,11 @@
 //! `vf_figure` and `vf_list` on hand-written tables: document 01's cases, each rule of evaluation,
 //! triangular limits, questions 8 to 10 and 13 at and past their ends, and the order of all. All
-//! numbers here are literals.
+//! numbers here are literals. Which branch sets a figure is in `branch.rs`; here it is the second
+//! evaluator's alone.
 
 use volefleece_tests::cases::{self, cases};
 use volefleece_tests::compare::{lend, shown};
-use volefleece_tests::evaluator::{self, Pair};
+use volefleece_tests::evaluator::{self, Pair, Quoted};
 use volefleece_tests::ffi::{self, Checked, Figure, Listed};
 use volefleece_tests::quotes;
 use volefleece_tests::rng::Rng;
@@ -26,10 +27,8 @@ fn expect(table: &[u8], values: &[u64], room: usize, answer: Result<&[Pair], u64
         return;
     }
     let first = answer.map(|pairs| pairs[0].0);
-    let figure = quotes::figure(&mut rng, table, values);
-    assert_eq!(figure, first, "the library's figure: {}", shown(table));
-    let figure = evaluator::figure(table, values);
-    assert_eq!(figure, first, "the second figure: {}", shown(table));
+    let figure = quotes::agreed(table, values).map(|quoted| quoted.figure);
+    assert_eq!(figure, first, "both figures: {}", shown(table));
 }
 
 #[track_caller]
@@ -61,6 +60,7 @@ fn cases_have_the_lists_of_document_01() {
         let answer = case.answer.as_deref().map_err(|&question| question);
         println!("case {}", case.name);
         expect(&case.table, &cases::VALUES, 512, answer);
+        assert_eq!(quotes::agreed(&case.table, &cases::VALUES), case.quoted());
     }
 }
 
@@ -265,10 +265,8 @@ fn raising_a_triangular_symbol_never_lowers_a_figure() {
     for table in tables {
         let mut figures = Vec::new();
         for value in 0..=1_000 {
-            let values = values_of(&[(0, value)]);
-            let figure = quotes::figure(&mut Rng::new(0), &table, &values);
-            assert_eq!(figure, evaluator::figure(&table, &values));
-            figures.push(figure.expect("small amounts"));
+            let quoted = quotes::agreed(&table, &values_of(&[(0, value)]));
+            figures.push(quoted.expect("small amounts").figure);
         }
         assert!(figures.is_sorted(), "{figures:?}");
         assert!(figures[0] < figures[1_000], "{figures:?}");
@@ -714,10 +712,8 @@ fn values_past_1000_are_refused_13_under_flag_4() {
         ];
         for node in kinds {
             let table = triangular_limited(node, symbol, 255);
-            let answer = |value| {
-                let values = values_of(&[(symbol as usize, value)]);
-                quotes::figure(&mut Rng::new(0), &table, &values).err()
-            };
+            let answer =
+                |value| quotes::agreed(&table, &values_of(&[(symbol as usize, value)])).err();
             assert_eq!([999, 1_000].map(answer), [None, None]);
             for value in [1_001, 1_256, 65_536, 66_536, 1_000_000] {
                 let values = values_of(&[(symbol as usize, value)]);
@@ -776,17 +772,11 @@ fn a_symbol_used_both_ways_is_asked() {
             sequence(&[plain(), triangular()]),
             sequence(&[triangular(), plain()]),
         ] {
-            let figure = |value| {
-                let values = values_of(&[(5, value)]);
-                evaluator::figure(&table, &values)
-            };
-            assert!(figure(1_000).is_ok());
+            assert!(quotes::agreed(&table, &values_of(&[(5, 1_000)])).is_ok());
             expect(&table, &values_of(&[(5, 1_001)]), 512, Err(13));
         }
         // Without that place it is not.
-        let values = values_of(&[(5, 1_001)]);
-        assert!(evaluator::figure(&plain(), &values).is_ok());
-        assert!(quotes::figure(&mut Rng::new(0), &plain(), &values).is_ok());
+        assert!(quotes::agreed(&plain(), &values_of(&[(5, 1_001)])).is_ok());
     }
 }
 
@@ -848,7 +838,8 @@ fn lists_want_room_for_512_numbers() {
         ffi::figure(&table, &ZEROS),
         Figure {
             refused: 0,
-            figure: 12
+            figure: 12,
+            branch: 255
         }
     );
 }
@@ -895,12 +886,15 @@ fn expect_first(faults: &[u64]) {
     assert_eq!(list, Err(*first), "{faults:?}");
     assert_eq!(evaluator::list(&table, &values, room), list, "{faults:?}");
 
-    let figure = quotes::figure(&mut rng, &table, &values);
+    let quoted = quotes::agreed(&table, &values);
     match put.find(|&&question| question != 8) {
-        Some(&first) => assert_eq!(figure, Err(first), "{faults:?}"),
-        None => assert_eq!(figure, Ok(7 * children.len() as u64)),
+        Some(&first) => assert_eq!(quoted, Err(first), "{faults:?}"),
+        None => {
+            let figure = 7 * children.len() as u64;
+            let branch = 255;
+            assert_eq!(quoted, Ok(Quoted { figure, branch }));
+        }
     }
-    assert_eq!(evaluator::figure(&table, &values), figure, "{faults:?}");
 }
 
 #[test]
@@ -998,11 +992,13 @@ fn every_address_serves() {
             let accepted = Figure {
                 refused: 0,
                 figure: 12,
+                branch: 255,
             };
             assert_eq!(lend(&good, shift, filler, figure), accepted);
             let refused = Figure {
                 refused: 10,
                 figure: 0,
+                branch: 0,
             };
             assert_eq!(lend(&bad, shift, filler, figure), refused);
             let mut out = [99; 512];
@@ -1019,7 +1015,11 @@ fn every_address_serves() {
 
 #[test]
 fn empty_slices_serve() {
-    let refused = |refused| Figure { refused, figure: 0 };
+    let refused = |refused| Figure {
+        refused,
+        figure: 0,
+        branch: 0,
+    };
     assert_eq!(ffi::figure(&[], &[]), refused(1));
     assert_eq!(ffi::figure(&block(7), &[]), refused(9));
     let refused = |refused| Listed { refused, pairs: 0 };
@@ -1033,6 +1033,8 @@ fn calls_keep_nothing_of_earlier_ones() {
     let mut rng = Rng::new(1);
     let tables = [
         sequence(&[run_block(5, 2), block(7)]),
+        choice(&[block(5), block(7)]),
+        choice(&[run_block(9, 2), block(7), block(9)]),
         fault(10),
         block(CEILING),
         fault(6),

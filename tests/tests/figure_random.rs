@@ -2,7 +2,7 @@
 //! where an answer is known by construction, against that. Each test asserts that it has reached what
 //! it is for, so that none passes idly. The seeds are fixed: every run makes the same tables.
 
-use volefleece_tests::evaluator::{evaluate, evaluate_at};
+use volefleece_tests::evaluator::{evaluate, evaluate_at, Quoted};
 use volefleece_tests::faults;
 use volefleece_tests::noise;
 use volefleece_tests::quotes::Quotes;
@@ -34,6 +34,14 @@ const LONG_RUNS: Amounts = Amounts {
     bound: 9,
     limit: 100_000,
     symbols: 0,
+};
+
+/// Few different numbers, 0 among them, so that children of a choice are often equal.
+const FEW: Amounts = Amounts {
+    time: 3,
+    bound: 2,
+    limit: 2,
+    symbols: 4,
 };
 
 /// Everything up to its ceiling.
@@ -84,9 +92,11 @@ fn trees_of_small_amounts() {
         let tree = good_tree(&mut rng, SMALL);
         let values = SMALL.values(&mut rng);
         let quote = quotes.compare(&tree.encode(), &values);
+        let branch = quote.quoted.expect("small amounts").branch;
+        assert_eq!(branch == 255, tree.kind != Kind::Choice);
         if round % 4 == 0 {
             let unlimited = evaluate(&tree.unlimited(), &values).expect("small amounts");
-            if quote.figure == Ok(unlimited.list.first()) {
+            if quote.figure() == Ok(unlimited.list.first()) {
                 same += 1;
             } else {
                 lower += 1;
@@ -100,6 +110,7 @@ fn trees_of_small_amounts() {
     quotes.assert_pairs(2..=2, 5_000);
     quotes.assert_pairs(3..=9, 5_000);
     quotes.assert_pairs(10..=99, 1_000);
+    quotes.assert_branches((0..=3).chain([255]), 1_000);
     quotes.assert_triangular(&[(0, 30_000)]);
 }
 
@@ -316,7 +327,7 @@ fn question_10_at_the_root() {
         let table = root.encode();
         if reader::check(&table).is_ok() {
             let quote = quotes.compare(&table, &values);
-            assert_eq!(quote.figure, if over > 0 { Err(10) } else { Ok(CEILING) });
+            assert_eq!(quote.figure(), if over > 0 { Err(10) } else { Ok(CEILING) });
         }
     }
     quotes.assert_reached(&[(0, 8_000), (10, 8_000)]);
@@ -339,7 +350,7 @@ fn question_10_at_nodes_that_do_not_reach_the_root() {
         let table = tree.encode();
         if reader::check(&table).is_ok() {
             let quote = quotes.compare(&table, &values);
-            assert_eq!(quote.figure.err(), (over > 0).then_some(10));
+            assert_eq!(quote.figure().err(), (over > 0).then_some(10));
             inner += u64::from(record > 0);
         }
     }
@@ -374,6 +385,111 @@ fn hidden(rng: &mut Rng, mut tree: Tree, around: usize) -> Tree {
     tree
 }
 
+// Branches.
+
+/// What the root choices of a test were like.
+#[derive(Debug, Default)]
+struct Branches {
+    /// More than one child had the largest first member, and of these the largest was 0.
+    tied: u64,
+    tied_at_0: u64,
+    /// A child would have been the branch but for its own limit.
+    limited: u64,
+    /// The figure was 0 by the root's own limit.
+    root_limited: u64,
+    /// Other values had another branch.
+    moved: u64,
+}
+
+impl Branches {
+    /// The branch of a root choice, which the figures of its children must bear out: each child of the
+    /// root is a table of its own, and its figure the child's first member after its limit.
+    fn compare(&mut self, quotes: &mut Quotes, root: &Tree, values: &[u64]) -> u64 {
+        let mut quoted = |tree: &Tree| {
+            let quote = quotes.compare(&tree.encode(), values);
+            quote.quoted.expect("small amounts")
+        };
+        let Quoted { figure, branch } = quoted(root);
+        let firsts: Vec<u64> = root.children.iter().map(|c| quoted(c).figure).collect();
+        let largest = firsts[branch as usize];
+        let (before, after) = firsts.split_at(branch as usize);
+        let is_first = before.iter().all(|&first| first < largest);
+        let is_largest = after.iter().all(|&first| first <= largest);
+        assert!(is_first && is_largest, "{branch} of {firsts:?}, {root:?}");
+        assert!(figure == largest || figure == 0 && root.limit.is_some());
+
+        let is_tied = after.iter().filter(|&&first| first == largest).count() > 1;
+        self.tied += u64::from(is_tied);
+        self.tied_at_0 += u64::from(is_tied && largest == 0);
+        self.root_limited += u64::from(figure < largest);
+        let mut unlimited = root.clone();
+        for child in &mut unlimited.children {
+            child.limit = None;
+        }
+        self.limited += u64::from(quoted(&unlimited).branch != branch);
+        branch
+    }
+
+    fn assert_met(&self, times: u64) {
+        let met = [
+            self.tied,
+            self.tied_at_0,
+            self.limited,
+            self.root_limited,
+            self.moved,
+        ];
+        assert!(met.iter().all(|&met| met >= times), "{self:?}");
+    }
+}
+
+/// A choice of a few trees, most of them blocks.
+fn root_choice(rng: &mut Rng) -> Tree {
+    let children = (0..rng.size(1..=9)).map(|_| {
+        let records = rng.pick(&[1, 1, 1, 2, 3, 6]);
+        trees::grow(rng, records, 5, 3)
+    });
+    let mut root = Tree::new(Kind::Choice, children.collect());
+    let wanted = rng.within(0..=20);
+    trees::put_limits(rng, &mut root, wanted);
+    FEW.set(rng, &mut root);
+    root
+}
+
+#[test]
+fn root_choices_with_many_ties() {
+    let (mut rng, mut quotes) = start(218);
+    let mut branches = Branches::default();
+    for _ in 0..30_000 {
+        let root = root_choice(&mut rng);
+        let [one, other] = [(); 2].map(|()| {
+            let values = FEW.values(&mut rng);
+            branches.compare(&mut quotes, &root, &values)
+        });
+        branches.moved += u64::from(one != other);
+    }
+    branches.assert_met(3_000);
+    quotes.assert_branches(0..=8, 500);
+}
+
+#[test]
+fn root_choices_of_up_to_255_children() {
+    let (mut rng, mut quotes) = start(219);
+    for _ in 0..20_000 {
+        let count = rng.pick(&[255, 255, 254, 100]);
+        let mut children: Vec<Tree> = (0..count).map(|_| Tree::block(rng.within(0..=8))).collect();
+        let nines = [(); 3].map(|()| rng.index(count));
+        let nines = &nines[..rng.size(1..=3)];
+        for &place in nines {
+            children[place] = Tree::block(9);
+        }
+        let root = Tree::new(Kind::Choice, children);
+        let quote = quotes.compare(&root.encode(), &[0; 32]);
+        let (figure, branch) = (9, nines.iter().fold(count, |one, &two| one.min(two)) as u64);
+        assert_eq!(quote.quoted, Ok(Quoted { figure, branch }));
+    }
+    quotes.assert_branches(0..=254, 10);
+}
+
 // Triangular limits and question 13.
 
 #[test]
@@ -385,7 +501,7 @@ fn values_about_1000() {
         let mut values = amounts.values(&mut rng);
         trees::put_about_1000(&mut rng, &mut values);
         let quote = quotes.compare(&tree.encode(), &values);
-        assert_eq!(quote.figure == Err(13), is_past_1000(&tree, &values));
+        assert_eq!(quote.figure() == Err(13), is_past_1000(&tree, &values));
     }
     quotes.assert_triangular(&[(0, 10_000), (10, 1_000), (13, 1_500)]);
 }
@@ -415,7 +531,7 @@ fn symbols_under_flag_4_and_elsewhere() {
                 rng.pick(&[0, 1, 2, 3, 7, 999, 1_000, 1_000, 1_001, 1_000_000]);
         }
         let quote = quotes.compare(&tree.encode(), &values);
-        assert_eq!(quote.figure == Err(13), is_past_1000(&tree, &values));
+        assert_eq!(quote.figure() == Err(13), is_past_1000(&tree, &values));
 
         let [first, both, last] = symbols.map(|symbol| values[symbol as usize]);
         let plain = tree.plain_counts();
@@ -423,8 +539,9 @@ fn symbols_under_flag_4_and_elsewhere() {
         if tree.triangles().is_empty() {
             continue;
         }
-        elsewhere += u64::from(quote.figure.is_ok() && last > 1_000 && plain.contains(&symbols[2]));
-        at_end += u64::from(is_both && quote.figure.is_ok() && both == 1_000);
+        elsewhere +=
+            u64::from(quote.figure().is_ok() && last > 1_000 && plain.contains(&symbols[2]));
+        at_end += u64::from(is_both && quote.figure().is_ok() && both == 1_000);
         past_end += u64::from(is_both && first <= 1_000 && both == 1_001);
     }
     let reached = [elsewhere, at_end, past_end];
@@ -462,11 +579,11 @@ fn raising_a_symbol_under_flag_4_never_lowers_a_figure() {
         let table = tree.encode();
         let mut values = SMALL.values(&mut rng);
         let low = quotes.compare(&table, &values);
-        let low = low.figure.expect("small amounts");
+        let low = low.figure().expect("small amounts");
         values[symbol] += rng.pick(&[1, 1, 2, 5, 30, 990]);
         values[symbol] = values[symbol].min(1_000);
         // It may be a bound as well, and the figure too large then.
-        match quotes.compare(&table, &values).figure {
+        match quotes.compare(&table, &values).figure() {
             Ok(high) => {
                 assert!(high >= low, "{low}, {high}");
                 same += u64::from(high == low);
@@ -475,7 +592,7 @@ fn raising_a_symbol_under_flag_4_never_lowers_a_figure() {
             Err(question) => assert_eq!(question, 10),
         }
         values[symbol] = 1_001;
-        assert_eq!(quotes.compare(&table, &values).figure, Err(13));
+        assert_eq!(quotes.compare(&table, &values).figure(), Err(13));
     }
     assert!(same > 5_000 && higher > 1_000, "{same}, {higher}");
     quotes.assert_triangular(&[(13, 10_000)]);
@@ -491,7 +608,7 @@ fn wrong_values_are_refused_9() {
         let mut values = SMALL.values(&mut rng);
         spoil(&mut rng, &mut values);
         let quote = quotes.compare(&tree.encode(), &values);
-        assert_eq!((quote.figure, quote.list), (Err(9), Err(9)));
+        assert_eq!((quote.figure(), quote.list), (Err(9), Err(9)));
     }
 }
 
@@ -550,7 +667,7 @@ fn of_many_faults_the_first_answers() {
         let quote = quotes.compare_with_room(&table, &values, room);
         assert_eq!(quote.list.err(), faults.first().copied());
         let mut put = faults.into_iter().filter(|&question| question != 8);
-        assert_eq!(quote.figure.err(), put.next(), "no question 8");
+        assert_eq!(quote.quoted.err(), put.next(), "no question 8");
     }
     let answers = [0, 1, 2, 3, 4, 5, 6, 7, 9, 10, 13];
     quotes.assert_reached(&answers.map(|answer| (answer, 1_000)));

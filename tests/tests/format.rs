@@ -252,7 +252,9 @@ fn check(lent: &Lent) -> String {
 
 fn figure(lent: &Lent, options: &Options) -> String {
     match ffi::figure(&lent.table, &options.values) {
-        ffi::Figure { refused: 0, figure } => figure.to_string(),
+        ffi::Figure {
+            refused: 0, figure, ..
+        } => figure.to_string(),
         answer => refused(answer.refused),
     }
 }

@@ -1,14 +1,13 @@
 //! `vf_graft` and the second grafter on hand-written tables: what stands in a block's place, what the
-//! sent table's limits name there, figures, the new questions at and past their ends, and the order of
-//! all. All numbers here are literals.
+//! sent table's limits name there, figures and branches, the new questions at and past their ends, and
+//! the order of all. All numbers here are literals.
 
 use volefleece_tests::compare::shown;
-use volefleece_tests::evaluator;
+use volefleece_tests::evaluator::Quoted;
 use volefleece_tests::ffi::{self, Grafted};
 use volefleece_tests::grafter;
 use volefleece_tests::grafts::Grafts;
 use volefleece_tests::quotes;
-use volefleece_tests::rng::Rng;
 use volefleece_tests::tables::*;
 
 const CEILING: u64 = 1_000_000_000_000;
@@ -346,30 +345,42 @@ fn a_graft_may_be_grafted() {
     writes(&x(), &sent, &put(sent_again));
 }
 
-// Figures, with symbol 17 at 20 and all others 0.
+// Figures and branches, with symbol 17 at 20 and all others 0.
 
-/// Checks the sent table's figure, and the host's with it, which must be the written table's too.
+/// Checks the sent table's figure, and gives the host's answer with it, which must be the written table's
+/// too, figure and branch.
 #[track_caller]
-fn figures(host: &[u8], sent: &[u8], sent_figure: u64, figure: Result<u64, u64>) {
+fn quoted(host: &[u8], sent: &[u8], sent_figure: u64) -> Result<Quoted, u64> {
     let mut values = [0; 32];
     values[17] = 20;
-    assert_eq!(both_figures(sent, &values), Ok(sent_figure));
+    assert_eq!(figure_of(sent, &values), Ok(sent_figure));
     values[16] = sent_figure;
-    assert_eq!(both_figures(host, &values), figure);
+    let quoted = quotes::agreed(host, &values);
     let written = graft(host, sent).expect("two small tables");
     // It has no block of symbol 16.
     for value in [0, sent_figure, CEILING] {
         values[16] = value;
-        assert_eq!(both_figures(&written, &values), figure);
+        assert_eq!(quotes::agreed(&written, &values), quoted);
     }
+    quoted
+}
+
+#[track_caller]
+fn figures(host: &[u8], sent: &[u8], sent_figure: u64, figure: Result<u64, u64>) {
+    let quoted = quoted(host, sent, sent_figure);
+    assert_eq!(quoted.map(|quoted| quoted.figure), figure);
+}
+
+#[track_caller]
+fn branches(host: &[u8], sent: &[u8], sent_figure: u64, figure: u64, branch: u64) {
+    let quoted = quoted(host, sent, sent_figure);
+    assert_eq!(quoted, Ok(Quoted { figure, branch }));
 }
 
 /// What both evaluators answer.
 #[track_caller]
-fn both_figures(table: &[u8], values: &[u64]) -> Result<u64, u64> {
-    let figure = quotes::figure(&mut Rng::new(0), table, values);
-    assert_eq!(figure, evaluator::figure(table, values));
-    figure
+fn figure_of(table: &[u8], values: &[u64]) -> Result<u64, u64> {
+    quotes::agreed(table, values).map(|quoted| quoted.figure)
 }
 
 #[test]
@@ -394,6 +405,28 @@ fn the_blocks_limit_holds_of_the_whole_sent_table() {
     figures(&limited(x(), 0, 255), &sent, 14, Ok(0));
 }
 
+/// A child keeps its place when it is replaced, and the sent table's own branch is not passed on.
+#[test]
+fn the_branch_is_the_hosts() {
+    let host = choice(&[block(4), x(), block(6), y()]);
+    branches(&host, &block(21), 21, 21, 1);
+    branches(&host, &block(20), 20, 20, 1);
+    branches(&host, &block(19), 19, 20, 3);
+    branches(&host, &limited(block(30), 0, 255), 0, 20, 3);
+    let sent = choice(&[block(5), y(), block(30), block(30)]);
+    branches(&host, &sent, 30, 30, 1);
+    branches(&limited(host.clone(), 0, 255), &sent, 30, 0, 1);
+    branches(&sequence(&[host]), &sent, 30, 30, 255);
+    branches(&x(), &sent, 30, 30, 255);
+    branches(&choice(&[x()]), &sent, 30, 30, 0);
+    let limited_x = choice(&[block(4), limited(x(), 0, 255), block(6)]);
+    branches(&limited_x, &sent, 30, 6, 2);
+    // Where the symbol stands in two children, both rise.
+    let both = choice(&[block(25), sequence(&[x(), block(1)]), x()]);
+    branches(&both, &block(3), 3, 25, 0);
+    branches(&both, &sent, 30, 31, 1);
+}
+
 #[test]
 fn figures_past_the_ceiling() {
     let at_ceiling = repeat(1_000_000, block(1_000_000), block(0));
@@ -404,15 +437,15 @@ fn figures_past_the_ceiling() {
     // Where the sent table has no figure, neither has the written one, whatever the host's passes.
     let past = sequence(&[block(CEILING), block(1)]);
     let values = [0; 32];
-    assert_eq!(both_figures(&past, &values), Err(10));
+    assert_eq!(figure_of(&past, &values), Err(10));
     for host in [x(), limited(x(), 0, 255), repeat(0, x(), block(3))] {
-        assert!(both_figures(&host, &values).is_ok());
+        assert!(figure_of(&host, &values).is_ok());
         let written = graft(&host, &past).expect("two small tables");
-        assert_eq!(both_figures(&written, &values), Err(10));
+        assert_eq!(figure_of(&written, &values), Err(10));
     }
     // Unless it is put nowhere.
     let written = graft(&y(), &past).expect("two small tables");
-    assert_eq!(both_figures(&written, &values), Ok(0));
+    assert_eq!(figure_of(&written, &values), Ok(0));
 }
 
 /// Grafting is lent no values. Those of the desks may be past 1,000 in either table, and are then in the
@@ -434,11 +467,11 @@ fn grafting_does_not_ask_question_13() {
     ] {
         let mut values = [0; 32];
         (values[0], values[1], values[17]) = (of_host, of_sent, 20);
-        assert_eq!(both_figures(&written, &values), figure);
-        let sent_figure = both_figures(&sent, &values);
+        assert_eq!(figure_of(&written, &values), figure);
+        let sent_figure = figure_of(&sent, &values);
         let host_figure = sent_figure.and_then(|figure| {
             values[16] = figure;
-            both_figures(&host, &values)
+            figure_of(&host, &values)
         });
         assert_eq!(host_figure, figure);
     }

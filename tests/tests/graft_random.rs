@@ -650,15 +650,18 @@ fn noise_of_every_kind() {
     grafts.assert_places(100);
 }
 
-// Figures.
+// Figures and branches.
 
-/// Holds written tables against what is promised of their figures, and counts what it has met.
+/// Holds written tables against what is promised of their figures and branches, and counts what it has
+/// met.
 #[derive(Debug, Default)]
 struct Promise {
     /// The figures of written tables.
     figures: u64,
-    /// Those among them that the sent table raises above the host's with the symbol 0.
+    /// Those among them that the sent table raises above the host's with the symbol 0, and those whose
+    /// branch it moves.
     raised: u64,
+    moved: u64,
     /// Refusals 10 of the written table and the host, the sent table having a figure.
     too_large: u64,
     /// Refusals 10 of the written table and the sent one.
@@ -681,32 +684,35 @@ impl Promise {
             values[pair.symbol as usize] = value;
             values
         };
-        let figure = quotes::figure(rng, written, values);
+        let quoted = quotes::figure(rng, written, values);
         match quotes::figure(rng, &sent, values) {
-            Ok(sent_figure) => {
-                let host_figure = quotes::figure(rng, &host, &set(sent_figure));
-                assert_eq!(figure, host_figure, "{}", shown(written));
-                let without = quotes::figure(rng, &host, &set(0));
-                self.figures += u64::from(figure.is_ok());
-                self.raised += u64::from(figure.is_ok() && figure > without);
-                self.too_large += u64::from(figure == Err(10));
+            Ok(of_sent) => {
+                let of_host = quotes::figure(rng, &host, &set(of_sent.figure));
+                assert_eq!(quoted, of_host, "{}", shown(written));
+                // Where there is a figure, there is one with the symbol at 0.
+                if let (Ok(with), Ok(without)) = (quoted, quotes::figure(rng, &host, &set(0))) {
+                    self.figures += 1;
+                    self.raised += u64::from(with.figure > without.figure);
+                    self.moved += u64::from(with.branch != without.branch);
+                }
+                self.too_large += u64::from(quoted == Err(10));
             }
-            Err(10 | 13) if written == host => self.put_nowhere += u64::from(figure.is_ok()),
+            Err(10 | 13) if written == host => self.put_nowhere += u64::from(quoted.is_ok()),
             Err(question) => {
                 // Question 13 is put to all of the written table before 10.
-                let host_figure = quotes::figure(rng, &host, values);
-                let first = if host_figure == Err(13) { 13 } else { question };
-                assert_eq!(figure, Err(first), "{}", shown(written));
+                let of_host = quotes::figure(rng, &host, values);
+                let first = if of_host == Err(13) { 13 } else { question };
+                assert_eq!(quoted, Err(first), "{}", shown(written));
                 self.sent_too_large += u64::from(first == 10);
                 self.wrong_values += u64::from(first == 9);
             }
         }
-        self.past_1000 += u64::from(figure == Err(13));
-        self.triangular += u64::from(figure.is_ok() && has_flag_4(written));
+        self.past_1000 += u64::from(quoted == Err(13));
+        self.triangular += u64::from(quoted.is_ok() && has_flag_4(written));
         // The written table has no block of the symbol.
-        if figure != Err(9) {
+        if quoted != Err(9) {
             let values = set(rng.pick(&[0, 1, CEILING]));
-            assert_eq!(quotes::figure(rng, written, &values), figure);
+            assert_eq!(quotes::figure(rng, written, &values), quoted);
         }
     }
 
@@ -714,6 +720,7 @@ impl Promise {
         let met = [
             self.figures,
             self.raised,
+            self.moved,
             self.too_large,
             self.sent_too_large,
             self.put_nowhere,
@@ -796,12 +803,12 @@ fn two_symbols_in_either_order() {
         }
         if let Ok(written) = written {
             let mut values = SMALL.values(&mut rng);
-            let figure = quotes::figure(&mut rng, &written, &values);
+            let quoted = quotes::figure(&mut rng, &written, &values);
             for (table, symbol) in [(last, other), (sent, symbol)] {
-                let figure = quotes::figure(&mut rng, &table, &values);
-                values[symbol as usize] = figure.expect("small amounts");
+                let quoted = quotes::figure(&mut rng, &table, &values);
+                values[symbol as usize] = quoted.expect("small amounts").figure;
             }
-            assert_eq!(figure, quotes::figure(&mut rng, &host, &values));
+            assert_eq!(quoted, quotes::figure(&mut rng, &host, &values));
         }
     }
     grafts.assert_reached(&[(0, 30_000), (12, 5_000)]);
@@ -833,14 +840,17 @@ fn tables_that_simplifying_wrote() {
         shorter += u64::from(short_written.len() < written.len());
 
         let values = SMALL.values(&mut rng);
-        let figure = quotes::figure(&mut rng, &sent, &values);
+        let mut figure = |table: &[u8], values: &[u64]| {
+            let quoted = quotes::figure(&mut rng, table, values);
+            quoted.expect("small amounts").figure
+        };
         let mut set = values.clone();
-        set[pair.symbol as usize] = figure.expect("small amounts");
-        let figure = quotes::figure(&mut rng, &host, &set).expect("small amounts");
+        set[pair.symbol as usize] = figure(&sent, &values);
+        let host_figure = figure(&host, &set);
         for table in [written, short_written] {
-            assert_eq!(quotes::figure(&mut rng, &table, &values), Ok(figure));
+            assert_eq!(figure(&table, &values), host_figure);
         }
-        figures += u64::from(figure > 0);
+        figures += u64::from(host_figure > 0);
     }
     grafts.assert_places(500);
     assert!(shorter > 5_000 && figures > 10_000, "{shorter}, {figures}");

@@ -87,7 +87,8 @@ fn threads_may_call_at_once() {
         (answers, list, simple, whole)
     };
     let alone = call_all();
-    assert_eq!(alone.0 .1.figure, 210_910);
+    let quoted = alone.0 .1;
+    assert_eq!((quoted.figure, quoted.branch), (210_910, 255));
     thread::scope(|threads| {
         for _ in 0..8 {
             threads.spawn(|| (0..200).for_each(|_| assert!(call_all() == alone)));

@@ -7,7 +7,6 @@ use volefleece_tests::compare::shown;
 use volefleece_tests::evaluator;
 use volefleece_tests::quotes;
 use volefleece_tests::reader;
-use volefleece_tests::rng::Rng;
 use volefleece_tests::simplifications::Simplifications;
 use volefleece_tests::simplifier::{step, Simplified};
 use volefleece_tests::tables::*;
@@ -150,8 +149,10 @@ fn case_i_keeps_its_limited_zero() {
     ends(&before, 2, &after);
     let mut values = ZEROS;
     values[16] = 4;
-    assert_eq!(evaluator::figure(&before, &values), Ok(66));
-    assert_eq!(evaluator::figure(&after, &values), Ok(66));
+    for table in [before, after] {
+        let quoted = evaluator::figure(&table, &values);
+        assert_eq!(quoted.map(|quoted| quoted.figure), Ok(66));
+    }
 }
 
 // Rule 1.
@@ -750,14 +751,16 @@ fn the_desks_ask_question_13_and_simplifying_does_not() {
     ] {
         values[0] = value;
         for table in [&table, &simple] {
-            let answer = quotes::figure(&mut Rng::new(0), table, &values);
-            assert_eq!(answer, figure);
-            assert_eq!(evaluator::figure(table, &values), figure);
+            let quoted = quotes::agreed(table, &values);
+            assert_eq!(quoted.map(|quoted| quoted.figure), figure);
         }
     }
     // Where a step drops the limit, what is left of the table has a figure all the same.
     let table = repeat(0, triangular_limited(x(), 0, 1), block(5));
     ends(&table, 1, &block(5));
-    let answers = [table, block(5)].map(|table| quotes::figure(&mut Rng::new(0), &table, &values));
-    assert_eq!(answers, [Err(13), Ok(5)]);
+    let figures = [table, block(5)].map(|table| {
+        let quoted = quotes::agreed(&table, &values);
+        quoted.map(|quoted| quoted.figure)
+    });
+    assert_eq!(figures, [Err(13), Ok(5)]);
 }

@@ -171,7 +171,9 @@ impl Demand3 {
 /// The library's figure, unless it is too large, or a value is for flag 4.
 fn figure(table: &[u8], values: &[u64]) -> Option<u64> {
     match ffi::figure(table, values) {
-        Figure { refused: 0, figure } => Some(figure),
+        Figure {
+            refused: 0, figure, ..
+        } => Some(figure),
         Figure {
             refused: 10 | 13, ..
         } => None,

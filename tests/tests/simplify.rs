@@ -175,10 +175,11 @@ fn steps_may_be_taken_in_parts() {
 
 // Desks.
 
+/// And often another branch.
 #[test]
 fn the_sales_desk_gets_receptions_figure() {
     let (mut rng, _) = start(410);
-    let (mut shorter, mut higher) = (0, 0);
+    let (mut shorter, mut higher, mut other_branch) = (0, 0, 0);
     for _ in 0..30_000 {
         let table = redundant_table(&mut rng);
         let allowance = rng.pick(&[1, 2, 5, u64::MAX]);
@@ -193,7 +194,9 @@ fn the_sales_desk_gets_receptions_figure() {
             continue;
         }
         let sales = ffi::figure(&written, &values);
-        assert_eq!(sales, reception, "{}", shown(&table));
+        let figures = [sales, reception].map(|answer| (answer.refused, answer.figure));
+        assert_eq!(figures[0], figures[1], "{}", shown(&table));
+        other_branch += u64::from(sales.branch != reception.branch);
         let raised = ffi::figure(&written, &raised(&mut rng, &values));
         if raised.refused == 0 {
             assert!(raised.figure >= reception.figure, "{}", shown(&table));
@@ -201,6 +204,7 @@ fn the_sales_desk_gets_receptions_figure() {
         }
     }
     assert!(shorter > 20_000 && higher > 5_000, "{shorter}, {higher}");
+    assert!(other_branch > 2_000, "{other_branch}");
 }
 
 /// Values none lower, of which all, some or few are higher.

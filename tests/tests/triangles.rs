@@ -3,9 +3,7 @@
 
 use std::fs;
 use volefleece_tests::commands::file;
-use volefleece_tests::evaluator;
 use volefleece_tests::quotes;
-use volefleece_tests::rng::Rng;
 use volefleece_tests::tables::*;
 
 fn read(path: &str) -> String {
@@ -87,11 +85,10 @@ fn every_entry_is_a_figure() {
     let mut values = [0; 32];
     for value in 0..=1_000 {
         values[6] = value;
-        let figure = quotes::figure(&mut Rng::new(value), &table, &values);
-        assert_eq!(figure, evaluator::figure(&table, &values));
-        figures.push(figure.expect("at most a million"));
+        let quoted = quotes::agreed(&table, &values);
+        figures.push(quoted.expect("at most a million").figure);
     }
     same(&figures, &printed());
     values[6] = 1_001;
-    assert_eq!(quotes::figure(&mut Rng::new(0), &table, &values), Err(13));
+    assert_eq!(quotes::agreed(&table, &values), Err(13));
 }

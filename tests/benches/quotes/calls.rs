@@ -2,7 +2,7 @@
 
 use crate::quote::{quotes, Quote, LIMITS, SIZES};
 use crate::timing::{each, median, microseconds};
-use volefleece_tests::evaluator;
+use volefleece_tests::evaluator::{self, Quoted};
 use volefleece_tests::ffi;
 use volefleece_tests::format::LIST_ROOM;
 use volefleece_tests::reader;
@@ -43,7 +43,11 @@ pub fn measure() {
 fn assert_agreed(quotes: &[Quote]) {
     for quote in quotes {
         let answer = ffi::figure(&quote.table, &quote.values);
-        assert_eq!((answer.refused, answer.figure), (0, quote.figure));
+        let Quoted { figure, branch } = quote.quoted;
+        assert_eq!(
+            (answer.refused, answer.figure, answer.branch),
+            (0, figure, branch)
+        );
         let answer = ffi::list(&quote.table, &quote.values, &mut [0; LIST_ROOM]);
         assert_eq!((answer.refused, answer.pairs), (0, quote.pairs as u64));
     }

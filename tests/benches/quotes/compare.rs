@@ -223,7 +223,7 @@ impl Build {
     fn figure(&self, table: &[u8], values: &[u64]) -> u64 {
         let (values, count) = (values.as_ptr(), values.len());
         let answer = unsafe { (self.figure)(table.as_ptr(), table.len(), values, count) };
-        answer.refused + answer.figure
+        answer.refused + answer.figure + answer.branch
     }
 
     fn list(&self, table: &[u8], values: &[u64], out: &mut [u64]) -> u64 {

@@ -102,7 +102,7 @@ impl Solver {
     fn checked_answer(&self, folder: &Path, quote: &Quote, limits: Limits) -> String {
         let output = self.run(folder);
         let answer = (self.answer)(&output);
-        let figure = quote.figure as f64;
+        let figure = quote.quoted.figure as f64;
         if self.is_exact || limits == Limits::None {
             // `lp_solve` reckons in floating point.
             let is_figure = answer.is_some_and(|answer| (answer - figure).abs() <= figure * 1e-9);

@@ -1,6 +1,6 @@
 //! What is measured: random tables that every call accepts.
 
-use volefleece_tests::evaluator;
+use volefleece_tests::evaluator::{self, Quoted};
 use volefleece_tests::format::{COUNT_SYMBOLS, MOST_CHILDREN, MOST_DEPTH, MOST_WEIGHT, WHOLE_RUN};
 use volefleece_tests::rng::Rng;
 use volefleece_tests::trees::{self, Amount, Amounts, Kind, Limit, Tree};
@@ -106,7 +106,7 @@ pub struct Quote {
     pub tree: Tree,
     pub table: Vec<u8>,
     pub values: Vec<u64>,
-    pub figure: u64,
+    pub quoted: Quoted,
     pub pairs: usize,
 }
 
@@ -134,13 +134,13 @@ fn random(rng: &mut Rng, records: usize, limits: Limits) -> Option<Quote> {
         put_triangles(rng, &mut tree);
     }
     let values = AMOUNTS.values(rng);
-    let pairs = evaluator::evaluate(&tree, &values).ok()?.list.into_pairs();
-    let figure = pairs[0].0;
-    (1..1_000_000_000).contains(&figure).then(|| Quote {
+    let root = evaluator::evaluate(&tree, &values).ok()?;
+    let quoted = root.quoted();
+    (1..1_000_000_000).contains(&quoted.figure).then(|| Quote {
         table: tree.encode(),
         tree,
         values,
-        figure,
-        pairs: pairs.len(),
+        quoted,
+        pairs: root.list.into_pairs().len(),
     })
 }

@@ -8,6 +8,9 @@ pub struct Figure {
     pub refused: u64,
     /// The figure, or 0 with a refusal.
     pub figure: u64,
+    /// The root choice's child that sets the figure, counted from 0, 255 if the root is no choice, or 0
+    /// with a refusal.
+    pub branch: u64,
 }
 
 /// The answer of `vf_list`.
@@ -38,7 +41,7 @@ extern "C" {
     ) -> Listed;
 }
 
-/// Puts questions 1 to 7, 9, 13 and 10 and answers the figure.
+/// Puts questions 1 to 7, 9, 13 and 10 and answers the figure and its branch.
 pub fn figure(table: &[u8], values: &[u64]) -> Figure {
     // SAFETY: the pointers and lengths are those of live slices, which the call only reads.
     unsafe { vf_figure(table.as_ptr(), table.len(), values.as_ptr(), values.len()) }
