@@ -55,7 +55,7 @@ answer() {
     line=${said%"${newline}status 0"}
     case $said in
     *"$newline"*"$newline"*) fail "${1##*/} said more than one line" ;;
-    'figure '*"$newline"'status 0' | 'simplified '*"$newline"'status 0') status=0 ;;
+    'figure '*' branch '*"$newline"'status 0' | 'simplified '*"$newline"'status 0') status=0 ;;
     'refused '*"$newline"'status 0') status=1 ;;
     'status 0') exit 2 ;;
     *) fail "${1##*/} gave no answer (${said##*"$newline"})" ;;

@@ -84,7 +84,7 @@ fn numbers(values: &[u8]) -> Option<[u64; 32]> {
 
 fn line(answer: Result<Quoted, u64>) -> String {
     match answer {
-        Ok(quoted) => format!("figure {}", quoted.figure),
+        Ok(Quoted { figure, branch }) => format!("figure {figure} branch {branch}"),
         Err(question) => format!("refused {question}"),
     }
 }
@@ -122,17 +122,31 @@ fn refused_trees() -> Vec<Vec<u8>> {
 #[test]
 fn the_sample_houses_figure() {
     let (tree, values) = (sample("house", TREE), sample("house", VALUES));
-    quotes(&tree, &values, "figure 210910");
+    quotes(&tree, &values, "figure 210910 branch 255");
+}
+
+/// The radio takes 91,200 cycles; the cards take 340 each, and 60.
+#[test]
+fn the_sample_entrances_branch() {
+    let (tree, values) = (sample("entrance", TREE), sample("entrance", VALUES));
+    quotes(&tree, &values, "figure 91200 branch 1");
+    for (cards, line) in [
+        (268_u64, "figure 91200 branch 1"),
+        (269, "figure 91520 branch 0"),
+    ] {
+        let values = [&cards.to_le_bytes()[..], &values[8..]].concat();
+        quotes(&tree, &values, line);
+    }
 }
 
 #[test]
 fn the_workshops_tree_has_the_houses_figure_before_and_after() {
     let (tree, values) = (sample("workshop", TREE), sample("workshop", VALUES));
-    quotes(&tree, &values, "figure 210910");
+    quotes(&tree, &values, "figure 210910 branch 255");
     let sales = Folder::with_tree("sales", &tree);
     sales.run(&NONE);
     let simple = sales.read("simple.tab").expect("a simple tree");
-    quotes(&simple, &values, "figure 210910");
+    quotes(&simple, &values, "figure 210910 branch 255");
 }
 
 // Files.
@@ -158,7 +172,7 @@ fn other_lengths_of_values_are_refused_9() {
 fn long_trees_are_refused_1() {
     let values = [0; 256];
     let longest = long(512);
-    quotes(&longest, &values, "figure 1");
+    quotes(&longest, &values, "figure 1 branch 255");
     quotes(&long(513), &values, "refused 1");
     quotes(&long(514), &values, "refused 1");
     for longer in [1, 15, 16, 17, 100_000] {
@@ -206,29 +220,80 @@ fn files_may_come_in_parts() {
     for most in [1, 7, 100] {
         let written = written(&mut folder.command_moving(most));
         assert_eq!(written.error, "");
-        assert_eq!(written.output, "figure 210910\n");
+        assert_eq!(written.output, "figure 210910 branch 255\n");
     }
+}
+
+// Branches.
+
+#[test]
+fn a_root_choices_child_is_named() {
+    for place in [0, 1, 9, 10, 99, 100, 253, 254] {
+        let mut children = vec![block(3); 255];
+        children[place] = block(4);
+        let line = format!("figure 4 branch {place}");
+        quotes(&choice(&children), &[], &line);
+        let zero = format!("figure 0 branch {place}");
+        quotes(&limited(choice(&children), 0, 255), &[], &zero);
+    }
+    quotes(&choice(&[block(3), block(3)]), &[], "figure 3 branch 0");
+    let limited = choice(&[limited(block(9), 0, 255), block(3), block(3)]);
+    quotes(&limited, &[], "figure 3 branch 1");
+    quotes(&sequence(&[limited]), &[], "figure 3 branch 255");
+}
+
+#[test]
+fn written_and_absent_values_move_the_branch() {
+    let tree = choice(&[symbol_block(16), symbol_block(17)]);
+    let mut values = [0; 18];
+    (values[16], values[17]) = (5, 6);
+    let file = values_file(&values);
+    quotes(&tree, &file, "figure 6 branch 1");
+    quotes(&tree, &file[..8 * 17], "figure 1000000000000 branch 1");
+    quotes(&tree, &file[..8 * 16], "figure 1000000000000 branch 0");
+    values[17] = 5;
+    quotes(&tree, &values_file(&values), "figure 5 branch 0");
+}
+
+/// Sales and reception share figures, not branches.
+#[test]
+fn a_simplified_tree_may_have_another_branch() {
+    let tree = choice(&[block(0), symbol_block(16), block(3)]);
+    let mut values = [0; 32];
+    values[16] = 9;
+    let values = values_file(&values);
+    quotes(&tree, &values, "figure 9 branch 1");
+    let sales = Folder::with_tree("sales", &tree);
+    sales.run(&NONE);
+    let simple = sales.read("simple.tab").expect("a simple tree");
+    quotes(&simple, &values, "figure 9 branch 0");
 }
 
 // Absent values.
 
 #[test]
 fn the_smallest_trees_with_all_values_written() {
-    quotes(&block(7), &[0; 256], "figure 7");
-    quotes(&symbol_block(16), &[0; 256], "figure 0");
+    quotes(&block(7), &[0; 256], "figure 7 branch 255");
+    quotes(&symbol_block(16), &[0; 256], "figure 0 branch 255");
 }
 
 #[test]
 fn missing_values_count_their_ceilings() {
     for (tree, line) in [
-        (block(7), "figure 7"),
-        (symbol_block(16), "figure 1000000000000"),
-        (symbol_block(31), "figure 1000000000000"),
-        (symbol_repeat(0, block(1), block(0)), "figure 1000000"),
-        (symbol_repeat(15, block(3), block(2)), "figure 3000002"),
+        (block(7), "figure 7 branch 255"),
+        (symbol_block(16), "figure 1000000000000 branch 255"),
+        (symbol_block(31), "figure 1000000000000 branch 255"),
+        (
+            symbol_repeat(0, block(1), block(0)),
+            "figure 1000000 branch 255",
+        ),
+        (
+            symbol_repeat(15, block(3), block(2)),
+            "figure 3000002 branch 255",
+        ),
         (
             repeat(5, symbol_limited(block(2), 3, 1), block(0)),
-            "figure 10",
+            "figure 10 branch 255",
         ),
     ] {
         let folder = Folder::with_tree(DESK, &tree);
@@ -246,9 +311,13 @@ fn every_number_of_values_may_be_written() {
         let high = values_file(&ceilings()[..count]);
         for symbol in 0..32 {
             let tree = only_symbol(symbol as u64);
-            let ceiling = format!("figure {}", ceilings()[symbol]);
+            let ceiling = format!("figure {} branch 255", ceilings()[symbol]);
             if symbol < count {
-                quotes(&tree, &low, &format!("figure {}", written[symbol]));
+                quotes(
+                    &tree,
+                    &low,
+                    &format!("figure {} branch 255", written[symbol]),
+                );
                 quotes(&tree, &high, &ceiling);
             } else {
                 quotes(&tree, &low, &ceiling);
@@ -264,7 +333,7 @@ fn the_last_value_written_may_be_0_or_too_large() {
         let tree = only_symbol(last as u64);
         let mut values = ceilings();
         values[last] = 0;
-        quotes(&tree, &values_file(&values[..count]), "figure 0");
+        quotes(&tree, &values_file(&values[..count]), "figure 0 branch 255");
         values[last] = ceilings()[last] + 1;
         quotes(&tree, &values_file(&values[..count]), "refused 9");
     }
@@ -273,21 +342,21 @@ fn the_last_value_written_may_be_0_or_too_large() {
 #[test]
 fn absent_values_may_be_too_large_for_a_figure() {
     let count = |time| symbol_repeat(0, block(time), block(0));
-    quotes(&count(1_000_000), &[], "figure 1000000000000");
+    quotes(&count(1_000_000), &[], "figure 1000000000000 branch 255");
     quotes(&count(1_000_001), &[], "refused 10");
     quotes(
         &count(1_000_001),
         &values_file(&[999_999]),
-        "figure 999999999999",
+        "figure 999999999999 branch 255",
     );
     let times = sequence(&[symbol_block(30), symbol_block(31)]);
     let zeros = values_file(&[0; 32]);
     quotes(&times, &zeros[..240], "refused 10");
-    quotes(&times, &zeros[..248], "figure 1000000000000");
-    quotes(&times, &zeros, "figure 0");
+    quotes(&times, &zeros[..248], "figure 1000000000000 branch 255");
+    quotes(&times, &zeros, "figure 0 branch 255");
     let and_one = sequence(&[symbol_block(31), block(1)]);
     quotes(&and_one, &zeros[..248], "refused 10");
-    quotes(&and_one, &zeros, "figure 1");
+    quotes(&and_one, &zeros, "figure 1 branch 255");
 }
 
 /// An absent count is 1,000,000, which is past 1,000.
@@ -304,7 +373,11 @@ fn absent_values_under_flag_4_are_refused_13() {
             quotes(&tree, &values_file(&values[..written]), "refused 13");
         }
         for written in symbol + 1..=32 {
-            quotes(&tree, &values_file(&values[..written]), "figure 500500");
+            quotes(
+                &tree,
+                &values_file(&values[..written]),
+                "figure 500500 branch 255",
+            );
         }
     }
 }
@@ -317,12 +390,12 @@ fn only_values_under_flag_4_are_asked() {
         symbol_limited(block(2), 1, 1),
     ];
     let tree = symbol_repeat(2, choice(&ways), block(0));
-    quotes(&tree, &values_file(&[10]), "figure 2000055");
-    quotes(&tree, &values_file(&[10, 20]), "figure 205");
+    quotes(&tree, &values_file(&[10]), "figure 2000055 branch 255");
+    quotes(&tree, &values_file(&[10, 20]), "figure 205 branch 255");
     quotes(
         &tree,
         &values_file(&[1_000, 0, 1_000_000]),
-        "figure 1501500",
+        "figure 1501500 branch 255",
     );
     quotes(&tree, &values_file(&[1_001, 0, 0]), "refused 13");
     quotes(&tree, &[], "refused 13");
@@ -357,7 +430,7 @@ fn too_large_values_are_refused_9() {
     ] {
         let mut values = [0; 32];
         values[symbol] = most;
-        quotes(&block(7), &values_file(&values), "figure 7");
+        quotes(&block(7), &values_file(&values), "figure 7 branch 255");
         for larger in [most + 1, u64::MAX] {
             values[symbol] = larger;
             quotes(&block(7), &values_file(&values), "refused 9");
@@ -386,7 +459,11 @@ fn question_13_comes_after_9_and_before_10() {
 fn question_10_comes_last() {
     let tree = sequence(&[block(1_000_000_000_000), symbol_block(16)]);
     let mut values = [0; 32];
-    quotes(&tree, &values_file(&values), "figure 1000000000000");
+    quotes(
+        &tree,
+        &values_file(&values),
+        "figure 1000000000000 branch 255",
+    );
     values[16] = 1;
     let file = values_file(&values);
     quotes(&tree, &file, "refused 10");
@@ -410,6 +487,7 @@ fn cases_are_quoted() {
 fn random_tables_are_quoted() {
     let mut rng = Rng::new(501);
     let (mut figures, mut triangular, mut too_large, mut past_1000) = (0, 0, 0, 0);
+    let (mut first_branch, mut later_branch) = (0, 0);
     for _ in 0..500 {
         let records = rng.size(1..=60);
         let mut tree = trees::within_limits(&mut rng, records);
@@ -422,9 +500,11 @@ fn random_tables_are_quoted() {
         }
         let values = values_file(&values[..count]);
         match expect(&tree.encode(), &values) {
-            Ok(Quoted { figure, .. }) => {
+            Ok(Quoted { figure, branch }) => {
                 figures += u64::from(figure > 0);
                 triangular += u64::from(figure > 0 && !tree.triangles().is_empty());
+                first_branch += u64::from(branch == 0);
+                later_branch += u64::from((1..255).contains(&branch));
             }
             Err(10) => too_large += 1,
             Err(question) => {
@@ -436,6 +516,8 @@ fn random_tables_are_quoted() {
     assert!(figures > 100 && too_large > 20, "{figures}, {too_large}");
     let flag_4 = triangular > 50 && past_1000 > 20;
     assert!(flag_4, "{triangular}, {past_1000}");
+    let branches = first_branch > 20 && later_branch > 20;
+    assert!(branches, "{first_branch}, {later_branch}");
 }
 
 #[test]

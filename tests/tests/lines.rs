@@ -14,7 +14,10 @@ use volefleece_tests::tables::*;
 fn lines() -> Vec<(Folder, &'static str)> {
     let refused = sequence(&[block(1_000_000_000_000), block(1)]);
     vec![
-        (Folder::with_tree("desk", &block(7)), "figure 7\n"),
+        (
+            Folder::with_tree("desk", &block(7)),
+            "figure 7 branch 255\n",
+        ),
         (Folder::with_tree("desk", &refused), "refused 10\n"),
         (
             Folder::with_tree("sales", &sequence(&[block(7)])),
@@ -73,7 +76,7 @@ fn lines_of_many_programs_stay_whole() {
     filling.join().expect("filled");
 
     let found = |line: &str| written.lines().filter(|&found| found == line).count();
-    assert_eq!(found("figure 7"), 200);
+    assert_eq!(found("figure 7 branch 255"), 200);
     assert_eq!(found("refused 10"), 200);
     assert_eq!(found("simplified 16 steps 1 finished"), 100);
     assert_eq!(written.lines().count(), 500 + BLOCKS);

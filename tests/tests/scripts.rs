@@ -16,8 +16,13 @@ use volefleece_tests::commands::*;
 use volefleece_tests::programs::{sample, Folder, TREE};
 use volefleece_tests::tables::*;
 
-const HOUSE: &str = "figure 210910";
+const HOUSE: &str = "figure 210910 branch 255";
+const ENTRANCE: &str = "figure 91200 branch 1";
 const SIMPLIFIED: &str = "simplified 192 steps 7 finished";
+
+/// A stand-in for a program, and what it says.
+const PROGRAM: &str = "echo figure 1 branch 255";
+const LINE: &str = "figure 1 branch 255";
 
 /// A folder that holds other folders.
 fn room() -> Folder {
@@ -65,16 +70,21 @@ fn the_samples() {
     let room = room();
     let none: [&str; 0] = [];
     run("quote", &room, &none).expect(0, HOUSE);
+    run("quote", &room, &[file("samples/entrance")]).expect(0, ENTRANCE);
     run("simplify", &room, &none).expect(0, SIMPLIFIED);
     let simple = fs::read(file("target/workshop/simple.tab")).expect("written");
     assert_eq!(simple, sample("house", TREE));
+    let readme = fs::read_to_string(file("README.md")).expect("read");
+    for line in [HOUSE, ENTRANCE, SIMPLIFIED] {
+        assert!(readme.contains(&format!("\n    {line}\n")), "{line}");
+    }
 }
 
 #[test]
 fn an_answer_ends_with_0_and_a_refusal_with_1() {
     let room = room();
     put_house(&room.path("h"), 7);
-    run("quote", &room, &["h"]).expect(0, "figure 7");
+    run("quote", &room, &["h"]).expect(0, "figure 7 branch 255");
     run("simplify", &room, &["h"]).expect(0, "simplified 16 steps 0 finished");
     room.write("h/tree.tab", &sample("workshop", TREE));
     run("simplify", &room, &["h", "3"]).expect(0, "simplified 288 steps 3 spent");
@@ -103,7 +113,7 @@ fn a_message_ends_with_2() {
 
 #[test]
 fn arguments_are_counted() {
-    let copy = Repository::new("echo figure 1");
+    let copy = Repository::new(PROGRAM);
     for (name, arguments) in [
         ("quote", &["samples/house", "more"][..]),
         ("simplify", &["samples/house", "1", "more"]),
@@ -125,7 +135,7 @@ fn arguments_are_counted() {
 
 #[test]
 fn empty_arguments_are_told() {
-    let copy = Repository::new("echo figure 1");
+    let copy = Repository::new(PROGRAM);
     for (name, arguments) in [
         ("quote", &[""][..]),
         ("simplify", &[""]),
@@ -146,7 +156,7 @@ fn empty_arguments_are_told() {
 
 #[test]
 fn usage_is_told() {
-    let copy = Repository::new("echo figure 1");
+    let copy = Repository::new(PROGRAM);
     for name in ["quote", "simplify", "install", "bench", "test"] {
         let ended = Ended::of(copy.command(name).arg("--help"));
         assert_eq!((ended.status, &*ended.error), (Some(0), ""));
@@ -168,7 +178,7 @@ fn cdpath_leads_nowhere() {
             let mut command = by(&shell, name, &room, OsStr::new("h"));
             Ended::of(command.env("CDPATH", room.path("elsewhere")))
         };
-        run("quote").expect(0, "figure 1");
+        run("quote").expect(0, "figure 1 branch 255");
         run("simplify").expect(0, "simplified 16 steps 0 finished");
         fs::remove_file(room.path("h/simple.tab")).expect("written here");
         assert!(!room.path("elsewhere/h/simple.tab").exists());
@@ -227,16 +237,16 @@ fn folders_of_any_name() {
                 let mut command = by(&shell, command, &room, name);
                 Ended::of(command.env("OLDPWD", room.path("old")))
             };
-            run("quote").expect(0, &format!("figure {figure}"));
+            run("quote").expect(0, &format!("figure {figure} branch 255"));
             run("simplify").expect(0, "simplified 16 steps 0 finished");
             let simple = room.path(".").join(name).join("simple.tab");
             fs::remove_file(simple).expect("written there");
         }
     }
     put_house(&room.path("--help"), 50);
-    run("quote", &room, &["./--help"]).expect(0, "figure 50");
+    run("quote", &room, &["./--help"]).expect(0, "figure 50 branch 255");
     let path = room.path("-P").canonicalize().expect("a folder");
-    run("quote", &room, &[path]).expect(0, "figure 2");
+    run("quote", &room, &[path]).expect(0, "figure 2 branch 255");
 }
 
 /// As to any program, not as to a shell's `cd`.
@@ -246,7 +256,7 @@ fn a_path_through_a_link_leads_on_from_its_target() {
     put_house(&room.path("other"), 3);
     fs::create_dir(room.path("other/inner")).expect("made");
     symlink("other/inner", room.path("link")).expect("linked");
-    run("quote", &room, &["link/.."]).expect(0, "figure 3");
+    run("quote", &room, &["link/.."]).expect(0, "figure 3 branch 255");
 }
 
 #[test]
@@ -300,7 +310,7 @@ fn the_line_is_one_write() {
     put_house(&room.path("h"), 7);
     for shell in shells() {
         for (name, line) in [
-            ("quote", "figure 7\n"),
+            ("quote", "figure 7 branch 255\n"),
             ("simplify", "simplified 16 steps 0 finished\n"),
         ] {
             let (ours, theirs) = UnixDatagram::pair().expect("sockets");
@@ -319,11 +329,13 @@ fn the_line_is_one_write() {
 /// A program would open its files as the descriptors that it does not have.
 #[test]
 fn a_program_has_its_descriptors() {
-    let copy = Repository::new("[ -e /proc/self/fd/0 ] && [ -e /proc/self/fd/2 ] && echo figure 1");
+    let copy = Repository::new(
+        "[ -e /proc/self/fd/0 ] && [ -e /proc/self/fd/2 ] && echo figure 1 branch 255",
+    );
     put_script(&copy.path("closed"), "exec \"$@\" <&- 2>&-");
     for shell in shells() {
         let mut closed = copy.command("closed");
-        Ended::of(closed.arg(shell).arg(copy.path("quote"))).expect(0, "figure 1");
+        Ended::of(closed.arg(shell).arg(copy.path("quote"))).expect(0, LINE);
     }
 }
 
@@ -332,10 +344,11 @@ fn a_program_that_does_not_answer_is_told() {
     for program in [
         "kill -9 $$",
         "kill -SEGV $$",
-        "echo figure 1; kill -9 $$",
-        "echo figure 1; exit 1",
-        "printf 'figure 1'",
-        "echo figure 1; echo figure 2",
+        "echo figure 1 branch 255; kill -9 $$",
+        "echo figure 1 branch 255; exit 1",
+        "printf 'figure 1 branch 255'",
+        "echo figure 1 branch 255; echo figure 2 branch 255",
+        "echo figure 1",
         "echo sorry",
         "exit 3",
         "printf '\\n'",
@@ -371,7 +384,7 @@ fn what_is_built_needs_no_rt() {
 
 #[test]
 fn what_is_not_built_needs_rt() {
-    let copy = Repository::new("echo figure 1");
+    let copy = Repository::new(PROGRAM);
     let without = |name| {
         let mut command = copy.command_with(name, &["tools"]);
         Ended::of(command.args((name == "install").then_some(copy.path("prefix"))))
@@ -379,8 +392,8 @@ fn what_is_not_built_needs_rt() {
     for name in ["quote", "simplify", "install"] {
         without(name).expect_message("rt must be on PATH");
     }
-    copy.run("quote").expect(0, "figure 1");
-    without("quote").expect(0, "figure 1");
+    copy.run("quote").expect(0, LINE);
+    without("quote").expect(0, LINE);
     put(&copy.path("crates/desk/src/main.rt"), "second");
     without("quote").expect_message("rt must be on PATH");
     assert!(!copy.path("prefix").exists());
@@ -389,10 +402,10 @@ fn what_is_not_built_needs_rt() {
 /// By contents: `rt` is called where a source or the program is another, and not where only times are.
 #[test]
 fn changes_are_built_once() {
-    let copy = Repository::new("echo figure 1");
+    let copy = Repository::new(PROGRAM);
     let mut calls = 0;
     let mut built = |changed: bool| {
-        copy.run("quote").expect(0, "figure 1");
+        copy.run("quote").expect(0, LINE);
         calls += usize::from(changed);
         assert_eq!(copy.calls(), vec!["check desk"; calls]);
     };
@@ -423,7 +436,7 @@ fn changes_are_built_once() {
     built(true);
     put(&copy.path("KIT"), "another kit\n");
     built(true);
-    put_script(&copy.path("target/bin/desk"), "echo figure 2");
+    put_script(&copy.path("target/bin/desk"), "echo figure 2 branch 255");
     built(true);
     fs::remove_dir_all(copy.path("target")).expect("removed");
     built(true);
@@ -432,40 +445,40 @@ fn changes_are_built_once() {
 
 #[test]
 fn a_failed_build_is_told_and_tried_again() {
-    let copy = Repository::new("echo figure 1");
+    let copy = Repository::new(PROGRAM);
     put(&copy.path("broken"), "");
     for calls in 1..3 {
         copy.run("quote").expect_message("rt check desk failed");
         assert_eq!(copy.calls().len(), calls);
     }
     fs::remove_file(copy.path("broken")).expect("removed");
-    copy.run("quote").expect(0, "figure 1");
+    copy.run("quote").expect(0, LINE);
 }
 
 /// What changes while it is built is not taken for built.
 #[test]
 fn a_change_during_a_build_is_built() {
-    let copy = Repository::new("echo figure 1");
+    let copy = Repository::new(PROGRAM);
     put_script(
         &copy.path("while-building"),
         "echo more >>crates/desk/src/main.rt",
     );
-    copy.run("quote").expect(0, "figure 1");
+    copy.run("quote").expect(0, LINE);
     put_script(&copy.path("while-building"), ":");
     for _ in 0..2 {
-        copy.run("quote").expect(0, "figure 1");
+        copy.run("quote").expect(0, LINE);
         assert_eq!(copy.calls().len(), 2);
     }
 }
 
 #[test]
 fn commands_build_one_at_a_time() {
-    let copy = Repository::new("echo figure 1");
+    let copy = Repository::new(PROGRAM);
     put_script(&copy.path("while-building"), "sleep 0.3");
     thread::scope(|threads| {
         for name in ["quote", "quote", "simplify", "simplify", "quote"] {
             let copy = &copy;
-            threads.spawn(move || copy.run(name).expect(0, "figure 1"));
+            threads.spawn(move || copy.run(name).expect(0, LINE));
         }
     });
     let mut calls = copy.calls();
@@ -476,11 +489,11 @@ fn commands_build_one_at_a_time() {
 /// Each has the copy of the sample to itself.
 #[test]
 fn the_sample_is_simplified_by_one_at_a_time() {
-    let copy = Repository::new("sleep 0.1; [ -e tree.tab ] && echo figure 1");
-    copy.run("simplify").expect(0, "figure 1");
+    let copy = Repository::new("sleep 0.1; [ -e tree.tab ] && echo figure 1 branch 255");
+    copy.run("simplify").expect(0, LINE);
     thread::scope(|threads| {
         for _ in 0..4 {
-            threads.spawn(|| copy.run("simplify").expect(0, "figure 1"));
+            threads.spawn(|| copy.run("simplify").expect(0, LINE));
         }
     });
 }
@@ -489,7 +502,7 @@ fn the_sample_is_simplified_by_one_at_a_time() {
 
 #[test]
 fn the_gate_ends_with_the_count() {
-    let copy = Repository::new("echo figure 1");
+    let copy = Repository::new(PROGRAM);
     let mut test = copy.command("test");
     for name in ["LIB_DIR", "DESK", "SALES"] {
         test.env(format!("VOLEFLEECE_{name}"), "elsewhere");
@@ -512,14 +525,14 @@ fn the_gate_ends_with_the_count() {
 
 #[test]
 fn the_gate_keeps_the_count_back() {
-    let copy = Repository::new("echo figure 1");
+    let copy = Repository::new(PROGRAM);
     put_script(&copy.path("stand-ins/cargo"), "exit 101");
     let ended = copy.run("test");
     assert_ne!(ended.status, Some(0));
     assert_eq!(ended.output, "proved\n");
 
     for (count, ends) in [("2 passed, 1 failed", "0"), ("3 passed, 0 failed", "1")] {
-        let copy = Repository::new("echo figure 1");
+        let copy = Repository::new(PROGRAM);
         put(&copy.path("ci"), &format!("proved\n{count}\n"));
         put(&copy.path("ci-ends"), ends);
         let ended = copy.run("test");
@@ -528,7 +541,7 @@ fn the_gate_keeps_the_count_back() {
         assert_eq!(ended.output, said);
     }
 
-    let copy = Repository::new("echo figure 1");
+    let copy = Repository::new(PROGRAM);
     put(&copy.path("crates/stray/src/lib.rt"), "");
     let ended = copy.run("test");
     assert_eq!(ended.status, Some(1));
@@ -538,18 +551,18 @@ fn the_gate_keeps_the_count_back() {
 
 #[test]
 fn the_gate_lets_none_build() {
-    let copy = Repository::new("echo figure 1");
+    let copy = Repository::new(PROGRAM);
     put_script(&copy.path("while-building"), "sleep 0.3");
     thread::scope(|threads| {
         threads.spawn(|| assert_eq!(copy.run("test").status, Some(0)));
-        threads.spawn(|| copy.run("quote").expect(0, "figure 1"));
+        threads.spawn(|| copy.run("quote").expect(0, LINE));
     });
     assert!(!copy.calls().contains(&"two at once".to_string()));
 }
 
 #[test]
 fn the_gate_wants_the_kit_that_the_proofs_are_of() {
-    let copy = Repository::new("echo figure 1");
+    let copy = Repository::new(PROGRAM);
     put(&copy.path("version"), "another kit\n");
     copy.run("test").expect_message("rt version: another kit\n");
     assert_eq!(copy.calls(), ["version"]);
@@ -559,7 +572,7 @@ fn the_gate_wants_the_kit_that_the_proofs_are_of() {
 
 #[test]
 fn the_benchmarks_are_of_what_is_built() {
-    let copy = Repository::new("echo figure 1");
+    let copy = Repository::new(PROGRAM);
     let benched = "cargo bench --offline --bench quotes";
     let desk = copy.path("target/bin/desk");
     let ran = format!("tests ran{}\n", desk.display());
@@ -579,7 +592,7 @@ fn the_benchmarks_are_of_what_is_built() {
 
 #[test]
 fn the_benchmark_compares_with_the_build_that_is_named() {
-    let copy = Repository::new("echo figure 1");
+    let copy = Repository::new(PROGRAM);
     let desk = copy.path("target/bin/desk");
     put(&copy.path("before.a"), "");
     let bench = |arguments: &[&str]| {
@@ -681,7 +694,7 @@ fn an_installed_desk_needs_no_kit() {
 /// What is there is replaced whole and not written to, and a name may be relative.
 #[test]
 fn installing_again_replaces_files_whole() {
-    let copy = Repository::new("echo figure 1");
+    let copy = Repository::new(PROGRAM);
     let here = copy.path(".").canonicalize().expect("a folder");
     let install = |prefix: &str| Ended::of(copy.command("install").arg(prefix).current_dir(&here));
     for name in ["-P/x y", "plain", "slash/"] {
@@ -713,7 +726,7 @@ fn installing_again_replaces_files_whole() {
 
 #[test]
 fn destdir_is_no_part_of_the_prefix() {
-    let copy = Repository::new("echo figure 1");
+    let copy = Repository::new(PROGRAM);
     let (prefix, destination) = (copy.path("prefix"), copy.path("destination"));
     let mut install = copy.command("install");
     let ended = Ended::of(install.arg(&prefix).env("DESTDIR", &destination));
