@@ -11,7 +11,8 @@
 /* What each call answers is proved of these structs' numbers: its contract is in crates/volefleece/src/lib.rt. What
    holds of the calls together, so that a simplified table gives the figure of the original, is the contract of vf_both_desks there,
    which is not exported. It is about the numbers of four calls: vf_check and vf_simplify of a table, vf_figure lent that table, and
-   vf_figure lent what vf_simplify wrote, in the length that it answered, both unchanged since. */
+   vf_figure lent what vf_simplify wrote, in the length that it answered, both unchanged since. It relates their figures and not their
+   branches: a simplified table may have another one. */
 
 #ifdef __cplusplus
 extern "C" {
@@ -30,9 +31,12 @@ vf_checked vf_check(const uint8_t *table, size_t table_len);
 typedef struct {
     uint64_t refused; /* 0 if there is a figure, else the number of the first question that says no */
     uint64_t figure;  /* the most cycles that one opening can take, 0 if it is refused */
+    uint64_t branch;  /* the child of the root choice that sets the figure, the earliest of equal ones, counted from 0; 255 if the root is
+                         no choice, 0 if it is refused */
 } vf_figure_answer;
 
-/* Puts questions 1 to 7, 9, 13 and 10 and quotes a table's tree under 32 values. Writes nothing. */
+/* Puts questions 1 to 7, 9, 13 and 10 and quotes a table's tree under 32 values: the figure and the branch that sets it. Writes
+   nothing. */
 vf_figure_answer vf_figure(const uint8_t *table, size_t table_len, const uint64_t *values, size_t values_len);
 
 /* What the list call answers. */

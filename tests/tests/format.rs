@@ -250,11 +250,19 @@ fn check(lent: &Lent) -> String {
     }
 }
 
+/// The figure, and its branch unless that is 255.
 fn figure(lent: &Lent, options: &Options) -> String {
     match ffi::figure(&lent.table, &options.values) {
         ffi::Figure {
-            refused: 0, figure, ..
+            refused: 0,
+            figure,
+            branch: 255,
         } => figure.to_string(),
+        ffi::Figure {
+            refused: 0,
+            figure,
+            branch,
+        } => format!("{figure} branch {branch}"),
         answer => refused(answer.refused),
     }
 }
@@ -335,21 +343,28 @@ fn every_example_answers_so() {
     }
 }
 
-/// Each answer matters: with a digit more the example is wrong.
+/// Each answer matters: with a digit more, or without its branch, the example is wrong.
 #[test]
 fn a_wrong_answer_shows() {
-    let mut changed = 0;
+    let (mut changed, mut cut) = (0, 0);
+    let shows = |example: &Example, at: usize, line: String| {
+        let mut wrong = example.clone();
+        wrong.lines[at] = line;
+        assert!(run(&wrong).is_err(), "{}", wrong.lines[at]);
+    };
     for example in examples() {
         for at in 0..example.lines.len() {
             if let Line::Call(call, said) = read(&example.lines[at]) {
-                let mut wrong = example.clone();
-                wrong.lines[at] = format!("{call}: {said}0");
-                assert!(run(&wrong).is_err(), "{call}: {said}0");
+                shows(&example, at, format!("{call}: {said}0"));
                 changed += 1;
+                if let Some((figure, _)) = said.split_once(" branch ") {
+                    shows(&example, at, format!("{call}: {figure}"));
+                    cut += 1;
+                }
             }
         }
     }
-    assert!(changed >= 60, "{changed}");
+    assert!(changed >= 60 && cut >= 10, "{changed}, {cut}");
 }
 
 #[test]
