@@ -12,20 +12,25 @@ use Rattle.table.specs.Table.{flag, mostFlags, mostFrom, numFrom, kindByte, val
 use Rattle.table.specs.Checking.{question1, question2, limitCount, recordInRange, question3, question4, question5, question6, question7, questions}
 use Rattle.table.specs.Asking.{byRefusal, firstNo}
 use Rattle.table.specs.Notation.{_/T_at_, _/_at_, allHold, block, both, either, loop, sequence, symbol}
-use Rattle.lists.specs.Streams.{S, const, add, cap, group, shift, merge, next, taken}
+use Rattle.lists.specs.Streams.{S, const, add, cap, group, shift, merge, next, taken, holder}
 use Rattle.lists.specs.Pairs.{Pairs, ever, run, inFront, tail, pairs}
-use Rattle.evaluate.specs.Evaluate.{allowed, amount, inner, outward, seen, name, limit, rounds, turns, join, start, list, figure, fits, zeros}
+use Rattle.evaluate.specs.Evaluate.{allowed, amount, inner, outward, seen, name, limit, rounds, turns, join, start, list, figure, noBranch, holderIn, branchIn, branch, fits, zeros}
 use Rattle.evaluate.specs.ListPairs.{placeOf, turned, place, listPairs}
 use Rattle.quoting.specs.declared.Quote.{Quote}
 use Rattle.quoting.specs.Values.{ceiling, question13, question9, ranged, recordSmall, triangleSmall, valueQuestions}
 use Rattle.table.specs.Limits.{limitHolds}
 use Rattle.quoting.specs.Answers.{figureAnswer, figureRefusal, quoteQuestions}
 
-pub isFigure : ℕ → Quote → Bool
-isFigure x (Quote.Figure y c) = eqb x y
-isFigure x (Quote.Refused q) = false
+-- the figure x with branch c
+pub isQuote : (x c : ℕ) → Quote → Bool
+isQuote x c (Quote.Figure y d) = eqb x y and eqb c d
+isQuote x c (Quote.Refused q) = false
 
--- the figure call answers this figure on the tree's table, with 32 zeros
+-- the figure x without a branch
+pub isFigure : ℕ → Quote → Bool
+isFigure x q = isQuote x noBranch q
+
+-- the figure call answers this figure on the tree's table, with 32 zeros, and no branch
 pub quotes : Tree → ℕ → Bool
 quotes t x = isFigure x (figureAnswer (encode t) (replicate howManyValues 0))
 
@@ -45,5 +50,5 @@ isRefused q (Quote.Refused r) = eqb q r
 
 -- to unfold this is to unfold all that the cases compute with
 unfoldable pub computed : ℕ
-unfolding block symbol _/_at_ _/T_at_ sequence both either loop allHold isFigure isRefused quotes samePairs lists _and_ _⧺_ size rest around records S const add cap group shift merge next taken allowed amount inner outward seen name limit rounds turns join start list figure fits arity timeInRange countInRange mostInRange kindInRange limitInRange listed depth loops nameOk named share weight toBytes fromBytes flag mostFlags mostFrom numFrom kindByte valueNum kindFrom loopByte limitNum limitFrom recordBytes encode firstNode childByte firstOnes afterOnes forest top decode formTrees each limitCount recordInRange question1 question2 question3 question4 question5 question6 question7 questions firstNo byRefusal placeOf turned place inFront tail pairs listPairs ceiling ranged question9 limitHolds triangleSmall recordSmall question13 valueQuestions quoteQuestions figureRefusal figureAnswer
+unfolding block symbol _/_at_ _/T_at_ sequence both either loop allHold isQuote isFigure isRefused quotes samePairs lists _and_ _⧺_ size rest around records S const add cap group shift merge next taken holder allowed amount inner outward seen name limit rounds turns join start list figure holderIn branchIn branch fits arity timeInRange countInRange mostInRange kindInRange limitInRange listed depth loops nameOk named share weight toBytes fromBytes flag mostFlags mostFrom numFrom kindByte valueNum kindFrom loopByte limitNum limitFrom recordBytes encode firstNode childByte firstOnes afterOnes forest top decode formTrees each limitCount recordInRange question1 question2 question3 question4 question5 question6 question7 questions firstNo byRefusal placeOf turned place inFront tail pairs listPairs ceiling ranged question9 limitHolds triangleSmall recordSmall question13 valueQuestions quoteQuestions figureRefusal figureAnswer
 computed = 0

@@ -5,6 +5,7 @@ pub mod Promises
 pub mod Branches
 pub mod Lent
 pub mod Cases
+pub mod BranchCases
 pub mod Triangles
 -- What is proved of them.
 pub mod Laws

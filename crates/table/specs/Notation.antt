@@ -31,9 +31,13 @@ sequence f = node (record { kind = Sequence; limit = Unlimited }) f
 unfoldable pub both : Tree → Tree → Tree
 both a b = sequence (a ▸ b ▸ nil)
 
+-- C(a|b|..)
+abbrev pub choice : Forest → Tree
+choice f = node (record { kind = Choice; limit = Unlimited }) f
+
 -- C(a|b)
 unfoldable pub either : Tree → Tree → Tree
-either a b = node (record { kind = Choice; limit = Unlimited }) (a ▸ b ▸ nil)
+either a b = choice (a ▸ b ▸ nil)
 
 -- a loop of this bound, its body and its exit
 unfoldable pub loop : ℕ → Tree → Tree → Tree

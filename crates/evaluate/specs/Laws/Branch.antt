@@ -1,5 +1,5 @@
 -- The branch as the walk finds it, child by child, is the definition's.
-use mathlib.Core.Path.{_≡_, refl, sym, ap, _∙_}
+use mathlib.Core.Path.{_≡_, refl, sym, _∙_}
 use mathlib.Core.Bool.{Bool, true, false, cond}
 use Prim.Native.Nat.{ℕ, suc, _+_, _<_, max}
 use native.Mathlib.Omega.{arith}

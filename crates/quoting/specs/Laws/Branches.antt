@@ -1,22 +1,21 @@
 -- The branch of the definition is the child with the largest first member, the earliest on ties.
-use mathlib.Core.Path.{_≡_, refl, sym, ap, _∙_}
+use mathlib.Core.Path.{_≡_, refl}
 use mathlib.Core.Bool.{Bool, true, false, cond}
 use mathlib.Core.List.{List, _∷_}
 use Prim.Native.Nat.{ℕ, zero, suc, max, _<_, _≤_}
 use native.Mathlib.Omega.{arith}
-use lib.Dec.{T, eqb→eq, leb, leb→le}
+use lib.Dec.{T, leb, leb→le}
 use lib.ListN.{getD, length}
 use borrow.Author.Tests.{le-leb, leb-false, leb-true}
 use Rattle.booleans.specs.Laws.{both}
 use Rattle.table.specs.declared.Kind.{Kind}
 use Rattle.table.specs.declared.Kind.the-variants.{Block, Sequence, Choice, Loop}
 use Rattle.table.specs.declared.Limit.{Limit}
-use Rattle.table.specs.declared.Limit.the-variants.{Unlimited}
 use Rattle.table.specs.Questions.{arity, listed}
 use Rattle.table.specs.Trees.{Forest, Tree, nil, node, _▸_, rest, size}
 use Rattle.lists.specs.Streams.{const, holder, merge, taken}
 use Rattle.evaluate.specs.Evaluate.{Values, before, branch, branchIn, figure, holderIn, join, limit, list, start, turns}
-use Rattle.quoting.specs.Branches.{BranchOf, Branched, Largest, firstMembers}
+use Rattle.quoting.specs.Branches.{BranchOf, Branched, firstMembers}
 
 -- the number x is number c of xs, larger than those before and as large as any
 record Holds (xs : List ℕ) (c x : ℕ) : Type 0 where
