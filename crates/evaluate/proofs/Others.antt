@@ -11,7 +11,7 @@ use Rattle.table.specs.declared.Kind.the-variants.{Block, Sequence, Choice, Loo
 use Rattle.lists.specs.Operations.{addPairs}
 use Rattle.lists.specs.Pairs.{Pairs}
 use Rattle.evaluate.specs.Evaluate.{Values, noBranch}
-use Rattle.evaluate.specs.Evaluator.{Found, evaluateBelow, evaluateMore, goneRound, held, joinPairs, noneYet}
+use Rattle.evaluate.specs.Evaluator.{Found, evaluateBelow, evaluateMore, goneRound, nextHolder, joinPairs, noneYet}
 
 -- the kind's number is one of these: 0 a block, 1 a sequence, 2 a choice, 3 a loop
 abbrev pub Among : List ℕ → Kind → Type 0
@@ -31,12 +31,12 @@ join-other Sequence r s h = refl
 join-other Choice r s h = absurd (miss (0 ∷ 1 ∷ 3 ∷ []) 2 tt h)
 join-other (Loop n) r s h = refl
 
-pub held-other : (k : Kind) (c x i y : ℕ) → Among (0 ∷ 1 ∷ 3 ∷ []) k → noBranch ≡ held k c x i y
-unfolding held
-held-other (Block t) c x i y h = refl
-held-other Sequence c x i y h = refl
-held-other Choice c x i y h = absurd (miss (0 ∷ 1 ∷ 3 ∷ []) 2 tt h)
-held-other (Loop n) c x i y h = refl
+pub holder-other : (k : Kind) (c x i y : ℕ) → Among (0 ∷ 1 ∷ 3 ∷ []) k → noBranch ≡ nextHolder k c x i y
+unfolding nextHolder
+holder-other (Block t) c x i y h = refl
+holder-other Sequence c x i y h = refl
+holder-other Choice c x i y h = absurd (miss (0 ∷ 1 ∷ 3 ∷ []) 2 tt h)
+holder-other (Loop n) c x i y h = refl
 
 pub round-other : (v : Values) (k : Kind) (c : Found) → Among (0 ∷ 1 ∷ 2 ∷ []) k → c ≡ goneRound v k c
 unfolding goneRound

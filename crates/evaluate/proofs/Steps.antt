@@ -16,7 +16,7 @@ use Rattle.table.specs.declared.Most.{Most}
 use Rattle.lists.specs.Operations.{capPairs, first, groupPairs}
 use Rattle.lists.specs.Pairs.{Pairs, ever, top, width}
 use Rattle.evaluate.specs.Evaluate.{Values, outward}
-use Rattle.evaluate.specs.Evaluator.{Found, andThen, checked, evaluateBelow, evaluateMore, evaluateNode, found, goneRound, held, joinPairs, joined, limited, looked, looped, unfit}
+use Rattle.evaluate.specs.Evaluator.{Found, andThen, checked, evaluateBelow, evaluateMore, evaluateNode, found, goneRound, nextHolder, joinPairs, joined, limited, looked, looped, unfit}
 use Rattle.evaluate.specs.Shown.{withNext}
 
 -- ---- steps
@@ -32,7 +32,7 @@ unfolding joined
 joined-wide k i s c l = rw (lt-leb (width (s .pairs) + width (c .pairs)) mostWeight l) refl
 
 pub joined-room : (k : Kind) (i : ℕ) (s c : Found) → width (s .pairs) + width (c .pairs) ≤ mostWeight
-    → joined k i s c ≡ checked (joinPairs k (s .pairs) (c .pairs)) (min (s .named) (c .named)) (s .records + c .records) (held k (s .branch) (top (s .pairs)) i (top (c .pairs)))
+    → joined k i s c ≡ checked (joinPairs k (s .pairs) (c .pairs)) (min (s .named) (c .named)) (s .records + c .records) (nextHolder k (s .branch) (top (s .pairs)) i (top (c .pairs)))
 unfolding joined
 joined-room k i s c l = rw (le-leb (width (s .pairs) + width (c .pairs)) mostWeight l) refl
 

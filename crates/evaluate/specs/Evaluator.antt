@@ -46,20 +46,20 @@ joinPairs Choice r s = mergePairs r s
 joinPairs (Loop n) r s = addPairs r s
 
 -- which of a choice's children holds the largest first member: child c, whose is x, or the next one, number i, where its first member y is larger
-unfoldable pub held : Kind → (c x i y : ℕ) → ℕ
-held (Block t) c x i y = noBranch
-held Sequence c x i y = noBranch
-held Choice c x i y = cond (leb y x) c i
-held (Loop n) c x i y = noBranch
+unfoldable pub nextHolder : Kind → (c x i y : ℕ) → ℕ
+nextHolder (Block t) c x i y = noBranch
+nextHolder Sequence c x i y = noBranch
+nextHolder Choice c x i y = cond (leb y x) c i
+nextHolder (Loop n) c x i y = noBranch
 
 -- the children so far, and the next one, child number i
 unfoldable pub joined : Kind → (i : ℕ) → Found → Found → Found
 joined k i s c =
     cond (leb (width (s .pairs) + width (c .pairs)) mostWeight)
-    (checked (joinPairs k (s .pairs) (c .pairs)) (min (s .named) (c .named)) (s .records + c .records) (held k (s .branch) (top (s .pairs)) i (top (c .pairs))))
+    (checked (joinPairs k (s .pairs) (c .pairs)) (min (s .named) (c .named)) (s .records + c .records) (nextHolder k (s .branch) (top (s .pairs)) i (top (c .pairs))))
     unfit
 
--- a loop of bound n over its body: the first sum where the body names this very loop, else groups of n
+-- a loop of bound n over its body: the first sum where the body names this very loop, else groups of n; joining leaves the body's branch behind
 unfoldable pub looped : ℕ → Found → Found
 looped n c =
     cond (leb n mostCount)

@@ -8,7 +8,7 @@ ghost use Rattle.table.specs.Trees.{rest};
 ghost use Rattle.lists.specs.Pairs.{ever};
 ghost use Rattle.lists.specs.Reading.{Addable, Is, Mergeable, Proper, listIn, pairsOf};
 ghost use Rattle.evaluate.specs.Evaluate.{amount, outward, valuesOf};
-ghost use Rattle.evaluate.specs.Evaluator.{andThen, checked, evaluateNode, goneRound, held, joinPairs, joined, limited, looked, looped, triangleIn};
+ghost use Rattle.evaluate.specs.Evaluator.{andThen, checked, evaluateNode, goneRound, nextHolder, joinPairs, joined, limited, looked, looped, triangleIn};
 ghost use Rattle.evaluate.specs.Shown.{Ready, Roomy, Shows, evaluateChildren, foundIn, withNext};
 use lists::List;
 use lists::MOST_PAIRS;
@@ -210,8 +210,8 @@ fn join_lists(
 
 // Which of a choice's children holds the largest first member: the next one, where its first member is larger than `largest`, which child `holder` has.
 // A node of another kind has no branch, whatever its children have.
-fn holder_of(kind: Kind, holder: usize, largest: u64, number: usize, first: u64) -> usize
-    ensures { λ r. ⌜ r ≡ held kind holder largest number first ⌝ }
+fn next_holder(kind: Kind, holder: usize, largest: u64, number: usize, first: u64) -> usize
+    ensures { λ r. ⌜ r ≡ nextHolder kind holder largest number first ⌝ }
 {
     match kind {
         Kind::Choice => { if first <= largest { holder } else { number } }
@@ -237,7 +237,7 @@ fn join_in(
     if MOST_PAIRS < al + bl - 1 {
         return Valued::UNFIT;
     }
-    let branch = holder_of(kind, done.branch, out[0], number, list[0]);
+    let branch = next_holder(kind, done.branch, out[0], number, list[0]);
     let n = join_lists(kind, out, al, list, bl, spare);
     check_top(
         out,

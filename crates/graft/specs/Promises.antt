@@ -28,7 +28,7 @@ pub record GraftPromised (host sent : List ℕ) (symbol : ℕ) (written : List �
   -- the grafted figure equals the host's figure with the symbol set to the sent table's figure, wherever all three figures exist
   pub figures : (values : List ℕ) → Quoted sent values → Quoted host (hostValues sent symbol values) → Quoted written values
       → quotedFigure (figureAnswer written values) ≡ quotedFigure (figureAnswer host (hostValues sent symbol values))
-  -- where the sent table has a figure, the other two answers are the same, refusals too
+  -- where the sent table has a figure, the other two answers are the same, in figure and branch and in refusals
   pub answers : (values : List ℕ) → Quoted sent values → figureAnswer written values ≡ figureAnswer host (hostValues sent symbol values)
   -- and where the host uses the symbol, the written table has a figure only where both of them have one
   pub exist : T (uses symbol (decode host)) → (values : List ℕ) → Quoted written values → Quoted sent values × Quoted host (hostValues sent symbol values)

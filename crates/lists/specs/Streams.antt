@@ -44,7 +44,7 @@ taken f g (suc n) = next f g (taken f g n)
 unfoldable pub merge : Stream → Stream → Stream
 merge f g n = max (f (taken f g n .0)) (g (taken f g n .1))
 
--- and which list holds the first of them, the largest, counted from 0 (document 02, CR 5): f, the first, or where g's first member is larger the one that
--- is number c of the lists that g takes together
+-- Which list holds the first of them, counted from 0 (document 02, CR 5). f is number 0 and has it unless g's first member is larger; g is itself lists taken
+-- together, of which number c holds its first.
 unfoldable pub holder : (f g : Stream) (c : ℕ) → ℕ
 holder f g c = cond (leb (g 0) (f 0)) 0 (suc c)

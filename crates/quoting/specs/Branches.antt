@@ -18,8 +18,8 @@ unfoldable pub firstMembers : Values → Forest → List ℕ
 firstMembers v nil = []
 firstMembers v (t ▸ f) = list v t 0 ∷ firstMembers v f
 
--- number c, counted from 0, is the largest: none before it is as large, and none after it is larger
-pub record Largest (xs : List ℕ) (c : ℕ) : Type 0 where
+-- number c, counted from 0, is the first of the largest: none before it is as large, and none after it is larger
+pub record FirstLargest (xs : List ℕ) (c : ℕ) : Type 0 where
   pub child : c < length xs
   pub before : (i : ℕ) → i < c → getD xs i 0 < getD xs c 0
   pub after : (i : ℕ) → c < i → getD xs i 0 ≤ getD xs c 0
@@ -29,7 +29,7 @@ pub record Largest (xs : List ℕ) (c : ℕ) : Type 0 where
 unfoldable pub Branched : Values → Kind → Limit → Forest → (x c : ℕ) → Type 0
 Branched v (Block t) l f x c = c ≡ noBranch
 Branched v Sequence l f x c = c ≡ noBranch
-Branched v Choice l f x c = Largest (firstMembers v f) c × (l ≡ Unlimited → getD (firstMembers v f) c 0 ≡ x)
+Branched v Choice l f x c = FirstLargest (firstMembers v f) c × (l ≡ Unlimited → getD (firstMembers v f) c 0 ≡ x)
 Branched v (Loop n) l f x c = c ≡ noBranch
 
 unfoldable pub BranchOf : Values → Tree → (x c : ℕ) → Type 0

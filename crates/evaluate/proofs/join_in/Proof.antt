@@ -18,14 +18,14 @@ returns c =
     let (s, (d, l)) = c .before .pre in
     (unfit-shown (s .room) (joined-wide _ _ _ _ (omega (arith, len-width (s .proper), len-width (d .proper)))), l)
 
-element-copy-out-holder-of : tie.Need-element-copy-out-holder-of
-element-copy-out-holder-of c = search needs
+element-copy-out-next-holder : tie.Need-element-copy-out-next-holder
+element-copy-out-next-holder c = search needs
 
-element-copy-out-holder-of-2 : tie.Need-element-copy-out-holder-of-2
-element-copy-out-holder-of-2 c = search needs
+element-copy-out-next-holder-2 : tie.Need-element-copy-out-next-holder-2
+element-copy-out-next-holder-2 c = search needs
 
-holder-of-requires : tie.Need-holder-of-requires
-holder-of-requires c κs = search needs
+next-holder-requires : tie.Need-next-holder-requires
+next-holder-requires c κs = search needs
 
 join-lists-requires : tie.Need-join-lists-requires
 join-lists-requires c κs =
@@ -54,7 +54,7 @@ returns-2 c =
     let a = start .args in
     let (s, (d, l)) = start .pre in
     let room = joined-room (a .kind) (a .number) (foundIn (a .done) (a .out .now)) (foundIn (a .child) (a .list .now)) (omega (arith, len-width (s .proper), len-width (d .proper))) in
-    (rw (room, first-top (s .proper), first-top (d .proper), ← holder .holder-of .ensures, ← inner .inner-of .ensures, ← join .join-lists .ensures .0 .pairs) (c .check-top .ensures), join .join-lists .ensures .1)
+    (rw (room, first-top (s .proper), first-top (d .proper), ← holder .next-holder .ensures, ← inner .inner-of .ensures, ← join .join-lists .ensures .0 .pairs) (c .check-top .ensures), join .join-lists .ensures .1)
 
 pub join-in-spec : {M : Type 1} → statement M
 join-in-spec =
@@ -63,9 +63,9 @@ join-in-spec =
     add-if1
     sub-if1
     returns
-    element-copy-out-holder-of
-    element-copy-out-holder-of-2
-    holder-of-requires
+    element-copy-out-next-holder
+    element-copy-out-next-holder-2
+    next-holder-requires
     join-lists-requires
     inner-of-requires
     add-check-top

@@ -9,16 +9,16 @@ use Rattle.table.specs.Trees.{Tree, Forest, nil, node, _▸_, rest, size}
 use Rattle.lists.specs.Streams.{Stream, const, holder, merge, taken}
 use Rattle.evaluate.specs.Nodes.{Kind, Block, Sequence, Choice, Loop}
 use Rattle.evaluate.specs.Evaluate.{Values, before, branchIn, holderIn, join, list, name, noBranch, start, turns}
-use Rattle.evaluate.specs.Evaluator.{held}
+use Rattle.evaluate.specs.Evaluator.{nextHolder}
 
 -- a child's list, as its parent takes it
 abbrev pub childList : Values → Kind → Tree → Stream
 childList v k t = turns v k (name t) (list v t)
 
--- after the children f, numbers i and on, where child c holds the first member of the list a of those before them
-unfoldable pub leads : Values → Kind → (c i : ℕ) → Stream → Forest → ℕ
-leads v k c i a nil = c
-leads v k c i a (t ▸ f) = leads v (rest k) (held k c (a 0) i (childList v k t 0)) (suc i) (join k a (childList v k t)) f
+-- which child holds the largest first member after the children f, numbers i and on, where child c holds the first member of the list a of those before
+unfoldable pub holderAfter : Values → Kind → (c i : ℕ) → Stream → Forest → ℕ
+holderAfter v k c i a nil = c
+holderAfter v k c i a (t ▸ f) = holderAfter v (rest k) (nextHolder k c (a 0) i (childList v k t 0)) (suc i) (join k a (childList v k t)) f
 
 -- ---- a choice
 
@@ -46,11 +46,11 @@ next-holds x y z c i h = go (leb y x) (leb z x) (leb z y) refl refl refl
         rw (lt-leb z (max x y) (omega arith), lt-leb (max y z) x (omega arith)) (omega arith)
 
 -- those before keep it, unless one of f is larger
-choice-leads : (v : Values) (c i : ℕ) (a : Stream) (f : Forest) → leads v Choice c i a f ≡ cond (leb (before v Choice f 0) (a 0)) c (i + holderIn v f)
-unfolding leads before start const rest held turns join merge taken holderIn holder
-choice-leads v c i a nil = rw (le-leb 0 (a 0) (omega arith)) refl
-choice-leads v c i a (node n g ▸ f) =
-    choice-leads v _ (suc i) (merge a (list v (node n g))) f ∙ next-holds (a 0) (list v (node n g) 0) (before v Choice f 0) c i (holderIn v f)
+choice-after : (v : Values) (c i : ℕ) (a : Stream) (f : Forest) → holderAfter v Choice c i a f ≡ cond (leb (before v Choice f 0) (a 0)) c (i + holderIn v f)
+unfolding holderAfter before start const rest nextHolder turns join merge taken holderIn holder
+choice-after v c i a nil = rw (le-leb 0 (a 0) (omega arith)) refl
+choice-after v c i a (node n g ▸ f) =
+    choice-after v _ (suc i) (merge a (list v (node n g))) f ∙ next-holds (a 0) (list v (node n g) 0) (before v Choice f 0) c i (holderIn v f)
 
 -- where every first member is 0, the first child holds it
 zero-holder : (v : Values) (f : Forest) → leb (before v Choice f 0) 0 ≡ true → holderIn v f ≡ 0
@@ -60,9 +60,9 @@ zero-holder v (node n g ▸ f) e =
     let l = leb-true (max (list v (node n g) 0) (before v Choice f 0)) 0 e in
     rw (le-leb (before v Choice f 0) (list v (node n g) 0) (omega arith)) refl
 
-choice-branch : (v : Values) (f : Forest) → leads v Choice 0 0 (const 0) f ≡ holderIn v f
+choice-branch : (v : Values) (f : Forest) → holderAfter v Choice 0 0 (const 0) f ≡ holderIn v f
 unfolding const
-choice-branch v f = choice-leads v 0 0 (const 0) f ∙ go (leb (before v Choice f 0) 0) refl
+choice-branch v f = choice-after v 0 0 (const 0) f ∙ go (leb (before v Choice f 0) 0) refl
   where
     go : (b : Bool) → leb (before v Choice f 0) 0 ≡ b → cond b 0 (0 + holderIn v f) ≡ holderIn v f
     go true e = sym (zero-holder v f e)
@@ -70,17 +70,17 @@ choice-branch v f = choice-leads v 0 0 (const 0) f ∙ go (leb (before v Choice 
 
 -- ---- the others
 
-sequence-leads : (v : Values) (i : ℕ) (a : Stream) (f : Forest) → leads v Sequence noBranch i a f ≡ noBranch
-unfolding leads rest held
-sequence-leads v i a nil = refl
-sequence-leads v i a (t ▸ f) = sequence-leads v (suc i) _ f
+sequence-after : (v : Values) (i : ℕ) (a : Stream) (f : Forest) → holderAfter v Sequence noBranch i a f ≡ noBranch
+unfolding holderAfter rest nextHolder
+sequence-after v i a nil = refl
+sequence-after v i a (t ▸ f) = sequence-after v (suc i) _ f
 
 -- ---- all kinds
 
-pub branch-leads : (v : Values) (k : Kind) (f : Forest) → 0 < size f → leads v k 0 0 (const 0) f ≡ branchIn v k f
-unfolding leads branchIn size rest held
-branch-leads v k nil l = absurd (omega arith)
-branch-leads v (Block b) (t ▸ f) l = sequence-leads v 1 _ f
-branch-leads v Sequence (t ▸ f) l = sequence-leads v 1 _ f
-branch-leads v Choice (t ▸ f) l = choice-branch v (t ▸ f)
-branch-leads v (Loop n) (t ▸ f) l = sequence-leads v 1 _ f
+pub branch-after : (v : Values) (k : Kind) (f : Forest) → 0 < size f → holderAfter v k 0 0 (const 0) f ≡ branchIn v k f
+unfolding holderAfter branchIn size rest nextHolder
+branch-after v k nil l = absurd (omega arith)
+branch-after v (Block b) (t ▸ f) l = sequence-after v 1 _ f
+branch-after v Sequence (t ▸ f) l = sequence-after v 1 _ f
+branch-after v Choice (t ▸ f) l = choice-branch v (t ▸ f)
+branch-after v (Loop n) (t ▸ f) l = sequence-after v 1 _ f

@@ -17,8 +17,8 @@ use Rattle.lists.specs.Laws.Sums.{Falls, const-falls}
 use Rattle.lists.specs.Laws.Union.{expand-ever}
 use Rattle.evaluate.specs.Nodes.{Kind, Block, Sequence, Choice, Loop}
 use Rattle.evaluate.specs.Evaluate.{Values, start, join, before, fits, fitsIn, nameIn, amount, name, list, seen, figure, branchIn, noBranch}
-use Rattle.evaluate.specs.Evaluator.{Agree, Found, evaluateMore, evaluateBelow, held, noneYet}
-use Rattle.evaluate.specs.Laws.Branch.{branch-leads, childList, leads}
+use Rattle.evaluate.specs.Evaluator.{Agree, Found, evaluateMore, evaluateBelow, nextHolder, noneYet}
+use Rattle.evaluate.specs.Laws.Branch.{branch-after, childList, holderAfter}
 use Rattle.evaluate.specs.Laws.Found.{Finds, Holds, known-finds, same-finds, found-holds, checked-finds, then-finds, joined-finds, round-finds}
 use Rattle.evaluate.specs.Laws.Joins.{join-zero, zero-join, join-assoc, join-left, join-right, rest-join}
 use Rattle.evaluate.specs.Laws.Monotone.{before-falls, nameIn-le, list-falls, turns-falls, join-falls}
@@ -41,7 +41,7 @@ pub record Within (v : Values) (a : Stream) (k : Kind) (f : Forest) : Type 0 whe
 
 -- a walk of the children f, numbers i and on, after those of the list a, of which child c holds the largest first member
 abbrev pub More : (v : Values) (a : Stream) (w j m c i : ℕ) (k : Kind) (f : Forest) → Found → Type 0
-More v a w j m c i k f e = Finds (Within v a k f) e (join k a (before v k f)) (w + boundIn k f) (min j (nameIn k f)) (m + recordsIn f) (leads v k c i a f)
+More v a w j m c i k f e = Finds (Within v a k f) e (join k a (before v k f)) (w + boundIn k f) (min j (nameIn k f)) (m + recordsIn f) (holderAfter v k c i a f)
 
 -- what was found of the children so far
 pub record SoFar (s : Found) (a : Stream) (w j m c : ℕ) : Type 0 where
@@ -52,7 +52,7 @@ pub record SoFar (s : Found) (a : Stream) (w j m c : ℕ) : Type 0 where
 
 -- when none is left
 pub no-more : (v : Values) (k : Kind) (a : Stream) (w j m c i : ℕ) (s : Found) → start v k ≡ const 0 → SoFar s a w j m c → More v a w j m c i k nil s
-unfolding fits before boundIn nameIn recordsIn leads
+unfolding fits before boundIn nameIn recordsIn holderAfter
 no-more v k a w j m c o s e h =
     let i : a ≡ join k a (start v k) = sym (join-zero k a (h .falls)) ∙ ap (join k a) (sym e) in
     same-finds (λ x. record { low = rw (← i) x; fits = tt }) (λ x. h .low) i (omega arith) (omega arith) (omega arith) refl (known-finds (h .low) (h .holds))
@@ -63,7 +63,7 @@ unfolding const Canonical width
 none-yet = record { holds = found-holds (const 0) (ever 0) 0 wholeRun 0 0 (are-pairs tt (expand-ever 0)) (omega arith); falls = const-falls 0; low = omega arith; inner = omega arith }
 
 -- from no children on
-pub from-none : (v : Values) (k : Kind) (f : Forest) (e : Found) {c : ℕ} → leads v k 0 0 (const 0) f ≡ c → More v (const 0) 0 wholeRun 0 0 0 k f e
+pub from-none : (v : Values) (k : Kind) (f : Forest) (e : Found) {c : ℕ} → holderAfter v k 0 0 (const 0) f ≡ c → More v (const 0) 0 wholeRun 0 0 0 k f e
     → Finds ((before v k f 0 ≤ mostTime) × T (fitsIn v f)) e (before v k f) (boundIn k f) (nameIn k f) (recordsIn f) c
 from-none v k f e y h =
     let i : join k (const 0) (before v k f) ≡ before v k f = zero-join k _ (before-falls v k f) in
@@ -78,9 +78,9 @@ below-finds u v agree (Block t) nil g b r i q =
     rw (time-alike u v agree t r)
     (same-finds (λ x. (x, tt)) (λ x. x .0) refl refl refl refl refl (checked-finds (const (amount v t)) (ever (amount v t)) 0 wholeRun 0 noBranch (are-pairs tt (expand-ever (amount v t))) (omega arith)))
 below-finds u v agree (Block t) (c ▸ f) g b r i q = absurd (omega (arith, eqb→eq (suc (size f)) 0 i))
-below-finds u v agree Sequence f g b r i q = from-none v Sequence f _ (branch-leads v Sequence f (leb→le 1 (size f) (both _ _ i .0))) (q refl)
-below-finds u v agree Choice f g b r i q = from-none v Choice f _ (branch-leads v Choice f (leb→le 1 (size f) (both _ _ i .0))) (q refl)
-below-finds u v agree (Loop m) f g b r i q = from-none v (Loop m) f _ (branch-leads v (Loop m) f (omega (arith, eqb→eq (size f) 2 i))) (q refl)
+below-finds u v agree Sequence f g b r i q = from-none v Sequence f _ (branch-after v Sequence f (leb→le 1 (size f) (both _ _ i .0))) (q refl)
+below-finds u v agree Choice f g b r i q = from-none v Choice f _ (branch-after v Choice f (leb→le 1 (size f) (both _ _ i .0))) (q refl)
+below-finds u v agree (Loop m) f g b r i q = from-none v (Loop m) f _ (branch-after v (Loop m) f (omega (arith, eqb→eq (size f) 2 i))) (q refl)
 
 -- ---- the next child
 
@@ -92,11 +92,11 @@ module _ (u v : Values) (agree : Agree u v) (ranged : (k : ℕ) → k < firstTim
   pub next-more : (k : Kind) (t : Tree) (f : Forest) (g : List ℕ → Found) (b : List ℕ) (a : Stream) (w j m z o : ℕ) (s : Found) {y : ℕ}
       → SoFar s a w j m z → T (kindInRange k) → w + boundIn k (t ▸ f) ≤ mostWeight
       → Finds (T (fits v t)) (g (drop (recordLength * s .records) b)) (list v t) (bound t) (name t) (records t) y
-      → let x = childList v k t in let p = held k z (a 0) o (x 0) in
+      → let x = childList v k t in let p = nextHolder k z (a 0) o (x 0) in
       ((e : Found) → SoFar e (join k a x) (w + grouped k (name t) (bound t)) (min j (seen k (name t))) (m + records t) p
       → More v (join k a x) (w + grouped k (name t) (bound t)) (min j (seen k (name t))) (m + records t) p (suc o) (rest k) f (evaluateMore u g (rest k) (suc o) (size f) b e))
       → More v a w j m z o k (t ▸ f) (evaluateMore u g k o (size (t ▸ f)) b s)
-  unfolding fits before boundIn nameIn recordsIn evaluateMore size leads
+  unfolding fits before boundIn nameIn recordsIn evaluateMore size holderAfter
   next-more k t f g b a w j m z o s h i l c q =
       same-finds
       (λ p. record { low = omega (arith, whole, p .1 .1 .1 .low); fits = join-and _ _ (p .0) (p .1 .1 .1 .fits) })

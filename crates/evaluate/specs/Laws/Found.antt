@@ -18,7 +18,7 @@ use Rattle.lists.specs.Laws.Pairs.{members, first-top, are-pairs, top-is}
 use Rattle.lists.specs.Laws.Union.{merge-facts, expand-ever}
 use Rattle.evaluate.specs.Nodes.{Kind, Block, Sequence, Choice, Loop, Limit, Unlimited, AtMost}
 use Rattle.evaluate.specs.Evaluate.{join, outward, rounds, Values, amount, inner, seen, limit, turns, allowed}
-use Rattle.evaluate.specs.Evaluator.{Agree, Found, alike, held, joinPairs, unfit, found, checked, joined, looped, goneRound, limited}
+use Rattle.evaluate.specs.Evaluator.{Agree, Found, alike, nextHolder, joinPairs, unfit, found, checked, joined, looped, goneRound, limited}
 use Rattle.evaluate.specs.Laws.PairCount.{own}
 use Rattle.evaluate.specs.Laws.Settled.{allowed-most, amount-most}
 use Rattle.evaluate.specs.Laws.Kinds.{grouped}
@@ -99,7 +99,7 @@ same-finds {e = e} a b i₁ i₂ i₃ i₄ i₅ h = record {
 -- ---- the steps
 
 pub joined-finds : (k : Kind) (o : ℕ) (s c : Found) (f g : Stream) (w u i j m n x y : ℕ) → Holds s f w i m x → Holds c g u j n y → w + u ≤ mostWeight
-    → Finds (join k f g 0 ≤ mostTime) (joined k o s c) (join k f g) (w + u) (min i j) (m + n) (held k x (f 0) o (g 0))
+    → Finds (join k f g 0 ≤ mostTime) (joined k o s c) (join k f g) (w + u) (min i j) (m + n) (nextHolder k x (f 0) o (g 0))
 unfolding joined
 joined-finds k o s c f g w u i j m n x y a b l =
     let q = join-facts k (s .pairs) (c .pairs) (a .are .canonical) (b .are .canonical) in
