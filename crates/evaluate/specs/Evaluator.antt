@@ -30,7 +30,7 @@ unfit = record { pairs = ever 0; named = wholeRun; records = 0; branch = noBranc
 abbrev pub found : Pairs → (named records branch : ℕ) → Found
 found p k n c = record { pairs = p; named = k; records = n; branch = c; fits = true }
 
--- before a node's first child
+-- before a node's first child: child 0 has the branch until a later one is larger
 abbrev pub noneYet : Found
 noneYet = found (ever 0) wholeRun 0 0
 

@@ -8,7 +8,7 @@ ghost use Rattle.table.specs.Trees.{rest};
 ghost use Rattle.lists.specs.Pairs.{ever};
 ghost use Rattle.lists.specs.Reading.{Addable, Is, Mergeable, Proper, listIn, pairsOf};
 ghost use Rattle.evaluate.specs.Evaluate.{amount, outward, valuesOf};
-ghost use Rattle.evaluate.specs.Evaluator.{andThen, checked, evaluateNode, goneRound, nextHolder, joinPairs, joined, limited, looked, looped, triangleIn};
+ghost use Rattle.evaluate.specs.Evaluator.{andThen, checked, evaluateNode, goneRound, joinPairs, joined, limited, looked, looped, nextHolder, triangleIn};
 ghost use Rattle.evaluate.specs.Shown.{Ready, Roomy, Shows, evaluateChildren, foundIn, withNext};
 use lists::List;
 use lists::MOST_PAIRS;
@@ -24,7 +24,7 @@ use table::RECORD_LENGTH;
 use table::WHOLE_RUN;
 
 // The branch of a node that is no choice: a choice has at most 255 children, so that no child has this number.
-pub const NO_BRANCH: usize = 255;
+const NO_BRANCH: usize = 255;
 
 // An array with room for any list.
 type Pairs = [u64; 2 * MOST_PAIRS];

@@ -35,7 +35,8 @@ fn allowance() -> Allowance {
     arguments::allowance_of(&argument[..len])
 }
 
-// Puts the line of a written table into the buffer; answers its length. The bytes before its ending are at most 58: two words of 11 and 7, and two numbers of 20 digits.
+// Puts the line of a written table into the buffer; answers its length. The bytes before its ending are at most 58: two words of 11 and 7, and two numbers
+// of 20 digits.
 fn put_line(line: &mut [u8], len: u64, steps: u64, ending: &[u8]) -> usize
     requires { ⌜ 58 + length (now ending) ≤ length (now line) ⌝ }
     ensures { λ r. ⌜ Counts r (now (line .exit)) ⌝ }

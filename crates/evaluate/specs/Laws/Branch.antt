@@ -45,7 +45,7 @@ next-holds x y z c i h = go (leb y x) (leb z x) (leb z y) refl refl refl
         let m = leb-false z y s in
         rw (lt-leb z (max x y) (omega arith), lt-leb (max y z) x (omega arith)) (omega arith)
 
--- those before keep it, unless one of f is larger
+-- Those before keep it, unless one of f is larger. A child is taken apart to its node, so that its own limit shows.
 choice-after : (v : Values) (c i : ℕ) (a : Stream) (f : Forest) → holderAfter v Choice c i a f ≡ cond (leb (before v Choice f 0) (a 0)) c (i + holderIn v f)
 unfolding holderAfter before start const rest nextHolder turns join merge taken holderIn holder
 choice-after v c i a nil = rw (le-leb 0 (a 0) (omega arith)) refl
