@@ -1,32 +1,28 @@
-//! Links `libvolefleece.a`, from `../target/staticlib` or from the folder in `VOLEFLEECE_LIB_DIR`, and `libprobes.a`, always from
-//! the first, and builds the library that tests load into the programs.
+//! Links `libprobes.a`, from `../target/staticlib`, and builds the library that tests load into the programs.
 
 use std::env;
-use std::path::{Path, PathBuf};
+use std::path::PathBuf;
 use std::process::Command;
-
-const LIB_DIR: &str = "VOLEFLEECE_LIB_DIR";
 
 /// What the programs' calls of the C library go through where a test wants one to fail.
 const CALLS: &str = "preload/calls.rs";
 
 fn main() {
-    println!("cargo:rerun-if-env-changed={LIB_DIR}");
-    link("volefleece", &lib_dir());
-    link("probes", &built_here());
+    link_probes();
     build_calls();
 }
 
-fn link(name: &str, dir: &Path) {
-    let archive = dir.join(format!("lib{name}.a"));
+fn link_probes() {
+    let folder = set_by_cargo("CARGO_MANIFEST_DIR").join("../target/staticlib");
+    let archive = folder.join("libprobes.a");
     println!("cargo:rerun-if-changed={}", archive.display());
     assert!(
         archive.is_file(),
-        "{} is missing: build it with `rt staticlib {name}`; {LIB_DIR} may name another folder for libvolefleece.a",
+        "{} is missing: build it with `rt staticlib probes`",
         archive.display()
     );
-    println!("cargo:rustc-link-search=native={}", dir.display());
-    println!("cargo:rustc-link-lib=static={name}");
+    println!("cargo:rustc-link-search=native={}", folder.display());
+    println!("cargo:rustc-link-lib=static=probes");
 }
 
 fn build_calls() {
@@ -46,17 +42,6 @@ fn build_calls() {
     assert!(status.is_ok_and(|status| status.success()), "rustc {CALLS}");
     println!("cargo:rerun-if-changed={CALLS}");
     println!("cargo:rustc-env=VOLEFLEECE_CALLS={}", library.display());
-}
-
-fn lib_dir() -> PathBuf {
-    match env::var_os(LIB_DIR) {
-        Some(dir) => PathBuf::from(dir),
-        None => built_here(),
-    }
-}
-
-fn built_here() -> PathBuf {
-    set_by_cargo("CARGO_MANIFEST_DIR").join("../target/staticlib")
 }
 
 fn set_by_cargo(variable: &str) -> PathBuf {

@@ -1,11 +1,11 @@
 //! One table, both readers: their answers must agree, and the library must leave the table alone.
 //! Whatever is lent to a call, to be read or written, stands between bytes that it may not change.
 
-use crate::ffi::{self, Checked};
 use crate::format::{LIMIT_IS_TRIANGULAR, RECORD_BYTES};
 use crate::reader;
 use crate::rng::Rng;
 use std::fmt::Debug;
+use volefleece::raw::{self, Checked};
 
 /// Bytes on both sides of what is lent.
 const SIDE: usize = 32;
@@ -87,7 +87,7 @@ impl Comparison {
     pub fn check(&mut self, table: &[u8]) -> Checked {
         let shift = self.rng.index(16);
         let filler = self.rng.pick(&[0, 1, 255]);
-        let answer = lend(table, shift, filler, ffi::check);
+        let answer = lend(table, shift, filler, raw::check);
         let second = second_check(table);
         assert!(
             answer == second,

@@ -3,10 +3,10 @@
 //! writes must be a table that checking accepts.
 
 use crate::compare::{lend, lend_out, shown};
-use crate::ffi::{self, Checked, Grafted};
 use crate::format::RECORD_BYTES;
 use crate::grafter;
 use crate::rng::Rng;
+use volefleece::raw::{self, Checked, Grafted};
 
 /// The table that the library wrote, or its refusal, on a buffer of so many bytes.
 pub fn graft(
@@ -22,7 +22,7 @@ pub fn graft(
     let (answer, bytes) = lend_out(rng, room, length, |out| {
         lend(host, shifts[0], filler, |host| {
             lend(sent, shifts[1], filler, |sent| {
-                ffi::graft(host, sent, symbol, out)
+                raw::graft(host, sent, symbol, out)
             })
         })
     });
@@ -74,7 +74,7 @@ impl Grafts {
         match &answer {
             Ok(written) => {
                 let accepted = Checked::accept(written.len() / RECORD_BYTES);
-                assert_eq!(ffi::check(written), accepted, "{}", shown(written));
+                assert_eq!(raw::check(written), accepted, "{}", shown(written));
                 // A graft adds the sent table and one record: the loop's is the block's own.
                 let places = (written.len() - host.len()) / (sent.len() + RECORD_BYTES);
                 self.refused[0] += 1;

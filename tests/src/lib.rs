@@ -10,7 +10,7 @@
 //! - `fits`: where the rules of simplifying fit, for small tables.
 //! - `members`, `runs`: lists member by member with their branches, and the dearest run, both for small
 //!   trees.
-//! - `ffi`: the library's functions and the probes, declared and wrapped.
+//! - `probes`: the library's inner functions that tests and benchmark call.
 //! - `notation`: trees as docs/FORMAT.md writes them on a line.
 //! - `tables`, `cases`: hand-written tables, and document 01's cases.
 //! - `damage`, `faults`, `noise`: tables that are wrong in some way.
@@ -30,7 +30,6 @@ pub mod damage;
 pub mod evaluator;
 pub mod faults;
 pub mod fenced;
-pub mod ffi;
 pub mod fits;
 pub mod format;
 pub mod grafter;
@@ -38,6 +37,7 @@ pub mod grafts;
 pub mod members;
 pub mod noise;
 pub mod notation;
+pub mod probes;
 pub mod programs;
 pub mod quotes;
 pub mod reader;

@@ -3,17 +3,17 @@
 
 use crate::compare::{has_flag_4, lend, shown};
 use crate::evaluator::{self, Pair, Quoted};
-use crate::ffi::{self, Figure, Listed};
 use crate::format::LIST_ROOM;
 use crate::rng::Rng;
 use std::ops::RangeInclusive;
+use volefleece::raw::{self, Figure, Listed};
 
 /// Numbers on both sides of what is lent, which no answer may depend on.
 const SIDE: usize = 4;
 
 /// The library's figure and branch, or its refusal, from a lent table and lent values.
 pub fn figure(rng: &mut Rng, table: &[u8], values: &[u64]) -> Result<Quoted, u64> {
-    let answer = lend_all(rng, table, values, ffi::figure);
+    let answer = lend_all(rng, table, values, raw::figure);
     match answer {
         Figure {
             refused: 0,
@@ -44,7 +44,7 @@ pub fn list(rng: &mut Rng, table: &[u8], values: &[u64], room: usize) -> Result<
     let mut after = before.clone();
     let out = &mut after[SIDE..SIDE + room];
     let answer = lend_all(rng, table, values, |table, values| {
-        ffi::list(table, values, out)
+        raw::list(table, values, out)
     });
     let pairs = match answer {
         Listed { refused: 0, pairs } => usize::try_from(pairs).expect("a small number"),

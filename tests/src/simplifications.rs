@@ -2,10 +2,10 @@
 //! writes must be the second simplifier's, and it may change nothing but the front of its buffer.
 
 use crate::compare::{has_flag_4, lend, lend_out, shown};
-use crate::ffi;
 use crate::rng::Rng;
 use crate::simplifier::{self, Simplified, Trace};
 use crate::trees::Tree;
+use volefleece::raw;
 
 /// The library's answer with the table that it wrote, or its refusal, on a buffer of so many bytes.
 pub fn simplify(
@@ -15,14 +15,14 @@ pub fn simplify(
     room: usize,
 ) -> Result<Simplified, u64> {
     let (shift, filler) = (rng.index(16), rng.pick(&[0, 1, 255]));
-    let length = |answer: &ffi::Simplified| answer.length;
+    let length = |answer: &raw::Simplified| answer.length;
     let (answer, bytes) = lend_out(rng, room, length, |out| {
         lend(table, shift, filler, |table| {
-            ffi::simplify(table, allowance, out)
+            raw::simplify(table, allowance, out)
         })
     });
     match answer {
-        ffi::Simplified {
+        raw::Simplified {
             refused: 0,
             steps,
             finished: finished @ 0..=1,
@@ -32,7 +32,7 @@ pub fn simplify(
             steps,
             finished: finished == 1,
         }),
-        ffi::Simplified {
+        raw::Simplified {
             refused: 1..,
             length: 0,
             steps: 0,

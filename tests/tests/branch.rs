@@ -2,9 +2,9 @@
 //! the root, one child and 255, choices below the root, values that move the branch, and simplifying,
 //! which does not keep it. All numbers here are literals.
 
+use volefleece::raw::{self, Figure};
 use volefleece_tests::compare::shown;
 use volefleece_tests::evaluator::{self, Pair, Quoted};
-use volefleece_tests::ffi::{self, Figure};
 use volefleece_tests::quotes;
 use volefleece_tests::rng::Rng;
 use volefleece_tests::simplifications::simplify;
@@ -396,7 +396,7 @@ fn a_refusal_has_neither_figure_nor_branch() {
             figure: 0,
             branch: 0,
         };
-        assert_eq!(ffi::figure(&table, values), nothing, "{}", shown(&table));
+        assert_eq!(raw::figure(&table, values), nothing, "{}", shown(&table));
     }
 }
 

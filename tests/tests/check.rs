@@ -2,8 +2,8 @@
 //! at and past its end, with document 02's flag 4, and the order of the questions. All numbers here
 //! are literals.
 
+use volefleece::raw::{self, Checked};
 use volefleece_tests::compare::{lend, second_check, shown};
-use volefleece_tests::ffi::{self, Checked};
 
 /// Kind, flags, children, byte 3, limit, value.
 type Record = (u8, u8, u8, u8, u32, u64);
@@ -52,7 +52,7 @@ fn in_sequences(sequences: usize, inner: &[Record]) -> Vec<Record> {
 
 #[track_caller]
 fn expect(table: &[u8], expected: Checked) {
-    assert_eq!(ffi::check(table), expected, "the library: {}", shown(table));
+    assert_eq!(raw::check(table), expected, "the library: {}", shown(table));
     assert_eq!(
         second_check(table),
         expected,
@@ -674,8 +674,8 @@ fn every_address_serves() {
     let bad = table(&in_bodies(7, &[limited(8)]));
     for shift in 0..16 {
         for filler in [0, 1, 255] {
-            assert_eq!(lend(&good, shift, filler, ffi::check), Checked::accept(17));
-            assert_eq!(lend(&bad, shift, filler, ffi::check), Checked::refuse(6));
+            assert_eq!(lend(&good, shift, filler, raw::check), Checked::accept(17));
+            assert_eq!(lend(&bad, shift, filler, raw::check), Checked::refuse(6));
         }
     }
 }
@@ -683,15 +683,15 @@ fn every_address_serves() {
 #[test]
 fn empty_slices_are_refused_1() {
     let refused = Checked::refuse(1);
-    assert_eq!(ffi::check(&[]), refused);
-    assert_eq!(ffi::check(&Vec::new()), refused);
+    assert_eq!(raw::check(&[]), refused);
+    assert_eq!(raw::check(&Vec::new()), refused);
     for shift in 0..16 {
-        assert_eq!(lend(&[], shift, 0, ffi::check), refused);
+        assert_eq!(lend(&[], shift, 0, raw::check), refused);
     }
 }
 
 #[test]
 fn constant_tables_serve() {
     static TABLE: [u8; 16] = [0, 0, 0, 0, 0, 0, 0, 0, 7, 0, 0, 0, 0, 0, 0, 0];
-    assert_eq!(ffi::check(&TABLE), Checked::accept(1));
+    assert_eq!(raw::check(&TABLE), Checked::accept(1));
 }

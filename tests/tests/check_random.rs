@@ -2,10 +2,10 @@
 //! answer is known by construction, against that. Each test asserts that it has reached the answers
 //! it is for, so that none passes idly. The seeds are fixed: every run makes the same tables.
 
+use volefleece::raw::Checked;
 use volefleece_tests::compare::Comparison;
 use volefleece_tests::damage::{self, Edit};
 use volefleece_tests::faults;
-use volefleece_tests::ffi::Checked;
 use volefleece_tests::noise;
 use volefleece_tests::reader;
 use volefleece_tests::rng::Rng;

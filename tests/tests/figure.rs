@@ -3,10 +3,10 @@
 //! numbers here are literals. Which branch sets a figure is in `branch.rs`; here it is the second
 //! evaluator's alone.
 
+use volefleece::raw::{self, Checked, Figure, Listed};
 use volefleece_tests::cases::{self, cases};
 use volefleece_tests::compare::{lend, shown};
 use volefleece_tests::evaluator::{self, Pair, Quoted};
-use volefleece_tests::ffi::{self, Checked, Figure, Listed};
 use volefleece_tests::quotes;
 use volefleece_tests::rng::Rng;
 use volefleece_tests::tables::*;
@@ -819,7 +819,7 @@ fn question_13_comes_after_9_and_before_10() {
 fn checking_does_not_ask_question_13() {
     let table = triangular_limited(block(7), 0, 255);
     expect(&table, &ceilings(), 512, Err(13));
-    assert_eq!(ffi::check(&table), Checked::accept(1));
+    assert_eq!(raw::check(&table), Checked::accept(1));
 }
 
 // Question 8.
@@ -835,7 +835,7 @@ fn lists_want_room_for_512_numbers() {
     }
     // Which the figure call does not ask for.
     assert_eq!(
-        ffi::figure(&table, &ZEROS),
+        raw::figure(&table, &ZEROS),
         Figure {
             refused: 0,
             figure: 12,
@@ -988,7 +988,7 @@ fn every_address_serves() {
     let bad = fault(10);
     for shift in 0..16 {
         for filler in [0, 1, 255] {
-            let figure = |table: &[u8]| ffi::figure(table, &ZEROS);
+            let figure = |table: &[u8]| raw::figure(table, &ZEROS);
             let accepted = Figure {
                 refused: 0,
                 figure: 12,
@@ -1002,7 +1002,7 @@ fn every_address_serves() {
             };
             assert_eq!(lend(&bad, shift, filler, figure), refused);
             let mut out = [99; 512];
-            let list = |table: &[u8]| ffi::list(table, &ZEROS, &mut out);
+            let list = |table: &[u8]| raw::list(table, &ZEROS, &mut out);
             let accepted = Listed {
                 refused: 0,
                 pairs: 2,
@@ -1020,12 +1020,12 @@ fn empty_slices_serve() {
         figure: 0,
         branch: 0,
     };
-    assert_eq!(ffi::figure(&[], &[]), refused(1));
-    assert_eq!(ffi::figure(&block(7), &[]), refused(9));
+    assert_eq!(raw::figure(&[], &[]), refused(1));
+    assert_eq!(raw::figure(&block(7), &[]), refused(9));
     let refused = |refused| Listed { refused, pairs: 0 };
-    assert_eq!(ffi::list(&[], &[], &mut []), refused(1));
-    assert_eq!(ffi::list(&block(7), &[], &mut []), refused(8));
-    assert_eq!(ffi::list(&block(7), &[], &mut [0; 512]), refused(9));
+    assert_eq!(raw::list(&[], &[], &mut []), refused(1));
+    assert_eq!(raw::list(&block(7), &[], &mut []), refused(8));
+    assert_eq!(raw::list(&block(7), &[], &mut [0; 512]), refused(9));
 }
 
 #[test]

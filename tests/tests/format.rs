@@ -3,8 +3,8 @@
 
 use std::ffi::OsStr;
 use std::process::Command;
+use volefleece::raw;
 use volefleece_tests::compare::shown;
-use volefleece_tests::ffi;
 use volefleece_tests::notation;
 use volefleece_tests::programs::{Folder, NONE, TREE, VALUES};
 use volefleece_tests::reader;
@@ -241,8 +241,8 @@ fn refused(question: u64) -> String {
 }
 
 fn check(lent: &Lent) -> String {
-    match ffi::check(&lent.table) {
-        ffi::Checked {
+    match raw::check(&lent.table) {
+        raw::Checked {
             refused: 0,
             records,
         } => format!("accepted {records}"),
@@ -252,13 +252,13 @@ fn check(lent: &Lent) -> String {
 
 /// The figure, and its branch unless that is 255.
 fn figure(lent: &Lent, options: &Options) -> String {
-    match ffi::figure(&lent.table, &options.values) {
-        ffi::Figure {
+    match raw::figure(&lent.table, &options.values) {
+        raw::Figure {
             refused: 0,
             figure,
             branch: 255,
         } => figure.to_string(),
-        ffi::Figure {
+        raw::Figure {
             refused: 0,
             figure,
             branch,
@@ -269,7 +269,7 @@ fn figure(lent: &Lent, options: &Options) -> String {
 
 fn list(lent: &Lent, options: &Options) -> String {
     let mut out = vec![0; options.room.unwrap_or(512)];
-    let answer = ffi::list(&lent.table, &options.values, &mut out);
+    let answer = raw::list(&lent.table, &options.values, &mut out);
     if answer.refused != 0 {
         return refused(answer.refused);
     }
@@ -282,7 +282,7 @@ fn list(lent: &Lent, options: &Options) -> String {
 fn simplify(lent: &Lent, options: &Options, said: &str) -> Result<(), Wrong> {
     let mut out = vec![0; options.room.unwrap_or(8_192)];
     let allowance = options.allowance.unwrap_or(u64::MAX);
-    let answer = ffi::simplify(&lent.table, allowance, &mut out);
+    let answer = raw::simplify(&lent.table, allowance, &mut out);
     if answer.refused != 0 {
         return same(said, refused(answer.refused));
     }
@@ -295,7 +295,7 @@ fn simplify(lent: &Lent, options: &Options, said: &str) -> Result<(), Wrong> {
 /// Said is a refusal, or the written tree.
 fn graft(lent: &Lent, symbol: u64, options: &Options, said: &str) -> Result<(), Wrong> {
     let mut out = vec![0; options.room.unwrap_or(8_192)];
-    let answer = ffi::graft(&lent.table, &lent.sent, symbol, &mut out);
+    let answer = raw::graft(&lent.table, &lent.sent, symbol, &mut out);
     if answer.refused != 0 {
         return same(said, refused(answer.refused));
     }
@@ -432,7 +432,7 @@ fn fates(rule: &str) -> Vec<(Vec<u8>, Fate)> {
 /// What the simplifying call makes of the table with that allowance, and in how many steps.
 fn steps(table: &[u8], allowance: u64) -> (u64, Vec<u8>) {
     let mut out = vec![0; table.len()];
-    let answer = ffi::simplify(table, allowance, &mut out);
+    let answer = raw::simplify(table, allowance, &mut out);
     assert_eq!(answer.refused, 0, "{}", shown(table));
     out.truncate(answer.length as usize);
     (answer.steps, out)

@@ -2,9 +2,9 @@
 //! sent table's limits name there, figures and branches, the new questions at and past their ends, and
 //! the order of all. All numbers here are literals.
 
+use volefleece::raw::{self, Grafted};
 use volefleece_tests::compare::shown;
 use volefleece_tests::evaluator::Quoted;
-use volefleece_tests::ffi::{self, Grafted};
 use volefleece_tests::grafter;
 use volefleece_tests::grafts::Grafts;
 use volefleece_tests::quotes;
@@ -696,35 +696,35 @@ fn nothing_lent() {
     let refused = |refused| Grafted { refused, length: 0 };
     let mut out = [7; 16];
     for symbol in [16, 0] {
-        assert_eq!(ffi::graft(&[], &[], symbol, &mut []), refused(1));
-        assert_eq!(ffi::graft(&[], &SEVEN, symbol, &mut out), refused(1));
-        assert_eq!(ffi::graft(&SEVEN, &[], symbol, &mut out), refused(1));
+        assert_eq!(raw::graft(&[], &[], symbol, &mut []), refused(1));
+        assert_eq!(raw::graft(&[], &SEVEN, symbol, &mut out), refused(1));
+        assert_eq!(raw::graft(&SEVEN, &[], symbol, &mut out), refused(1));
     }
-    assert_eq!(ffi::graft(&SEVEN, &SEVEN, 16, &mut []), refused(8));
-    assert_eq!(ffi::graft(&X, &SEVEN, 16, &mut out), refused(8));
+    assert_eq!(raw::graft(&SEVEN, &SEVEN, 16, &mut []), refused(8));
+    assert_eq!(raw::graft(&X, &SEVEN, 16, &mut out), refused(8));
     assert_eq!(out, [7; 16]);
     let written = Grafted {
         refused: 0,
         length: 16,
     };
-    let answer = ffi::graft(&SEVEN, &SEVEN, 16, &mut out);
+    let answer = raw::graft(&SEVEN, &SEVEN, 16, &mut out);
     assert_eq!((answer, out), (written, SEVEN));
 }
 
 #[test]
 fn one_table_may_be_lent_twice() {
     let mut out = [9; 64];
-    let answer = ffi::graft(&X, &X, 16, &mut out);
+    let answer = raw::graft(&X, &X, 16, &mut out);
     assert_eq!((answer.refused, answer.length), (11, 0));
     assert_eq!(out, [9; 64]);
-    let answer = ffi::graft(&X, &X, 17, &mut out);
+    let answer = raw::graft(&X, &X, 17, &mut out);
     assert_eq!((answer.refused, answer.length), (0, 16));
     assert_eq!(out[..16], X);
     assert_eq!(out[16..], [9; 48]);
     // The sent table is the host's last record.
     let host = sequence(&[x(), block(7)]);
     let mut out = [9; 96];
-    let answer = ffi::graft(&host, &host[32..], 16, &mut out);
+    let answer = raw::graft(&host, &host[32..], 16, &mut out);
     assert_eq!((answer.refused, answer.length), (0, 80));
     assert_eq!(out[..80], sequence(&[put(block(7)), block(7)]));
     assert_eq!(out[80..], [9; 16]);

@@ -3,10 +3,10 @@
 //! what it is for. The seeds are fixed: every run makes the same tables.
 
 use std::ops::Range;
+use volefleece::raw;
 use volefleece_tests::compare::{has_flag_4, shown};
 use volefleece_tests::damage;
 use volefleece_tests::faults;
-use volefleece_tests::ffi;
 use volefleece_tests::fits;
 use volefleece_tests::grafter;
 use volefleece_tests::grafts::Grafts;
@@ -312,7 +312,7 @@ fn one_table_lent_twice() {
         let sent = &host[16 * part.start..16 * part.end];
         let symbol = rng.pick(&[pair.symbol, pair.symbol ^ 1]);
         let mut out = vec![9; ROOM];
-        let answer = ffi::graft(&host, sent, symbol, &mut out);
+        let answer = raw::graft(&host, sent, symbol, &mut out);
         let length = answer.length as usize;
         let written = match answer.refused {
             0 => Ok(out[..length].to_vec()),

@@ -3,7 +3,7 @@
 use std::ptr::{null, null_mut};
 use std::thread;
 
-use volefleece_tests::ffi::{self, raw};
+use volefleece::raw;
 use volefleece_tests::programs::{sample, TREE, VALUES};
 use volefleece_tests::tables::*;
 
@@ -78,11 +78,11 @@ fn threads_may_call_at_once() {
         let mut list = [0; 512];
         let (mut simple, mut whole) = ([0; 8192], [0; 8192]);
         let answers = (
-            ffi::check(&tree),
-            ffi::figure(&tree, &numbers),
-            ffi::list(&tree, &numbers, &mut list),
-            ffi::simplify(&tree, u64::MAX, &mut simple),
-            ffi::graft(&tree, &sent, 16, &mut whole),
+            raw::check(&tree),
+            raw::figure(&tree, &numbers),
+            raw::list(&tree, &numbers, &mut list),
+            raw::simplify(&tree, u64::MAX, &mut simple),
+            raw::graft(&tree, &sent, 16, &mut whole),
         );
         (answers, list, simple, whole)
     };

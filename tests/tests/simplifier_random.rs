@@ -2,8 +2,8 @@
 //! count steps, and the tables on the way meet demand 3, for which the library checks and quotes them.
 //! Each test asserts that it has reached what it is for. The seeds are fixed.
 
+use volefleece::raw::{self, Checked, Figure};
 use volefleece_tests::compare::{has_flag_4, shown};
-use volefleece_tests::ffi::{self, Checked, Figure};
 use volefleece_tests::fits;
 use volefleece_tests::rng::Rng;
 use volefleece_tests::simplifier::{simplify, trace, Trace};
@@ -136,14 +136,14 @@ impl Demand3 {
     fn compare_figures(&mut self, rng: &mut Rng, tables: &[Vec<u8>], values: &[u64]) {
         let Some(reception) = figure(&tables[0], values) else {
             self.without += 1;
-            self.past_1000 += u64::from(ffi::figure(&tables[0], values).refused == 13);
+            self.past_1000 += u64::from(raw::figure(&tables[0], values).refused == 13);
             return;
         };
         self.figures += 1;
         self.triangular += u64::from(has_flag_4(&tables[0]));
         for table in some_of(rng, tables) {
             let accepted = Checked::accept(table.len() / 16);
-            assert_eq!(ffi::check(table), accepted, "{}", shown(table));
+            assert_eq!(raw::check(table), accepted, "{}", shown(table));
             let sales = figure(table, values);
             assert_eq!(sales, Some(reception), "{}", both(&tables[0], table));
             if let Some(sales) = figure(table, &raised(rng, values)) {
@@ -170,7 +170,7 @@ impl Demand3 {
 
 /// The library's figure, unless it is too large, or a value is for flag 4.
 fn figure(table: &[u8], values: &[u64]) -> Option<u64> {
-    match ffi::figure(table, values) {
+    match raw::figure(table, values) {
         Figure {
             refused: 0, figure, ..
         } => Some(figure),

@@ -2,11 +2,11 @@
 //! and, where an answer is known by construction, against that. Each test asserts that it has reached
 //! what it is for. The seeds are fixed: every run makes the same tables.
 
+use volefleece::raw::{self, Simplified};
 use volefleece_tests::cases::cases;
 use volefleece_tests::compare::shown;
 use volefleece_tests::evaluator;
 use volefleece_tests::faults;
-use volefleece_tests::ffi::{self, Simplified};
 use volefleece_tests::noise;
 use volefleece_tests::quotes;
 use volefleece_tests::reader;
@@ -186,18 +186,18 @@ fn the_sales_desk_gets_receptions_figure() {
         let written = simplifications::simplify(&mut rng, &table, allowance, table.len());
         let written = written.expect("small amounts").bytes;
         shorter += u64::from(written.len() < table.len());
-        assert_eq!(ffi::check(&written).refused, 0, "{}", shown(&written));
+        assert_eq!(raw::check(&written).refused, 0, "{}", shown(&written));
         let values = SMALL.values(&mut rng);
-        let reception = ffi::figure(&table, &values);
+        let reception = raw::figure(&table, &values);
         // Small amounts are seldom too large, but loops of loops may be.
         if reception.refused != 0 {
             continue;
         }
-        let sales = ffi::figure(&written, &values);
+        let sales = raw::figure(&written, &values);
         let figures = [sales, reception].map(|answer| (answer.refused, answer.figure));
         assert_eq!(figures[0], figures[1], "{}", shown(&table));
         other_branch += u64::from(sales.branch != reception.branch);
-        let raised = ffi::figure(&written, &raised(&mut rng, &values));
+        let raised = raw::figure(&written, &raised(&mut rng, &values));
         if raised.refused == 0 {
             assert!(raised.figure >= reception.figure, "{}", shown(&table));
             higher += u64::from(raised.figure > reception.figure);
@@ -289,14 +289,14 @@ fn nothing_lent() {
         finished: 0,
     };
     for allowance in [0, 1, u64::MAX] {
-        assert_eq!(ffi::simplify(&[], allowance, &mut []), refused(1));
+        assert_eq!(raw::simplify(&[], allowance, &mut []), refused(1));
         let mut out = [7; 16];
-        assert_eq!(ffi::simplify(&[], allowance, &mut out), refused(1));
+        assert_eq!(raw::simplify(&[], allowance, &mut out), refused(1));
         assert_eq!(out, [7; 16]);
-        assert_eq!(ffi::simplify(&block(3), allowance, &mut []), refused(8));
+        assert_eq!(raw::simplify(&block(3), allowance, &mut []), refused(8));
     }
     let mut out = [7; 16];
-    let answer = ffi::simplify(&block(3), 0, &mut out);
+    let answer = raw::simplify(&block(3), 0, &mut out);
     let expected = Simplified {
         refused: 0,
         length: 16,

@@ -2,7 +2,7 @@
 //! where the answer is known by construction, against that.
 
 use volefleece_tests::fenced::{Fenced, PAGE};
-use volefleece_tests::ffi::{self, Compared};
+use volefleece_tests::probes::{self, Compared};
 use volefleece_tests::rng::Rng;
 
 const WORD: usize = 8;
@@ -14,8 +14,8 @@ const MOST: usize = 64;
 #[track_caller]
 fn agreed(a: &[u8], b: &[u8]) -> Compared {
     let answer = plain(a, b);
-    assert_eq!(ffi::compare(a, b), answer, "{} bytes", a.len());
-    assert_eq!(ffi::compare(b, a), answer, "{} bytes, swapped", a.len());
+    assert_eq!(probes::compare(a, b), answer, "{} bytes", a.len());
+    assert_eq!(probes::compare(b, a), answer, "{} bytes, swapped", a.len());
     answer
 }
 

@@ -2,8 +2,8 @@
 
 use crate::quote::{quotes, Quote, LIMITS, SIZES};
 use crate::timing::{each, median, microseconds};
+use volefleece::raw;
 use volefleece_tests::evaluator::{self, Quoted};
-use volefleece_tests::ffi;
 use volefleece_tests::format::LIST_ROOM;
 use volefleece_tests::reader;
 
@@ -42,13 +42,13 @@ pub fn measure() {
 
 fn assert_agreed(quotes: &[Quote]) {
     for quote in quotes {
-        let answer = ffi::figure(&quote.table, &quote.values);
+        let answer = raw::figure(&quote.table, &quote.values);
         let Quoted { figure, branch } = quote.quoted;
         assert_eq!(
             (answer.refused, answer.figure, answer.branch),
             (0, figure, branch)
         );
-        let answer = ffi::list(&quote.table, &quote.values, &mut [0; LIST_ROOM]);
+        let answer = raw::list(&quote.table, &quote.values, &mut [0; LIST_ROOM]);
         assert_eq!((answer.refused, answer.pairs), (0, quote.pairs as u64));
     }
 }
@@ -61,11 +61,11 @@ fn median_pairs(quotes: &[Quote]) -> usize {
 fn times(quotes: &[Quote]) -> Vec<f64> {
     let mut out = [0; LIST_ROOM];
     let calls = vec![
-        each(quotes, |q| ffi::check(&q.table)),
+        each(quotes, |q| raw::check(&q.table)),
         each(quotes, |q| reader::check(&q.table)),
-        each(quotes, |q| ffi::figure(&q.table, &q.values)),
+        each(quotes, |q| raw::figure(&q.table, &q.values)),
         each(quotes, |q| evaluator::figure(&q.table, &q.values)),
-        each(quotes, |q| ffi::list(&q.table, &q.values, &mut out)),
+        each(quotes, |q| raw::list(&q.table, &q.values, &mut out)),
         each(quotes, |q| evaluator::list(&q.table, &q.values, LIST_ROOM)),
         each(quotes, |q| evaluator::evaluate(&q.tree, &q.values)),
     ];

@@ -12,7 +12,7 @@ use std::env;
 use std::hint::black_box;
 use std::rc::Rc;
 use std::time::{Duration, Instant};
-use volefleece_tests::ffi::{Checked, Figure, Grafted, Listed, Simplified};
+use volefleece::raw::{Checked, Figure, Grafted, Listed, Simplified};
 use volefleece_tests::format::{LIST_ROOM, MOST_RECORDS, RECORD_BYTES};
 
 const TABLES: usize = 16;

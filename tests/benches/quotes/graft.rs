@@ -2,7 +2,7 @@
 
 use crate::quote::SIZES;
 use crate::timing::{each, microseconds};
-use volefleece_tests::ffi;
+use volefleece::raw;
 use volefleece_tests::format::{MOST_RECORDS, RECORD_BYTES};
 use volefleece_tests::grafter;
 use volefleece_tests::rng::Rng;
@@ -100,7 +100,7 @@ fn measure_pairs(records: usize, parts: Parts) {
     let mut out = [0; LONGEST];
     let calls = vec![
         each(&pairs, |pair| {
-            ffi::graft(&pair.host, &pair.sent, SYMBOL, &mut out)
+            raw::graft(&pair.host, &pair.sent, SYMBOL, &mut out)
         }),
         each(&pairs, |pair| {
             grafter::graft(&pair.host, &pair.sent, SYMBOL, LONGEST)
@@ -138,7 +138,7 @@ fn assert_agreed(pair: &Pair, records: usize) {
     let second = grafter::graft(host, sent, SYMBOL, LONGEST).expect("room for the result");
     assert_eq!(second.len(), records * RECORD_BYTES);
     let mut out = [0; LONGEST];
-    let answer = ffi::graft(host, sent, SYMBOL, &mut out);
+    let answer = raw::graft(host, sent, SYMBOL, &mut out);
     assert_eq!((answer.refused, answer.length), (0, second.len() as u64));
     assert_eq!(out[..second.len()], second);
 }

@@ -1,7 +1,7 @@
 //! Tables with long shared second children: a choice of sequences of two, which rule 8 compares.
 
 use crate::simplify::takes_steps;
-use volefleece_tests::ffi;
+use volefleece::raw;
 use volefleece_tests::format::MOST_RECORDS;
 use volefleece_tests::rng::Rng;
 use volefleece_tests::trees::{self, Kind, Tree};
@@ -53,7 +53,7 @@ fn random_tables(count: usize, shape: (usize, usize), seconds: Seconds) -> Vec<V
     let mut rng = Rng::new(records(shape) as u64);
     let random = || seconds.tree(&mut rng, shape).encode();
     let tables = std::iter::repeat_with(random)
-        .filter(|table| ffi::check(table).refused == 0)
+        .filter(|table| raw::check(table).refused == 0)
         .filter(|table| takes_steps(table, 10));
     tables.take(count).collect()
 }

@@ -3,7 +3,7 @@
 use crate::quote::{quotes, LIMITS, SIZES};
 use crate::shared::{self, Shared};
 use crate::timing::{each, median, microseconds};
-use volefleece_tests::ffi;
+use volefleece::raw;
 use volefleece_tests::format::{MOST_RECORDS, RECORD_BYTES};
 use volefleece_tests::rng::Rng;
 use volefleece_tests::simplifier::{self, Simplified};
@@ -105,7 +105,7 @@ fn measure_tables(records: usize, name: &str, tables: &[Vec<u8>]) {
 fn agreed(table: &[u8]) -> Simplified {
     let second = second(table);
     let mut out = vec![0; table.len()];
-    let answer = ffi::simplify(table, u64::MAX, &mut out);
+    let answer = raw::simplify(table, u64::MAX, &mut out);
     assert_eq!((answer.refused, answer.steps), (0, second.steps));
     assert_eq!(out[..answer.length as usize], second.bytes);
     second
@@ -119,7 +119,7 @@ fn second(table: &[u8]) -> Simplified {
 fn times(tables: &[Vec<u8>]) -> Vec<f64> {
     let mut out = [0; MOST_RECORDS * RECORD_BYTES];
     let calls = vec![
-        each(tables, |table| ffi::simplify(table, u64::MAX, &mut out)),
+        each(tables, |table| raw::simplify(table, u64::MAX, &mut out)),
         each(tables, |table| second(table)),
     ];
     microseconds(REPETITIONS, tables.len(), calls)

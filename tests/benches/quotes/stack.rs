@@ -5,7 +5,7 @@ use crate::quote::flat_tree;
 use std::env;
 use std::hint::black_box;
 use std::process::{Command, Stdio};
-use volefleece_tests::ffi;
+use volefleece::raw;
 use volefleece_tests::format::{LIST_ROOM, MOST_RECORDS, RECORD_BYTES};
 use volefleece_tests::rng::Rng;
 use volefleece_tests::trees::{self, Amount, Amounts, Kind, Tree};
@@ -53,12 +53,12 @@ pub fn probe() {
 fn quote_and_simplify(rng: &mut Rng) {
     for loops in (0..=8).cycle().take(90) {
         let table = spine(rng, 32, loops, 255).encode();
-        assert_eq!(ffi::check(black_box(&table)).refused, 0);
-        assert_eq!(ffi::figure(&table, &[0; 32]).refused, 0);
+        assert_eq!(raw::check(black_box(&table)).refused, 0);
+        assert_eq!(raw::figure(&table, &[0; 32]).refused, 0);
         let mut out = vec![0; LIST_ROOM];
-        assert_eq!(ffi::list(&table, &[0; 32], &mut out).refused, 0);
+        assert_eq!(raw::list(&table, &[0; 32], &mut out).refused, 0);
         let mut out = vec![0; table.len()];
-        assert_eq!(ffi::simplify(&table, u64::MAX, &mut out).refused, 0);
+        assert_eq!(raw::simplify(&table, u64::MAX, &mut out).refused, 0);
     }
 }
 
@@ -123,5 +123,5 @@ fn graft_longest(rng: &mut Rng) {
 fn graft(host: &Tree, sent: &Tree) -> u64 {
     let mut out = vec![0; MOST_RECORDS * RECORD_BYTES];
     let (host, sent) = (host.encode(), sent.encode());
-    ffi::graft(black_box(&host), black_box(&sent), SYMBOL, &mut out).refused
+    raw::graft(black_box(&host), black_box(&sent), SYMBOL, &mut out).refused
 }

@@ -3,7 +3,7 @@
 
 use crate::places::{Loaded, PLACES};
 use crate::timing::{each, microseconds};
-use volefleece_tests::ffi::Compared;
+use volefleece_tests::probes::Compared;
 use volefleece_tests::rng::Rng;
 
 const SIZES: [usize; 5] = [16, 64, 256, 1024, 4096];

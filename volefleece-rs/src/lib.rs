@@ -1,0 +1,191 @@
+//! Safe calls of the proved volefleece library, which quotes the most processor cycles a battery door lock can stay awake for one opening.
+//!
+//! A table is 16-byte records and values are 32 numbers; docs/FORMAT.md has all of it. Each call answers what its contract in
+//! crates/volefleece promises, or the first question that says no as a [`Refusal`].
+//!
+//! ```
+//! // A choice of two blocks: 7 cycles, and symbol 16.
+//! let mut table = [0; 48];
+//! (table[0], table[2], table[24], table[33], table[40]) = (2, 2, 7, 1, 16);
+//! let mut values = [0; volefleece::VALUES];
+//! values[16] = 90;
+//!
+//! let quote = volefleece::figure(&table, &values)?;
+//! assert_eq!(quote.figure, 90);
+//! assert_eq!(quote.branch, Some(1));
+//! # Ok::<(), volefleece::Refusal>(())
+//! ```
+
+#![warn(missing_docs)]
+
+mod refusal;
+
+#[allow(missing_docs)]
+pub mod raw;
+
+pub use refusal::Refusal;
+
+/// The bytes of a record.
+pub const RECORD_BYTES: usize = 16;
+/// The bytes of the longest table.
+pub const MOST_TABLE: usize = 8_192;
+/// How many values a quoting call wants.
+pub const VALUES: usize = 32;
+/// The first symbol that stands for a time; those before it stand for counts, as bounds and limits.
+pub const FIRST_TIME: usize = 16;
+/// The largest count, which an absent one counts as.
+pub const MOST_COUNT: u64 = 1_000_000;
+/// The largest time, which an absent one counts as.
+pub const MOST_TIME: u64 = 1_000_000_000_000;
+
+/// The numbers that a list's buffer has room for.
+const LIST_ROOM: usize = 512;
+/// The branch of a figure whose root is no choice.
+const NO_BRANCH: u64 = 255;
+
+/// The largest value of a symbol.
+pub fn ceiling(symbol: usize) -> u64 {
+    if symbol < FIRST_TIME {
+        MOST_COUNT
+    } else {
+        MOST_TIME
+    }
+}
+
+/// What a table's tree costs under some values.
+#[derive(Clone, Copy, Debug, PartialEq, Eq)]
+pub struct Quote {
+    /// The most cycles that one opening can take.
+    pub figure: u64,
+    /// The child of the root choice that sets the figure, the earliest of equal ones, counted from 0; none if the root is no choice.
+    pub branch: Option<u8>,
+}
+
+/// Members of a list that have the same value.
+#[derive(Clone, Copy, Debug, PartialEq, Eq)]
+pub struct Members {
+    /// Their value.
+    pub value: u64,
+    /// How many they are; none if they go on for ever.
+    pub count: Option<u64>,
+}
+
+/// A simplified table.
+#[derive(Clone, Debug, PartialEq, Eq)]
+pub struct Simplified {
+    /// The table after the steps.
+    pub table: Vec<u8>,
+    /// How many steps were taken.
+    pub steps: u64,
+    /// No rule fits the table; otherwise the allowance is used and one does.
+    pub finished: bool,
+}
+
+/// Puts questions 1 to 7 to a table, and answers how many records it has.
+///
+/// ```
+/// let block = [0; 16];
+/// assert_eq!(volefleece::check(&block), Ok(1));
+/// assert_eq!(volefleece::check(&[9; 16]), Err(volefleece::Refusal::Fields));
+/// ```
+pub fn check(table: &[u8]) -> Result<usize, Refusal> {
+    let answer = raw::check(table);
+    accepted(answer.refused)?;
+    Ok(length(answer.records))
+}
+
+/// Puts questions 1 to 7, 9, 13 and 10, and answers the figure and the branch that sets it.
+///
+/// ```
+/// let mut block = [0; 16];
+/// block[8] = 7;
+/// let quote = volefleece::figure(&block, &[0; volefleece::VALUES])?;
+/// assert_eq!((quote.figure, quote.branch), (7, None));
+/// # Ok::<(), volefleece::Refusal>(())
+/// ```
+pub fn figure(table: &[u8], values: &[u64]) -> Result<Quote, Refusal> {
+    let answer = raw::figure(table, values);
+    accepted(answer.refused)?;
+    let branch = (answer.branch != NO_BRANCH).then_some(answer.branch as u8);
+    Ok(Quote {
+        figure: answer.figure,
+        branch,
+    })
+}
+
+/// Puts questions 1 to 7, 9, 13 and 10, and answers the root's list: values falling, the last for ever.
+///
+/// ```
+/// // A block of 7 cycles, which passes at most 3 times in a run.
+/// let mut block = [0; 16];
+/// (block[3], block[4], block[8]) = (255, 3, 7);
+/// let list = volefleece::list(&block, &[0; volefleece::VALUES])?;
+/// let pairs: Vec<_> = list.iter().map(|members| (members.value, members.count)).collect();
+/// assert_eq!(pairs, [(7, Some(3)), (0, None)]);
+/// # Ok::<(), volefleece::Refusal>(())
+/// ```
+pub fn list(table: &[u8], values: &[u64]) -> Result<Vec<Members>, Refusal> {
+    let mut room = [0; LIST_ROOM];
+    let answer = raw::list(table, values, &mut room);
+    accepted(answer.refused)?;
+    let pairs = room.chunks_exact(2).take(length(answer.pairs));
+    let members = pairs.map(|pair| Members {
+        value: pair[0],
+        count: (pair[1] != 0).then_some(pair[1]),
+    });
+    Ok(members.collect())
+}
+
+/// Puts questions 1 to 7, then 10 with every symbol 0, and answers what at most so many steps of simplification make of the table.
+///
+/// ```
+/// // A sequence of two blocks, 5 and 4 cycles.
+/// let mut table = [0; 48];
+/// (table[0], table[2], table[24], table[40]) = (1, 2, 5, 4);
+/// let simplified = volefleece::simplify(&table, u64::MAX)?;
+/// assert_eq!(simplified.table[8], 9);
+/// assert_eq!((simplified.steps, simplified.finished), (1, true));
+/// # Ok::<(), volefleece::Refusal>(())
+/// ```
+pub fn simplify(table: &[u8], allowance: u64) -> Result<Simplified, Refusal> {
+    let mut room = vec![0; table.len()];
+    let answer = raw::simplify(table, allowance, &mut room);
+    accepted(answer.refused)?;
+    room.truncate(length(answer.length));
+    Ok(Simplified {
+        table: room,
+        steps: answer.steps,
+        finished: answer.finished == 1,
+    })
+}
+
+/// Puts questions 1 to 7 to the host and then to the sent table, then 11 and 12, and answers the host with the sent table in place of
+/// every block whose time is that symbol.
+///
+/// ```
+/// let mut host = [0; 16];
+/// (host[1], host[8]) = (1, 16);
+/// let sent = [0; 16];
+/// let grafted = volefleece::graft(&host, &sent, 16)?;
+/// assert_eq!(volefleece::check(&grafted), Ok(3));
+/// # Ok::<(), volefleece::Refusal>(())
+/// ```
+pub fn graft(host: &[u8], sent: &[u8], symbol: u64) -> Result<Vec<u8>, Refusal> {
+    let mut room = vec![0; MOST_TABLE];
+    let answer = raw::graft(host, sent, symbol, &mut room);
+    accepted(answer.refused)?;
+    room.truncate(length(answer.length));
+    Ok(room)
+}
+
+/// Whether a call was not refused. That it refuses by no other number is proved.
+fn accepted(refused: u64) -> Result<(), Refusal> {
+    match refused {
+        0 => Ok(()),
+        number => Err(Refusal::from_number(number).expect("a question's number")),
+    }
+}
+
+fn length(number: u64) -> usize {
+    usize::try_from(number).expect("no longer than what was lent")
+}

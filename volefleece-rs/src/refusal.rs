@@ -1,0 +1,122 @@
+//! The questions that a call may answer with "no".
+
+use std::error::Error;
+use std::fmt;
+
+/// A call's refusal: the first question that says no, with the number that documents 01 and 02 give it.
+///
+/// ```
+/// use volefleece::Refusal;
+///
+/// let refusal = volefleece::check(&[]).unwrap_err();
+/// assert_eq!(refusal, Refusal::Length);
+/// assert_eq!(refusal.number(), 1);
+/// assert_eq!(refusal.to_string(), "refused 1: the length is not a multiple of 16 from 16 to 8,192");
+/// ```
+#[derive(Clone, Copy, Debug, PartialEq, Eq, Hash)]
+#[non_exhaustive]
+pub enum Refusal {
+    /// 1, of a table's length.
+    Length = 1,
+    /// 2, of a record's fields.
+    Fields,
+    /// 3, of the ranges of numbers and symbols.
+    Numbers,
+    /// 4, of the records as one tree.
+    Shape,
+    /// 5, of the depth and the loops around a node.
+    Depth,
+    /// 6, of the loops that limits name.
+    NamedLoop,
+    /// 7, of the limits' weight.
+    Weight,
+    /// 8, of the output buffer.
+    Room,
+    /// 9, of the values.
+    Values,
+    /// 10, of a node's first member.
+    Ceiling,
+    /// 11, of the symbol that a graft replaces.
+    ReplacedSymbol,
+    /// 12, of what a graft makes.
+    GraftedTable,
+    /// 13, of the values whose triangular numbers are limits.
+    TriangularNumber,
+}
+
+impl Refusal {
+    /// Every refusal, by its number, from 1 on.
+    pub const ALL: [Refusal; 13] = [
+        Refusal::Length,
+        Refusal::Fields,
+        Refusal::Numbers,
+        Refusal::Shape,
+        Refusal::Depth,
+        Refusal::NamedLoop,
+        Refusal::Weight,
+        Refusal::Room,
+        Refusal::Values,
+        Refusal::Ceiling,
+        Refusal::ReplacedSymbol,
+        Refusal::GraftedTable,
+        Refusal::TriangularNumber,
+    ];
+
+    /// The refusal of that number, if it is one's.
+    pub fn from_number(number: u64) -> Option<Self> {
+        let before = usize::try_from(number.checked_sub(1)?).ok()?;
+        Self::ALL.get(before).copied()
+    }
+
+    /// The question's number.
+    pub fn number(self) -> u64 {
+        self as u64
+    }
+
+    /// What is wrong, in the question's words.
+    pub fn reason(self) -> &'static str {
+        match self {
+            Refusal::Length => "the length is not a multiple of 16 from 16 to 8,192",
+            Refusal::Fields => "a record's kind, flags, children or byte 3 are not as listed, or a field that it has no use for is not 0",
+            Refusal::Numbers => "a plain number or a symbol's number is out of range",
+            Refusal::Shape => "the records do not form exactly one tree",
+            Refusal::Depth => "the tree is more than 32 nodes deep, or more than 8 loops are around a node",
+            Refusal::NamedLoop => "a limit names a loop that is not around its node",
+            Refusal::Weight => "the limits weigh more than 255 together",
+            Refusal::Room => "the output buffer is too short",
+            Refusal::Values => {
+                "there are not exactly 32 values, or one is above 1,000,000 (0 to 15) or 1,000,000,000,000 (16 to 31)"
+            }
+            Refusal::Ceiling => "a node's first member, before its own limit, is above 1,000,000,000,000",
+            Refusal::ReplacedSymbol => "the replaced symbol is not 16 to 31, or the sent table uses it",
+            Refusal::GraftedTable => {
+                "the grafted table is longer than 8,192 bytes, too deep, has too many loops around a node, or its limits weigh too much"
+            }
+            Refusal::TriangularNumber => "a value whose triangular number is a limit is above 1,000",
+        }
+    }
+}
+
+impl fmt::Display for Refusal {
+    fn fmt(&self, f: &mut fmt::Formatter<'_>) -> fmt::Result {
+        write!(f, "refused {}: {}", self.number(), self.reason())
+    }
+}
+
+impl Error for Refusal {}
+
+#[cfg(test)]
+mod tests {
+    use super::*;
+
+    #[test]
+    fn numbers_count_from_1() {
+        for (before, refusal) in Refusal::ALL.into_iter().enumerate() {
+            assert_eq!(refusal.number(), before as u64 + 1);
+            assert_eq!(Refusal::from_number(refusal.number()), Some(refusal));
+        }
+        for number in [0, Refusal::ALL.len() as u64 + 1, u64::MAX] {
+            assert_eq!(Refusal::from_number(number), None);
+        }
+    }
+}
