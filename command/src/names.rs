@@ -1,0 +1,149 @@
+//! What people call a tree's symbols, the children of its root choice and the house itself.
+
+use std::collections::BTreeMap;
+
+use volefleece::{FIRST_TIME, VALUES};
+
+/// The names of one tree. A symbol without a name has a plain one, `count-3` or `time-16`.
+#[derive(Clone, Debug, Default, PartialEq, Eq)]
+pub struct Names {
+    symbols: BTreeMap<usize, String>,
+    branches: BTreeMap<usize, String>,
+    house: Option<String>,
+}
+
+/// What a name is of.
+#[derive(Clone, Copy, Debug, PartialEq, Eq)]
+pub enum Named {
+    Symbol(usize),
+    /// A child of the root choice, counted from 0.
+    Branch(usize),
+    House,
+}
+
+/// The words that a text has a meaning for, which are no symbol's name.
+const WORDS: [&str; 14] = [
+    "at",
+    "block",
+    "body",
+    "branch",
+    "choice",
+    "exit",
+    "house",
+    "loop",
+    "most",
+    "per",
+    "run",
+    "sequence",
+    "symbol",
+    "triangular",
+];
+
+impl Names {
+    /// Names something, if that has no other name.
+    pub fn add(&mut self, named: Named, name: &str) -> Result<(), String> {
+        if let Named::Symbol(symbol) = named {
+            self.may_be_called(symbol, name)?;
+        }
+        let old = match named {
+            Named::Symbol(symbol) => self.symbols.insert(symbol, name.into()),
+            Named::Branch(child) => self.branches.insert(child, name.into()),
+            Named::House => self.house.replace(name.into()),
+        };
+        match old {
+            Some(old) if old != name => {
+                Err(format!("{} is called both {old} and {name}", shown(named)))
+            }
+            _ => Ok(()),
+        }
+    }
+
+    fn may_be_called(&self, symbol: usize, name: &str) -> Result<(), String> {
+        if !is_word(name) {
+            return Err(format!(
+                "\"{name}\" is no name: a letter comes first, then letters, digits, - and _"
+            ));
+        }
+        if WORDS.contains(&name) {
+            return Err(format!("\"{name}\" is a word of the text form and no name"));
+        }
+        match self.find(name) {
+            Some(other) if other != symbol => {
+                Err(format!("symbol {other} is called {name} already"))
+            }
+            _ => Ok(()),
+        }
+    }
+
+    /// Takes in the names of another text, which must not contradict these.
+    pub fn join(&mut self, other: &Names) -> Result<(), String> {
+        let symbols = other
+            .symbols
+            .iter()
+            .map(|(&symbol, name)| (Named::Symbol(symbol), name));
+        let branches = other
+            .branches
+            .iter()
+            .map(|(&child, name)| (Named::Branch(child), name));
+        let house = other.house.iter().map(|name| (Named::House, name));
+        for (named, name) in symbols.chain(branches).chain(house) {
+            self.add(named, name)?;
+        }
+        Ok(())
+    }
+
+    pub fn symbol(&self, symbol: usize) -> String {
+        self.symbols
+            .get(&symbol)
+            .cloned()
+            .unwrap_or_else(|| plain_name(symbol))
+    }
+
+    pub fn branch(&self, child: usize) -> Option<&str> {
+        self.branches.get(&child).map(String::as_str)
+    }
+
+    pub fn house(&self) -> Option<&str> {
+        self.house.as_deref()
+    }
+
+    /// The symbol of that name, given or plain.
+    pub fn find(&self, name: &str) -> Option<usize> {
+        let given = self.symbols.iter().find(|(_, given)| *given == name);
+        let symbol = given.map(|(&symbol, _)| symbol);
+        symbol.or_else(|| (0..VALUES).find(|&symbol| plain_name(symbol) == name))
+    }
+
+    /// The lines of a text's header: the house, these symbols and the branches.
+    pub fn header(&self, symbols: &[usize]) -> Vec<String> {
+        let house = self.house.iter().map(|name| format!("house {name}"));
+        let symbols = symbols
+            .iter()
+            .map(|&symbol| format!("symbol {symbol} {}", self.symbol(symbol)));
+        let branches = self
+            .branches
+            .iter()
+            .map(|(child, name)| format!("branch {child} {name}"));
+        house.chain(symbols).chain(branches).collect()
+    }
+}
+
+/// What a name is of, as a text's header says it.
+pub fn shown(named: Named) -> String {
+    match named {
+        Named::Symbol(symbol) => format!("symbol {symbol}"),
+        Named::Branch(child) => format!("branch {child}"),
+        Named::House => "the house".into(),
+    }
+}
+
+fn plain_name(symbol: usize) -> String {
+    let class = if symbol < FIRST_TIME { "count" } else { "time" };
+    format!("{class}-{symbol}")
+}
+
+fn is_word(name: &str) -> bool {
+    let mut letters = name.chars();
+    letters.next().is_some_and(char::is_alphabetic)
+        && letters.all(|letter| letter.is_alphanumeric() || letter == '-' || letter == '_')
+}

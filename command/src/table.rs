@@ -1,0 +1,269 @@
+//! A table's records as nodes, and where each stands in the tree. This reads and writes the format; whether a table is accepted is the
+//! library's to say.
+
+use volefleece::RECORD_BYTES;
+
+const VALUE_IS_SYMBOL: u8 = 1;
+const LIMIT_IS_SYMBOL: u8 = 2;
+const LIMIT_IS_TRIANGULAR: u8 = 4;
+const NO_LIMIT: u8 = 0;
+const WHOLE_RUN: u8 = 255;
+
+/// The most loops that a limit can count outward.
+pub const MOST_LOOPS: u8 = 8;
+
+/// A record's fields, whatever they hold.
+#[derive(Clone, Copy, Debug, PartialEq, Eq)]
+pub struct Record {
+    pub kind: u8,
+    pub flags: u8,
+    pub children: u8,
+    /// Byte 3, the loop that the limit names.
+    pub names: u8,
+    pub limit: u32,
+    pub value: u64,
+}
+
+/// A time, a bound or a limit.
+#[derive(Clone, Copy, Debug, PartialEq, Eq)]
+pub enum Amount {
+    Plain(u64),
+    Symbol(u64),
+    /// The triangular number of a symbol, which limits alone may be.
+    Triangular(u64),
+}
+
+#[derive(Clone, Copy, Debug, PartialEq, Eq)]
+pub enum Kind {
+    Block(Amount),
+    Sequence,
+    Choice,
+    Loop(Amount),
+}
+
+/// In what a limit counts passes.
+#[derive(Clone, Copy, Debug, PartialEq, Eq)]
+pub enum Scope {
+    /// A pass of that loop around the node, counted outward from 1.
+    Loop(u8),
+    Run,
+}
+
+#[derive(Clone, Copy, Debug, PartialEq, Eq)]
+pub struct Limit {
+    pub amount: Amount,
+    pub scope: Scope,
+}
+
+/// A record whose fields are as question 2 wants them. Its numbers may be out of range.
+#[derive(Clone, Copy, Debug, PartialEq, Eq)]
+pub struct Node {
+    pub kind: Kind,
+    pub children: u8,
+    pub limit: Option<Limit>,
+}
+
+/// The records of a table; what is left at its end and is no whole record is no part of them.
+pub fn records(table: &[u8]) -> Vec<Record> {
+    table.chunks_exact(RECORD_BYTES).map(Record::read).collect()
+}
+
+/// The nodes of a table that the library accepts.
+pub fn nodes(table: &[u8]) -> Vec<Node> {
+    let records = records(table).into_iter();
+    records
+        .map(|record| record.node().expect("an accepted table's record"))
+        .collect()
+}
+
+impl Record {
+    fn read(bytes: &[u8]) -> Self {
+        let (limit, value) = bytes[4..].split_at(4);
+        Record {
+            kind: bytes[0],
+            flags: bytes[1],
+            children: bytes[2],
+            names: bytes[3],
+            limit: u32::from_le_bytes(limit.try_into().expect("four bytes")),
+            value: u64::from_le_bytes(value.try_into().expect("eight bytes")),
+        }
+    }
+
+    pub fn bytes(self) -> [u8; RECORD_BYTES] {
+        let mut bytes = [0; RECORD_BYTES];
+        bytes[..4].copy_from_slice(&[self.kind, self.flags, self.children, self.names]);
+        bytes[4..8].copy_from_slice(&self.limit.to_le_bytes());
+        bytes[8..].copy_from_slice(&self.value.to_le_bytes());
+        bytes
+    }
+
+    /// The node with these fields, where they are a node's: exactly where it has these bytes again.
+    pub fn node(self) -> Option<Node> {
+        let value = match self.flags & VALUE_IS_SYMBOL {
+            0 => Amount::Plain(self.value),
+            _ => Amount::Symbol(self.value),
+        };
+        let kind = match self.kind {
+            0 => Kind::Block(value),
+            1 => Kind::Sequence,
+            2 => Kind::Choice,
+            3 => Kind::Loop(value),
+            _ => return None,
+        };
+        let node = Node {
+            kind,
+            children: self.children,
+            limit: self.limit()?,
+        };
+        (node.has_its_children() && node.record() == self).then_some(node)
+    }
+
+    /// The limit, if byte 3 says what it names or that there is none.
+    fn limit(self) -> Option<Option<Limit>> {
+        let number = u64::from(self.limit);
+        let amount = match self.flags & (LIMIT_IS_SYMBOL | LIMIT_IS_TRIANGULAR) {
+            0 => Amount::Plain(number),
+            LIMIT_IS_SYMBOL => Amount::Symbol(number),
+            _ => Amount::Triangular(number),
+        };
+        let scope = match self.names {
+            NO_LIMIT => return Some(None),
+            WHOLE_RUN => Scope::Run,
+            1..=MOST_LOOPS => Scope::Loop(self.names),
+            _ => return None,
+        };
+        Some(Some(Limit { amount, scope }))
+    }
+}
+
+impl Node {
+    fn has_its_children(self) -> bool {
+        match self.kind {
+            Kind::Block(_) => self.children == 0,
+            Kind::Sequence | Kind::Choice => self.children > 0,
+            Kind::Loop(_) => self.children == 2,
+        }
+    }
+
+    /// The value, where the kind has one.
+    pub fn value(self) -> Option<Amount> {
+        match self.kind {
+            Kind::Block(value) | Kind::Loop(value) => Some(value),
+            Kind::Sequence | Kind::Choice => None,
+        }
+    }
+
+    /// The record of this node. A limit does not exceed its field.
+    pub fn record(self) -> Record {
+        let kind = match self.kind {
+            Kind::Block(_) => 0,
+            Kind::Sequence => 1,
+            Kind::Choice => 2,
+            Kind::Loop(_) => 3,
+        };
+        let (value, value_flags) = self.value().map_or((0, 0), |amount| match amount {
+            Amount::Plain(number) => (number, 0),
+            Amount::Symbol(symbol) | Amount::Triangular(symbol) => (symbol, VALUE_IS_SYMBOL),
+        });
+        let (limit, limit_flags) = self.limit.map_or((0, 0), |limit| match limit.amount {
+            Amount::Plain(number) => (number, 0),
+            Amount::Symbol(symbol) => (symbol, LIMIT_IS_SYMBOL),
+            Amount::Triangular(symbol) => (symbol, LIMIT_IS_SYMBOL | LIMIT_IS_TRIANGULAR),
+        });
+        Record {
+            kind,
+            flags: value_flags | limit_flags,
+            children: self.children,
+            names: match self.limit.map(|limit| limit.scope) {
+                None => NO_LIMIT,
+                Some(Scope::Loop(number)) => number,
+                Some(Scope::Run) => WHOLE_RUN,
+            },
+            limit: u32::try_from(limit).expect("a limit that fits its field"),
+            value,
+        }
+    }
+
+    /// The symbols that the node has, as its value and as its limit.
+    pub fn symbols(self) -> impl Iterator<Item = usize> {
+        let limit = self.limit.map(|limit| limit.amount);
+        [self.value(), limit]
+            .into_iter()
+            .flatten()
+            .filter_map(|amount| match amount {
+                Amount::Plain(_) => None,
+                Amount::Symbol(symbol) | Amount::Triangular(symbol) => usize::try_from(symbol).ok(),
+            })
+    }
+}
+
+/// Where a record stands.
+#[derive(Clone, Copy, Debug, PartialEq, Eq)]
+pub struct Place {
+    /// The record of the node that this one is a child of, and which of its children it is, counted from 0; none for the root.
+    pub parent: Option<(usize, usize)>,
+    /// The root's is 1.
+    pub depth: usize,
+    /// How many loops are around the node: those whose bodies hold it.
+    pub loops: usize,
+}
+
+/// How the records end, as a tree.
+#[derive(Clone, Copy, Debug, PartialEq, Eq)]
+pub enum Ending {
+    Whole,
+    /// The tree ends before that record.
+    Before(usize),
+    /// The table ends while that record, the innermost such, still wants so many children.
+    Wanting(usize, usize),
+}
+
+/// Where each record of the tree at the table's front stands, and how it ends.
+pub fn places(records: &[Record]) -> (Vec<Place>, Ending) {
+    let mut places: Vec<Place> = Vec::with_capacity(records.len());
+    // The records that want children still, the innermost last, each with how many it has.
+    let mut open: Vec<(usize, usize)> = Vec::new();
+    for at in 0..records.len() {
+        let place = match open.last_mut() {
+            None if at > 0 => return (places, Ending::Before(at)),
+            None => Place {
+                parent: None,
+                depth: 1,
+                loops: 0,
+            },
+            Some((parent, children)) => {
+                let is_body = records[*parent].kind == 3 && *children == 0;
+                let around = &places[*parent];
+                let place = Place {
+                    parent: Some((*parent, *children)),
+                    depth: around.depth + 1,
+                    loops: around.loops + usize::from(is_body),
+                };
+                *children += 1;
+                place
+            }
+        };
+        places.push(place);
+        open.push((at, 0));
+        while open
+            .last()
+            .is_some_and(|&(at, has)| has == usize::from(records[at].children))
+        {
+            open.pop();
+        }
+    }
+    let ending = match open.last() {
+        None if records.is_empty() => Ending::Before(0),
+        None => Ending::Whole,
+        Some(&(at, has)) => Ending::Wanting(at, usize::from(records[at].children) - has),
+    };
+    (places, ending)
+}
+
+/// The symbols that nodes use, in order.
+pub fn symbols(nodes: &[Node]) -> Vec<usize> {
+    let mut symbols: Vec<usize> = nodes.iter().flat_map(|node| node.symbols()).collect();
+    symbols.sort_unstable();
+    symbols.dedup();
+    symbols
+}
