@@ -1,7 +1,7 @@
 //! How a subcommand ends without its answer.
 
 use std::fmt;
-use std::io;
+use std::io::{self, Write};
 use std::path::Path;
 
 use volefleece::Refusal;
@@ -62,4 +62,9 @@ impl fmt::Display for Failure {
             Failure::Problem(message) => write!(f, "{message}"),
         }
     }
+}
+
+/// Says something on standard error, beside the answer. Where that cannot be written nobody reads it.
+pub fn note(line: &str) {
+    let _ = writeln!(io::stderr(), "{line}");
 }

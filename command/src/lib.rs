@@ -1,8 +1,15 @@
 //! What the command `volefleece` is made of. It reads, asks, shows and draws; every acceptance, figure, list, branch, simplification and
 //! graft comes from the library's calls.
 
+pub mod cli;
+pub mod commands;
+pub mod counts;
 pub mod draw;
 pub mod failure;
+pub mod files;
 pub mod hint;
+pub mod house;
 pub mod names;
 pub mod table;
+pub mod text;
+pub mod tree;

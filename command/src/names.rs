@@ -1,6 +1,6 @@
 //! What people call a tree's symbols, the children of its root choice and the house itself.
 
-use std::collections::BTreeMap;
+use std::collections::{BTreeMap, BTreeSet};
 
 use volefleece::{FIRST_TIME, VALUES};
 
@@ -92,6 +92,13 @@ impl Names {
         Ok(())
     }
 
+    pub fn without_branches(&self) -> Names {
+        Names {
+            branches: BTreeMap::new(),
+            ..self.clone()
+        }
+    }
+
     pub fn symbol(&self, symbol: usize) -> String {
         self.symbols
             .get(&symbol)
@@ -114,8 +121,9 @@ impl Names {
         symbol.or_else(|| (0..VALUES).find(|&symbol| plain_name(symbol) == name))
     }
 
-    /// The lines of a text's header: the house, these symbols and the branches.
+    /// The lines of a text's header: the house, these symbols and all others that have names, and the branches.
     pub fn header(&self, symbols: &[usize]) -> Vec<String> {
+        let symbols: BTreeSet<usize> = symbols.iter().chain(self.symbols.keys()).copied().collect();
         let house = self.house.iter().map(|name| format!("house {name}"));
         let symbols = symbols
             .iter()

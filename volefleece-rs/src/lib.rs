@@ -37,6 +37,8 @@ pub const FIRST_TIME: usize = 16;
 pub const MOST_COUNT: u64 = 1_000_000;
 /// The largest time, which an absent one counts as.
 pub const MOST_TIME: u64 = 1_000_000_000_000;
+/// The largest value whose triangular number may be a limit.
+pub const MOST_TRIANGULAR: u64 = 1_000;
 
 /// The numbers that a list's buffer has room for.
 const LIST_ROOM: usize = 512;

@@ -1,0 +1,55 @@
+//! The subcommands. Each answers the text for standard output, or fails.
+
+mod contract;
+mod convert;
+mod draw;
+mod list;
+mod quote;
+mod quotes;
+mod rewrite;
+
+use clap::CommandFactory;
+
+use crate::cli::{Cli, Command, Values};
+use crate::failure::Outcome;
+
+/// What a subcommand has to say on standard output, and whether that is a refusal or worse.
+#[derive(Debug)]
+pub struct Answer {
+    pub text: String,
+    pub status: u8,
+}
+
+impl From<String> for Answer {
+    fn from(text: String) -> Self {
+        Answer { text, status: 0 }
+    }
+}
+
+pub fn run(command: &Command) -> Outcome<Answer> {
+    match command {
+        Command::Quote(quote) => quote::run(quote),
+        Command::Quotes { folder } => quotes::run(folder),
+        Command::Contract(counted) => contract::run(counted).map(Answer::from),
+        Command::List(counted) => list::run(counted).map(Answer::from),
+        Command::Check(source) => convert::check(source).map(Answer::from),
+        Command::Show(source) => convert::show(source),
+        Command::Make(converted) => convert::make(converted).map(Answer::from),
+        Command::Values(Values::Show { values, names }) => {
+            convert::show_values(values, names.as_deref()).map(Answer::from)
+        }
+        Command::Values(Values::Make(converted)) => {
+            convert::make_values(converted).map(Answer::from)
+        }
+        Command::Draw(arguments) => draw::run(arguments).map(Answer::from),
+        Command::Simplify(arguments) => rewrite::simplify(arguments).map(Answer::from),
+        Command::Graft(arguments) => rewrite::graft(arguments).map(Answer::from),
+        Command::Completions { shell } => Ok(completions(*shell).into()),
+    }
+}
+
+fn completions(shell: clap_complete::Shell) -> String {
+    let mut script = Vec::new();
+    clap_complete::generate(shell, &mut Cli::command(), "volefleece", &mut script);
+    String::from_utf8(script).expect("completions are text")
+}

@@ -1,0 +1,36 @@
+//! `volefleece contract`: the page that the renting house reads. The same tree, counts and names give the same page.
+
+use sha2::{Digest, Sha256};
+
+use super::quote;
+use crate::cli::Counted;
+use crate::failure::Outcome;
+
+/// What the figure promises, as proved of the library's call: that no admitted run costs more, and that it is the method's.
+const PROMISE: &str = "\
+No opening that this tree admits with these counts keeps the lock's processor awake for more cycles than the figure.
+The figure is exactly what the published method gives for this tree and these counts, no lower and no higher.
+";
+
+pub fn run(counted: &Counted) -> Outcome<String> {
+    let quoted = quote::quote(counted, true)?;
+    let house = &quoted.house;
+    let values: Vec<u8> = house
+        .counts
+        .values()
+        .iter()
+        .flat_map(|value| value.to_le_bytes())
+        .collect();
+    Ok(format!(
+        "Waking figure for one opening\n\n{}\n{PROMISE}\ntree sha256 {}\ncounts sha256 {}\nvolefleece {}\n",
+        quoted.lines(),
+        digest(&house.tree.table),
+        digest(&values),
+        env!("CARGO_PKG_VERSION"),
+    ))
+}
+
+fn digest(bytes: &[u8]) -> String {
+    let digest = Sha256::digest(bytes);
+    digest.iter().map(|byte| format!("{byte:02x}")).collect()
+}

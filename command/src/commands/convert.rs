@@ -1,0 +1,82 @@
+//! `volefleece check`, `show`, `make` and `values`.
+
+use std::path::Path;
+
+use super::Answer;
+use crate::cli::{Converted, Source};
+use crate::counts::Counts;
+use crate::failure::{note, Failure, Outcome};
+use crate::files;
+use crate::house::not_given;
+use crate::table;
+use crate::text;
+use crate::tree::{read_names, Tree};
+
+pub fn check(source: &Source) -> Outcome<String> {
+    let tree = Tree::read(&source.tree, source.names.as_deref())?;
+    let nodes = tree.check()?;
+    let (places, _) = table::places(&table::records(&tree.table));
+    let depth = places
+        .iter()
+        .map(|place| place.depth)
+        .max()
+        .unwrap_or_default();
+    let mut lines = format!("accepted\nrecords {}\ndepth {depth}\n", nodes.len());
+    for symbol in table::symbols(&nodes) {
+        lines += &format!("symbol {symbol} {}\n", tree.names.symbol(symbol));
+    }
+    Ok(lines)
+}
+
+/// A table as text, or, where it is refused, as far as it can be read.
+pub fn show(source: &Source) -> Outcome<Answer> {
+    let tree = Tree::read(&source.tree, source.names.as_deref())?;
+    match tree.check() {
+        Ok(_) => Ok(text::tree::print(&tree.table, &tree.names).into()),
+        Err(refused) => Ok(Answer {
+            text: text::tree::print_refused(&tree.table, &tree.names, &refused),
+            status: refused.status(),
+        }),
+    }
+}
+
+pub fn make(converted: &Converted) -> Outcome<String> {
+    let tree = Tree::read_text(&converted.text, converted.names.as_deref())?;
+    let records = tree.check()?.len();
+    files::replace(&converted.output, &tree.table)?;
+    Ok(format!("made {records} records\n"))
+}
+
+pub fn show_values(values: &Path, names: Option<&Path>) -> Outcome<String> {
+    let names = read_names(names, folder_of(values))?;
+    let counts = Counts::from_bytes(&files::read(values, Counts::MOST_BYTES)?);
+    accept(&counts)?;
+    Ok(text::values::print(&counts, &names))
+}
+
+pub fn make_values(converted: &Converted) -> Outcome<String> {
+    let mut names = read_names(converted.names.as_deref(), folder_of(&converted.text))?;
+    let text = files::read_text(&converted.text)?;
+    let counts = text::values::parse(&text, &mut names);
+    let counts = counts.map_err(|problems| files::wrong_text(&converted.text, &problems))?;
+    accept(&counts)?;
+    let bytes = counts.bytes();
+    let values = bytes.len() / 8;
+    for symbol in (0..values).filter(|&symbol| counts.given(symbol).is_none()) {
+        note(&not_given(&names.symbol(symbol), symbol));
+    }
+    files::replace(&converted.output, &bytes)?;
+    Ok(format!("made {values} values\n"))
+}
+
+fn folder_of(path: &Path) -> &Path {
+    path.parent().unwrap_or(Path::new(""))
+}
+
+/// Puts question 9 to values, by a table that no other question refuses: a block of no time.
+fn accept(counts: &Counts) -> Outcome {
+    let block = [0; volefleece::RECORD_BYTES];
+    volefleece::figure(&block, &counts.lent())
+        .map(|_| ())
+        .map_err(Failure::from)
+}

@@ -1,0 +1,120 @@
+//! `volefleece quote`.
+
+use serde_json::{json, Value};
+use volefleece::{Quote, FIRST_TIME};
+
+use super::Answer;
+use crate::cli;
+use crate::failure::{Failure, Outcome};
+use crate::house::House;
+use crate::table::{self, Node};
+
+pub fn run(arguments: &cli::Quote) -> Outcome<Answer> {
+    // A program that wants a line or JSON is not asked for counts.
+    let ask = !arguments.line && !arguments.json;
+    let quoted = quote(&arguments.counted, ask);
+    match quoted {
+        Err(Failure::Refused { refusal, .. }) if arguments.line => Ok(Answer {
+            text: format!("refused {}\n", refusal.number()),
+            status: 1,
+        }),
+        Err(Failure::Refused { refusal, hint }) if arguments.json => {
+            let facts =
+                json!({"refused": refusal.number(), "reason": refusal.reason(), "hint": hint});
+            Ok(Answer {
+                text: format!("{facts}\n"),
+                status: 1,
+            })
+        }
+        Err(failure) => Err(failure),
+        Ok(quoted) if arguments.line => Ok(line(&quoted.quote).into()),
+        Ok(quoted) if arguments.json => Ok(format!("{}\n", quoted.json()).into()),
+        Ok(quoted) => Ok(quoted.lines().into()),
+    }
+}
+
+/// A house with its quote.
+pub struct Quoted {
+    pub house: House,
+    pub quote: Quote,
+    nodes: Vec<Node>,
+}
+
+/// The house's quote with what the caller sets, asking for what is missing or saying that it counts high.
+pub fn quote(counted: &cli::Counted, ask: bool) -> Outcome<Quoted> {
+    let (house, nodes) = complete(counted, ask)?;
+    let quote = house.quote()?;
+    Ok(Quoted {
+        house,
+        quote,
+        nodes,
+    })
+}
+
+/// The house with all the counts that its tree uses, and the nodes of that tree.
+pub fn complete(counted: &cli::Counted, ask: bool) -> Outcome<(House, Vec<Node>)> {
+    let mut house = House::read(&counted.house)?;
+    for setting in &counted.settings.set {
+        house.set(setting)?;
+    }
+    let nodes = house.tree.check()?;
+    house.complete(&nodes, ask)?;
+    Ok((house, nodes))
+}
+
+/// The desk program's line.
+pub fn line(quote: &Quote) -> String {
+    let branch = quote.branch.unwrap_or(u8::MAX);
+    format!("figure {} branch {branch}\n", quote.figure)
+}
+
+impl Quoted {
+    /// House, figure, branch and counts, a line each.
+    pub fn lines(&self) -> String {
+        let branch = match self.quote.branch {
+            Some(branch) => format!(
+                "{} (child {branch} of the choice at the root)",
+                self.house.branch_name(branch)
+            ),
+            None => "none (no choice at the root)".into(),
+        };
+        let mut lines = format!(
+            "house {}\nfigure {} cycles\nbranch {branch}\n",
+            self.house.title, self.quote.figure
+        );
+        for symbol in table::symbols(&self.nodes) {
+            let class = if symbol < FIRST_TIME { "count" } else { "time" };
+            let name = self.house.tree.names.symbol(symbol);
+            let value = self.house.counts.values()[symbol];
+            let unit = if symbol < FIRST_TIME { "" } else { " cycles" };
+            let given = if self.house.counts.given(symbol).is_some() {
+                ""
+            } else {
+                " (not given)"
+            };
+            lines += &format!("{class} {name} {value}{unit}{given}\n");
+        }
+        lines
+    }
+
+    fn json(&self) -> Value {
+        let branch = self
+            .quote
+            .branch
+            .map(|branch| json!({"child": branch, "name": self.house.branch_name(branch)}));
+        let counts: Vec<Value> = table::symbols(&self.nodes)
+            .into_iter()
+            .map(|symbol| self.count(symbol))
+            .collect();
+        json!({"house": self.house.title, "figure": self.quote.figure, "branch": branch, "counts": counts})
+    }
+
+    fn count(&self, symbol: usize) -> Value {
+        json!({
+            "symbol": symbol,
+            "name": self.house.tree.names.symbol(symbol),
+            "value": self.house.counts.values()[symbol],
+            "given": self.house.counts.given(symbol).is_some(),
+        })
+    }
+}

@@ -1,0 +1,47 @@
+//! `volefleece simplify` and `graft`: the calls that write a tree.
+
+use volefleece::VALUES;
+
+use crate::cli::{Graft, Simplify};
+use crate::failure::{Failure, Outcome};
+use crate::tree::Tree;
+
+pub fn simplify(arguments: &Simplify) -> Outcome<String> {
+    let source = &arguments.source;
+    let tree = Tree::read(&source.tree, source.names.as_deref())?;
+    let simplified = volefleece::simplify(&tree.table, arguments.steps);
+    let simplified = simplified.map_err(|refusal| tree.refused(refusal))?;
+    let length = simplified.table.len();
+    let ending = if simplified.finished {
+        "finished"
+    } else {
+        "spent"
+    };
+    // Children move, so that the branches' names would be wrong.
+    let names = tree.names.without_branches();
+    Tree::from_table(simplified.table, names).write(&arguments.output)?;
+    Ok(format!(
+        "simplified {length} steps {} {ending}\n",
+        simplified.steps
+    ))
+}
+
+pub fn graft(arguments: &Graft) -> Outcome<String> {
+    let host = Tree::read(&arguments.host, arguments.names.as_deref())?;
+    let sent = Tree::read(&arguments.sent, None)?;
+    let name = &arguments.symbol;
+    let number = name.parse().ok().filter(|&number: &usize| number < VALUES);
+    let symbol = number.or_else(|| host.names.find(name));
+    let symbol = symbol.ok_or_else(|| {
+        Failure::Problem(format!(
+            "--symbol {name}: no symbol of the host is called so"
+        ))
+    })?;
+    // The host's questions come first, then the sent table's, and a hint is of the one that is refused.
+    host.check()?;
+    sent.check()?;
+    let table = volefleece::graft(&host.table, &sent.table, symbol as u64)?;
+    let length = table.len();
+    Tree::from_table(table, host.names).write(&arguments.output)?;
+    Ok(format!("grafted {length}\n"))
+}

@@ -1,0 +1,81 @@
+//! The values that a desk gives: for each symbol a number or none. One that is not given counts as the largest.
+
+use volefleece::{ceiling, VALUES};
+
+const VALUE_BYTES: usize = 8;
+
+/// What values are given, by symbol.
+#[derive(Clone, Debug, PartialEq, Eq)]
+pub struct Counts {
+    given: [Option<u64>; VALUES],
+    /// The length of a file of values that no file of values has, which the library is to refuse.
+    wrong_length: Option<usize>,
+}
+
+impl Default for Counts {
+    fn default() -> Self {
+        Counts {
+            given: [None; VALUES],
+            wrong_length: None,
+        }
+    }
+}
+
+impl Counts {
+    /// The most bytes of a file of values.
+    pub const MOST_BYTES: usize = VALUES * VALUE_BYTES;
+
+    /// What a file of values gives: its last ones may be absent.
+    pub fn from_bytes(bytes: &[u8]) -> Self {
+        let mut counts = Counts::default();
+        if bytes.len() > Self::MOST_BYTES || !bytes.len().is_multiple_of(VALUE_BYTES) {
+            counts.wrong_length = Some(bytes.len());
+        }
+        for (given, value) in counts.given.iter_mut().zip(bytes.chunks_exact(VALUE_BYTES)) {
+            *given = Some(u64::from_le_bytes(value.try_into().expect("eight bytes")));
+        }
+        counts
+    }
+
+    /// The file of values that gives these, as short as can be. A value before the last given one that is not given itself is written as
+    /// what it counts.
+    pub fn bytes(&self) -> Vec<u8> {
+        let last = self.given.iter().rposition(Option::is_some);
+        let values = &self.values()[..last.map_or(0, |last| last + 1)];
+        values
+            .iter()
+            .flat_map(|value| value.to_le_bytes())
+            .collect()
+    }
+
+    pub fn given(&self, symbol: usize) -> Option<u64> {
+        self.given[symbol]
+    }
+
+    pub fn set(&mut self, symbol: usize, value: u64) {
+        self.given[symbol] = Some(value);
+    }
+
+    /// Whether any value is given.
+    pub fn any(&self) -> bool {
+        self.given.iter().any(Option::is_some)
+    }
+
+    /// Every symbol's value.
+    pub fn values(&self) -> [u64; VALUES] {
+        std::array::from_fn(|symbol| self.given[symbol].unwrap_or(ceiling(symbol)))
+    }
+
+    /// What the library is lent: every symbol's value, or none for a file of a wrong length, which question 9 then refuses in its turn.
+    pub fn lent(&self) -> Vec<u64> {
+        match self.wrong_length {
+            None => self.values().to_vec(),
+            Some(_) => Vec::new(),
+        }
+    }
+
+    /// The length that no file of values has, if these come from such a file.
+    pub fn wrong_length(&self) -> Option<usize> {
+        self.wrong_length
+    }
+}

@@ -1,0 +1,249 @@
+//! A house: a folder with a tree, counts and names.
+
+use std::io::{self, IsTerminal};
+use std::path::Path;
+
+use volefleece::{ceiling, Quote, Refusal, MOST_TRIANGULAR, VALUES};
+
+use crate::counts::Counts;
+use crate::failure::{note, Failure, Outcome};
+use crate::files;
+use crate::table::{self, Amount, Node};
+use crate::text;
+use crate::text::tree::node_words;
+use crate::tree::{read_names, Tree};
+
+const TABLE: &str = "values.tab";
+const TEXT: &str = "values.txt";
+
+/// A house as its folder has it, with what the caller sets.
+#[derive(Clone, Debug)]
+pub struct House {
+    pub tree: Tree,
+    pub counts: Counts,
+    /// What the house is called: by its names, or as its folder.
+    pub title: String,
+}
+
+/// A number that is set for a symbol, as `cards=40`.
+#[derive(Clone, Debug)]
+pub struct Setting {
+    pub name: String,
+    pub value: String,
+}
+
+impl std::str::FromStr for Setting {
+    type Err = &'static str;
+
+    fn from_str(text: &str) -> Result<Self, Self::Err> {
+        let (name, value) = text
+            .split_once('=')
+            .ok_or("expected NAME=NUMBER, as cards=40")?;
+        Ok(Setting {
+            name: name.trim().into(),
+            value: value.trim().into(),
+        })
+    }
+}
+
+impl House {
+    /// The house of a folder.
+    pub fn read(folder: &Path) -> Outcome<Self> {
+        if let Err(error) = std::fs::read_dir(folder) {
+            return Err(Failure::file(folder, &error));
+        }
+        let mut tree = Tree::read_from(folder, read_names(None, folder)?)?;
+        let counts = read_counts(folder, &mut tree)?;
+        let title = title(folder, &tree);
+        Ok(House {
+            tree,
+            counts,
+            title,
+        })
+    }
+
+    /// Sets a symbol, by its name or its number.
+    pub fn set(&mut self, setting: &Setting) -> Outcome {
+        let Setting { name, value } = setting;
+        let number = name.parse().ok().filter(|&number: &usize| number < VALUES);
+        let symbol = number
+            .or_else(|| self.tree.names.find(name))
+            .ok_or_else(|| {
+                let names = self.tree.names.header(&[]).join(", ");
+                Failure::Problem(format!(
+                    "--set {name}={value}: no symbol is called {name} (names here: {names})"
+                ))
+            })?;
+        let most = ceiling(symbol);
+        let number = value.parse().ok().filter(|&number| number <= most);
+        let number = number.ok_or_else(|| {
+            Failure::Problem(format!(
+                "--set {name}={value}: expected a number from 0 to {most}"
+            ))
+        })?;
+        self.counts.set(symbol, number);
+        Ok(())
+    }
+
+    /// Asks for the values that the tree uses and nothing gives, on a terminal; elsewhere says that they count high.
+    pub fn complete(&mut self, nodes: &[Node], ask: bool) -> Outcome {
+        for symbol in self.absent(nodes) {
+            let name = self.tree.names.symbol(symbol);
+            if ask && io::stdin().is_terminal() && io::stderr().is_terminal() {
+                self.counts
+                    .set(symbol, ask_for(&name, most(symbol, nodes))?);
+            } else {
+                note(&not_given(&name, symbol));
+            }
+        }
+        Ok(())
+    }
+
+    /// The symbols that the tree uses and nothing gives.
+    pub fn absent(&self, nodes: &[Node]) -> Vec<usize> {
+        let mut symbols = table::symbols(nodes);
+        symbols.retain(|&symbol| self.counts.given(symbol).is_none());
+        symbols
+    }
+
+    /// The figure and its branch, or why there is none.
+    pub fn quote(&self) -> Outcome<Quote> {
+        volefleece::figure(&self.tree.table, &self.counts.lent())
+            .map_err(|refusal| self.refused(refusal))
+    }
+
+    /// A refusal of this house's tree and counts, with what a reader may look at first.
+    pub fn refused(&self, refusal: Refusal) -> Failure {
+        let hint = match refusal {
+            Refusal::Values => self.wrong_values(),
+            Refusal::TriangularNumber => self.wrong_triangular(),
+            _ => return self.tree.refused(refusal),
+        };
+        Failure::Refused { refusal, hint }
+    }
+
+    fn wrong_values(&self) -> Option<String> {
+        if let Some(length) = self.counts.wrong_length() {
+            let most = Counts::MOST_BYTES;
+            let length = if length > most {
+                format!("more than {most}")
+            } else {
+                length.to_string()
+            };
+            return Some(format!("{TABLE} has {length} bytes, and a value has 8"));
+        }
+        let values = self.counts.values();
+        let symbol = (0..VALUES).find(|&symbol| values[symbol] > ceiling(symbol))?;
+        let (name, most) = (self.tree.names.symbol(symbol), ceiling(symbol));
+        Some(format!(
+            "{name} is {}, and at most {most} is allowed",
+            values[symbol]
+        ))
+    }
+
+    fn wrong_triangular(&self) -> Option<String> {
+        let nodes = table::nodes(&self.tree.table);
+        let values = self.counts.values();
+        let symbol = table::symbols(&nodes)
+            .into_iter()
+            .find(|&symbol| values[symbol] > most(symbol, &nodes))?;
+        let name = self.tree.names.symbol(symbol);
+        Some(format!(
+            "{name} is {}, and its triangular number is a limit",
+            values[symbol]
+        ))
+    }
+
+    /// The branch by its child's name, or else by the child's own words.
+    pub fn branch_name(&self, branch: u8) -> String {
+        let child = usize::from(branch);
+        if let Some(name) = self.tree.names.branch(child) {
+            return name.into();
+        }
+        let records = table::records(&self.tree.table);
+        let (places, _) = table::places(&records);
+        let at = places
+            .iter()
+            .position(|place| place.parent == Some((0, child)));
+        let node = at
+            .and_then(|at| records[at].node())
+            .expect("a child of the root");
+        node_words(&node, &self.tree.names)
+    }
+}
+
+/// A folder's values.tab or values.txt, or both, where they say the same; neither gives none.
+fn read_counts(folder: &Path, tree: &mut Tree) -> Outcome<Counts> {
+    let text = folder.join(TEXT);
+    let table = files::read_if_there(&folder.join(TABLE), Counts::MOST_BYTES)?;
+    let table = table.map(|bytes| Counts::from_bytes(&bytes));
+    let from_text = files::read_text_if_there(&text)?;
+    let from_text = from_text
+        .map(|read| parse_counts(&text, &read, tree))
+        .transpose()?;
+    match (table, from_text) {
+        (Some(table), Some(counts)) if table.lent() != counts.lent() => Err(Failure::Problem(format!(
+            "{}: {TABLE} and {TEXT} hold different values: remove one, or make {TABLE} from {TEXT} by `volefleece values make`",
+            folder.display()
+        ))),
+        (_, Some(counts)) | (Some(counts), None) => Ok(counts),
+        (None, None) => Ok(Counts::default()),
+    }
+}
+
+fn parse_counts(path: &Path, text: &str, tree: &mut Tree) -> Outcome<Counts> {
+    let parsed = text::values::parse(text, &mut tree.names);
+    parsed.map_err(|problems| files::wrong_text(path, &problems))
+}
+
+fn title(folder: &Path, tree: &Tree) -> String {
+    let name = || {
+        let path = folder
+            .canonicalize()
+            .unwrap_or_else(|_| folder.to_path_buf());
+        let name = path.file_name().unwrap_or(path.as_os_str());
+        name.to_string_lossy().into_owned()
+    };
+    tree.names.house().map_or_else(name, String::from)
+}
+
+/// The largest value of a symbol in this tree: one whose triangular number is a limit has a lower ceiling.
+fn most(symbol: usize, nodes: &[Node]) -> u64 {
+    let triangular = Some(Amount::Triangular(symbol as u64));
+    let limits = nodes
+        .iter()
+        .map(|node| node.limit.map(|limit| limit.amount));
+    if limits.into_iter().any(|amount| amount == triangular) {
+        MOST_TRIANGULAR
+    } else {
+        ceiling(symbol)
+    }
+}
+
+/// What is said of a value that is not given.
+pub fn not_given(name: &str, symbol: usize) -> String {
+    format!("{name} is not given and counts {}", ceiling(symbol))
+}
+
+/// Asks until a number in range is typed.
+fn ask_for(name: &str, most: u64) -> Outcome<u64> {
+    let number = |text: &String| {
+        text.trim()
+            .parse()
+            .ok()
+            .filter(|&number: &u64| number <= most)
+    };
+    let range = format!("0 to {most}");
+    let answer = dialoguer::Input::<String>::new()
+        .with_prompt(format!("{name} ({range})"))
+        .validate_with(|text: &String| {
+            number(text)
+                .map(|_| ())
+                .ok_or(format!("a number from {range}, please"))
+        })
+        .interact_text();
+    let answer = answer
+        .map_err(|error| Failure::Problem(format!("{name}: no number was typed: {error}")))?;
+    number(&answer)
+        .ok_or_else(|| Failure::Problem(format!("{name}: {answer}: no number from {range}")))
+}

@@ -1,0 +1,144 @@
+//! The lines and words of a text, each with its place.
+
+use std::fmt;
+
+/// What is wrong at a place of a text. Lines and columns count from 1.
+#[derive(Clone, Debug, PartialEq, Eq)]
+pub struct Problem {
+    pub line: usize,
+    pub column: usize,
+    pub message: String,
+}
+
+impl Problem {
+    pub fn expected(word: &Word, expected: &str) -> Self {
+        let message = match word.text {
+            "" => format!("expected {expected}, and the line ends"),
+            found => format!("expected {expected}, found \"{found}\""),
+        };
+        word.problem(message)
+    }
+}
+
+impl fmt::Display for Problem {
+    fn fmt(&self, f: &mut fmt::Formatter<'_>) -> fmt::Result {
+        write!(f, "{}:{}: {}", self.line, self.column, self.message)
+    }
+}
+
+/// All that is wrong with a text, in its order.
+pub type Problems = Vec<Problem>;
+
+/// A word and where it stands. The end of a line is a word without letters.
+#[derive(Clone, Copy, Debug)]
+pub struct Word<'t> {
+    pub text: &'t str,
+    pub line: usize,
+    pub column: usize,
+}
+
+impl Word<'_> {
+    pub fn problem(&self, message: impl Into<String>) -> Problem {
+        Problem {
+            line: self.line,
+            column: self.column,
+            message: message.into(),
+        }
+    }
+}
+
+/// A line that has words, read from left to right.
+#[derive(Clone, Debug)]
+pub struct Line<'t> {
+    text: &'t str,
+    number: usize,
+    /// The bytes that have been read.
+    read: usize,
+}
+
+/// The lines of a text that have words, without their comments.
+pub fn lines(text: &str) -> impl Iterator<Item = Line<'_>> {
+    let lines = text.lines().enumerate();
+    lines
+        .map(|(before, line)| Line {
+            text: line.split('#').next().unwrap_or_default().trim_end(),
+            number: before + 1,
+            read: 0,
+        })
+        .filter(|line| !line.text.is_empty())
+}
+
+impl<'t> Line<'t> {
+    /// How far its first word is indented, or the sign there that is no space.
+    pub fn indent(&self) -> Result<usize, Problem> {
+        let first = self.peek();
+        let before = &self.text[..self.text.len() - self.text.trim_start().len()];
+        if before.chars().all(|sign| sign == ' ') {
+            Ok(before.len())
+        } else {
+            Err(first.problem("expected spaces alone before the first word"))
+        }
+    }
+
+    /// The next word, which stays the next.
+    pub fn peek(&self) -> Word<'t> {
+        self.clone().next()
+    }
+
+    /// The next word.
+    pub fn next(&mut self) -> Word<'t> {
+        let left = &self.text[self.read..];
+        let start = self.read + left.len() - left.trim_start().len();
+        let after = &self.text[start..];
+        let length = after.find(char::is_whitespace).unwrap_or(after.len());
+        self.read = start + length;
+        Word {
+            text: &self.text[start..self.read],
+            line: self.number,
+            column: self.text[..start].chars().count() + 1,
+        }
+    }
+
+    /// Takes the next word if it is this one.
+    pub fn take(&mut self, word: &str) -> bool {
+        let is_next = self.peek().text == word;
+        if is_next {
+            self.next();
+        }
+        is_next
+    }
+
+    /// Reads the words of a phrase.
+    pub fn want(&mut self, phrase: &str) -> Result<(), Problem> {
+        for wanted in phrase.split(' ') {
+            let word = self.next();
+            if word.text != wanted {
+                return Err(Problem::expected(&word, &format!("\"{wanted}\"")));
+            }
+        }
+        Ok(())
+    }
+
+    /// The words that are left, as one, with the spaces between them.
+    pub fn rest(&mut self) -> Word<'t> {
+        let first = self.peek();
+        let text = self.text[self.read..].trim_start();
+        self.read = self.text.len();
+        Word { text, ..first }
+    }
+
+    pub fn want_end(&mut self) -> Result<(), Problem> {
+        let word = self.next();
+        match word.text {
+            "" => Ok(()),
+            _ => Err(Problem::expected(&word, "the end of the line")),
+        }
+    }
+}
+
+/// The number that a word is, up to a largest one.
+pub fn number(word: &Word, most: u64) -> Option<u64> {
+    let is_number = !word.text.is_empty() && word.text.bytes().all(|byte| byte.is_ascii_digit());
+    let number = is_number.then(|| word.text.parse().ok()).flatten();
+    number.filter(|&number| number <= most)
+}

@@ -1,0 +1,285 @@
+//! A tree as text: a node on each line, its children below it and further in.
+
+mod print;
+
+use volefleece::{FIRST_TIME, MOST_COUNT, MOST_TIME};
+
+use super::header;
+use super::lines::{lines, number, Line, Problem, Problems, Word};
+use crate::names::Names;
+use crate::table::{Amount, Kind, Limit, Node, Scope, MOST_LOOPS};
+
+pub use print::{node_words, print, print_refused};
+
+/// The most children that a record can have.
+const MOST_CHILDREN: usize = 255;
+
+const IN_LOOPS_ALONE: &str = "\"body\" and \"exit\" stand in loops alone";
+
+/// A text's table, which the library has yet to accept, and the line of each of its records.
+#[derive(Clone, Debug, PartialEq, Eq)]
+pub struct Parsed {
+    pub table: Vec<u8>,
+    pub lines: Vec<usize>,
+}
+
+/// A child's part in its loop.
+#[derive(Clone, Copy, Debug, PartialEq, Eq)]
+enum Role {
+    Body,
+    Exit,
+}
+
+/// A line's node, what stands before it on its line, and how many children it has so far.
+struct Entry<'t> {
+    first: Word<'t>,
+    role: Option<Role>,
+    /// None where the line has a problem already.
+    node: Option<Node>,
+    children: usize,
+}
+
+/// The table of a text, or all that is wrong with it. Its names are taken in beside those that are known.
+pub fn parse(text: &str, names: &mut Names) -> Result<Parsed, Problems> {
+    let mut outline = Outline::default();
+    for mut line in lines(text) {
+        let first = line.peek();
+        if !header::begins(&first) {
+            outline.add(&mut line, names);
+        } else if outline.entries.is_empty() {
+            outline
+                .problems
+                .extend(header::read(&mut line, names).err());
+        } else {
+            let problem = first.problem("names stand before the first node");
+            outline.problems.push(problem);
+        }
+    }
+    outline.finish()
+}
+
+/// The nodes read so far.
+#[derive(Default)]
+struct Outline<'t> {
+    entries: Vec<Entry<'t>>,
+    /// The entries from the root to the last one, each with its indent.
+    open: Vec<(usize, usize)>,
+    problems: Problems,
+}
+
+impl<'t> Outline<'t> {
+    /// Reads a node's line. What is wrong with it is kept, and the lines after it are read as if it were right.
+    fn add(&mut self, line: &mut Line<'t>, names: &Names) {
+        let first = line.peek();
+        let indent = line.indent();
+        let role = role(line);
+        let read = node(line, names).and_then(|node| line.want_end().map(|()| node));
+        match indent {
+            Ok(indent) => self.open_at(indent, &first, role),
+            Err(problem) => self.problems.push(problem),
+        }
+        let node = read.map_err(|problem| self.problems.push(problem)).ok();
+        self.entries.push(Entry {
+            first,
+            role,
+            node,
+            children: 0,
+        });
+    }
+
+    /// Finds the node that the next one is a child of, by its indent.
+    fn open_at(&mut self, indent: usize, first: &Word, role: Option<Role>) {
+        let mut sibling = None;
+        while let Some(&(entry, within)) = self.open.last() {
+            if within < indent {
+                break;
+            }
+            sibling = Some((entry, within));
+            self.open.pop();
+        }
+        match (sibling, self.open.last()) {
+            (Some((_, within)), _) if within != indent => {
+                let message = format!("expected the indent of a line above, found {indent} spaces");
+                self.problems.push(first.problem(message));
+            }
+            (Some(_), None) => self
+                .problems
+                .push(first.problem("expected one root, and this is a second")),
+            _ => {}
+        }
+        if let Some(&(parent, _)) = self.open.last() {
+            self.add_child(parent, first, role);
+        }
+        self.open.push((self.entries.len(), indent));
+    }
+
+    fn add_child(&mut self, parent: usize, first: &Word, role: Option<Role>) {
+        let parent = &mut self.entries[parent];
+        let before = parent.children;
+        parent.children += 1;
+        let Some(node) = parent.node else { return };
+        let problem = match (node.kind, before, role) {
+            (Kind::Block(_), 0, _) => "a block has nothing below it",
+            (Kind::Loop(_), 0, Some(Role::Body)) | (Kind::Loop(_), 1, Some(Role::Exit)) => return,
+            (Kind::Loop(_), 0, _) => "expected \"body\": a loop's body comes first",
+            (Kind::Loop(_), 1, _) => "expected \"exit\": a loop's exit comes after its body",
+            (Kind::Loop(_), 2, _) => "a loop has a body and an exit and nothing more",
+            (Kind::Sequence | Kind::Choice, MOST_CHILDREN, _) => "a node has at most 255 children",
+            (Kind::Sequence | Kind::Choice, _, Some(_)) => IN_LOOPS_ALONE,
+            _ => return,
+        };
+        self.problems.push(first.problem(problem));
+    }
+
+    fn finish(mut self) -> Result<Parsed, Problems> {
+        for entry in &self.entries {
+            self.problems.extend(entry.wants());
+        }
+        if let Some(root) = self.entries.first().filter(|root| root.role.is_some()) {
+            self.problems.push(root.first.problem(IN_LOOPS_ALONE));
+        }
+        if self.entries.is_empty() && self.problems.is_empty() {
+            let (line, column) = (1, 1);
+            let message = "expected a node, and there is none".into();
+            self.problems.push(Problem {
+                line,
+                column,
+                message,
+            });
+        }
+        if !self.problems.is_empty() {
+            self.problems
+                .sort_by_key(|problem| (problem.line, problem.column));
+            return Err(self.problems);
+        }
+        let nodes = self.entries.iter().filter_map(Entry::node);
+        Ok(Parsed {
+            table: nodes.flat_map(|node| node.record().bytes()).collect(),
+            lines: self.entries.iter().map(|entry| entry.first.line).collect(),
+        })
+    }
+}
+
+impl Entry<'_> {
+    /// The node with its children.
+    fn node(&self) -> Option<Node> {
+        let children = u8::try_from(self.children).ok()?;
+        self.node.map(|node| Node { children, ..node })
+    }
+
+    /// What is missing below the node.
+    fn wants(&self) -> Option<Problem> {
+        let wants = match (self.node?.kind, self.children) {
+            (Kind::Sequence | Kind::Choice, 0) => "expected at least one node below it, further in",
+            (Kind::Loop(_), 0) => "expected a body and an exit below it, further in",
+            (Kind::Loop(_), 1) => "expected an exit below it, after its body",
+            _ => return None,
+        };
+        Some(self.first.problem(wants))
+    }
+}
+
+fn role(line: &mut Line) -> Option<Role> {
+    if line.take("body") {
+        Some(Role::Body)
+    } else if line.take("exit") {
+        Some(Role::Exit)
+    } else {
+        None
+    }
+}
+
+/// A line's node, as yet without children.
+fn node(line: &mut Line, names: &Names) -> Result<Node, Problem> {
+    let word = line.next();
+    let kind = match word.text {
+        "block" => Kind::Block(time(line, names)?),
+        "sequence" => Kind::Sequence,
+        "choice" => Kind::Choice,
+        "loop" => Kind::Loop(count(line, names)?),
+        _ => {
+            let expected = "\"block\", \"sequence\", \"choice\" or \"loop\"";
+            return Err(Problem::expected(&word, expected));
+        }
+    };
+    let children = 0;
+    let limit = limit(line, names)?;
+    Ok(Node {
+        kind,
+        children,
+        limit,
+    })
+}
+
+fn time(line: &mut Line, names: &Names) -> Result<Amount, Problem> {
+    let word = line.next();
+    let symbol = names.find(word.text).filter(|&symbol| symbol >= FIRST_TIME);
+    let amount = number(&word, MOST_TIME).map(Amount::Plain);
+    let amount = amount.or(symbol.map(|symbol| Amount::Symbol(symbol as u64)));
+    amount.ok_or_else(|| {
+        Problem::expected(
+            &word,
+            &format!("a time from 0 to {MOST_TIME} or the name of one (symbols 16 to 31)"),
+        )
+    })
+}
+
+fn count(line: &mut Line, names: &Names) -> Result<Amount, Problem> {
+    let word = line.next();
+    let plain = number(&word, MOST_COUNT).map(Amount::Plain);
+    let amount = plain.or(count_symbol(&word, names).map(Amount::Symbol));
+    amount.ok_or_else(|| {
+        Problem::expected(
+            &word,
+            &format!("a count from 0 to {MOST_COUNT} or the name of one (symbols 0 to 15)"),
+        )
+    })
+}
+
+fn count_symbol(word: &Word, names: &Names) -> Option<u64> {
+    let symbol = names.find(word.text).filter(|&symbol| symbol < FIRST_TIME);
+    symbol.map(|symbol| symbol as u64)
+}
+
+/// `at most 3 per loop 1`, `at most triangular retries per run`, or nothing.
+fn limit(line: &mut Line, names: &Names) -> Result<Option<Limit>, Problem> {
+    if line.peek().text.is_empty() {
+        return Ok(None);
+    }
+    if line.peek().text != "at" {
+        return Err(Problem::expected(
+            &line.next(),
+            "\"at most\" and a limit, or the end of the line",
+        ));
+    }
+    line.want("at most")?;
+    let amount = if line.take("triangular") {
+        let word = line.next();
+        let symbol = count_symbol(&word, names).map(Amount::Triangular);
+        symbol.ok_or_else(|| Problem::expected(&word, "the name of a count (symbols 0 to 15)"))?
+    } else {
+        count(line, names)?
+    };
+    line.want("per")?;
+    let scope = scope(line)?;
+    Ok(Some(Limit { amount, scope }))
+}
+
+fn scope(line: &mut Line) -> Result<Scope, Problem> {
+    let word = line.next();
+    match word.text {
+        "run" => Ok(Scope::Run),
+        "loop" => {
+            let word = line.next();
+            let loops = number(&word, MOST_LOOPS.into()).filter(|&loops| loops > 0);
+            let expected =
+                "1 for the innermost loop around the node, 2 for the next one outward, up to 8";
+            let loops = loops.ok_or_else(|| Problem::expected(&word, expected))?;
+            Ok(Scope::Loop(loops as u8))
+        }
+        _ => Err(Problem::expected(
+            &word,
+            "\"run\" or \"loop\" and its number",
+        )),
+    }
+}

@@ -1,0 +1,65 @@
+//! Values as text: a symbol's name and its value on each line.
+
+use volefleece::{ceiling, VALUES};
+
+use super::header;
+use super::lines::{lines, number, Line, Problem, Problems};
+use crate::counts::Counts;
+use crate::names::Names;
+
+/// The values that a text gives. Its names are taken in beside those that are known.
+pub fn parse(text: &str, names: &mut Names) -> Result<Counts, Problems> {
+    let mut counts = Counts::default();
+    let mut problems = Vec::new();
+    for mut line in lines(text) {
+        let read = if header::begins(&line.peek()) {
+            header::read(&mut line, names)
+        } else {
+            value(&mut line, names, &mut counts)
+        };
+        problems.extend(read.err());
+    }
+    if problems.is_empty() {
+        Ok(counts)
+    } else {
+        Err(problems)
+    }
+}
+
+fn value(line: &mut Line, names: &Names, counts: &mut Counts) -> Result<(), Problem> {
+    let name = line.next();
+    let symbol = names.find(name.text);
+    let expected = || {
+        Problem::expected(
+            &name,
+            &format!("{}, or a symbol's name and its value", header::EXPECTED),
+        )
+    };
+    let symbol = symbol.ok_or_else(expected)?;
+    let word = line.next();
+    let most = ceiling(symbol);
+    let value = number(&word, most);
+    let expected = || Problem::expected(&word, &format!("a number from 0 to {most}"));
+    let value = value.ok_or_else(expected)?;
+    if counts.given(symbol).is_some() {
+        return Err(name.problem(format!("{} has a value already", name.text)));
+    }
+    counts.set(symbol, value);
+    line.want_end()
+}
+
+/// The text of these values, which gives them back. Each is in range.
+pub fn print(counts: &Counts, names: &Names) -> String {
+    let given: Vec<usize> = (0..VALUES)
+        .filter(|&symbol| counts.given(symbol).is_some())
+        .collect();
+    let mut lines = names.header(&[]);
+    if !lines.is_empty() && !given.is_empty() {
+        lines.push(String::new());
+    }
+    for symbol in given {
+        let value = counts.given(symbol).expect("a given value");
+        lines.push(format!("{} {value}", names.symbol(symbol)));
+    }
+    lines.iter().map(|line| format!("{line}\n")).collect()
+}

@@ -1,0 +1,153 @@
+//! A tree from a file, as a table or as text, and to one.
+
+use std::path::{Path, PathBuf};
+
+use volefleece::{Refusal, MOST_TABLE, RECORD_BYTES};
+
+use crate::failure::{Failure, Outcome};
+use crate::files;
+use crate::hint;
+use crate::names::Names;
+use crate::table::{self, Node};
+use crate::text;
+
+pub const NAMES: &str = "names.txt";
+pub const TABLE: &str = "tree.tab";
+pub const TEXT: &str = "tree.txt";
+
+/// A table, which the library may refuse, with its names.
+#[derive(Clone, Debug, Default)]
+pub struct Tree {
+    pub table: Vec<u8>,
+    pub names: Names,
+    /// The text that it comes from, and there the line of each record.
+    source: Option<(PathBuf, Vec<usize>)>,
+    /// Where no file was, what was looked for.
+    missing: Option<String>,
+}
+
+impl Tree {
+    /// The tree of a file, or of the file in a folder. Its names come from names.txt beside it, or from the file that is named instead, and
+    /// from the text itself.
+    pub fn read(path: &Path, names: Option<&Path>) -> Outcome<Self> {
+        if path.is_dir() {
+            let names = read_names(names, path)?;
+            return Self::read_from(path, names);
+        }
+        let beside = path.parent().unwrap_or(Path::new(""));
+        let names = read_names(names, beside)?;
+        if files::is_text(path) {
+            Self::from_text(path, &files::read_text(path)?, names)
+        } else {
+            Ok(Self::from_table(files::read(path, MOST_TABLE)?, names))
+        }
+    }
+
+    /// The tree of a text, whatever its file is called.
+    pub fn read_text(path: &Path, names: Option<&Path>) -> Outcome<Self> {
+        let names = read_names(names, path.parent().unwrap_or(Path::new("")))?;
+        Self::from_text(path, &files::read_text(path)?, names)
+    }
+
+    /// The tree of a folder: its tree.tab or tree.txt, or of both, where they say the same. Without either it is empty, as for the desk.
+    pub fn read_from(folder: &Path, names: Names) -> Outcome<Self> {
+        let text = folder.join(TEXT);
+        let table = files::read_if_there(&folder.join(TABLE), MOST_TABLE)?;
+        let from_text = files::read_text_if_there(&text)?;
+        let from_text = from_text
+            .map(|read| Self::from_text(&text, &read, names.clone()))
+            .transpose()?;
+        match (table, from_text) {
+            (Some(table), Some(tree)) if table != tree.table => Err(Failure::Problem(format!(
+                "{}: {TABLE} and {TEXT} hold different trees: remove one, or make {TABLE} from {TEXT} by `volefleece make`",
+                folder.display()
+            ))),
+            (_, Some(tree)) => Ok(tree),
+            (Some(table), None) => Ok(Self::from_table(table, names)),
+            (None, None) => Ok(Tree {
+                names,
+                missing: Some(format!("{} has no {TABLE} and no {TEXT}", folder.display())),
+                ..Tree::default()
+            }),
+        }
+    }
+
+    pub fn from_table(table: Vec<u8>, names: Names) -> Self {
+        Tree {
+            table,
+            names,
+            ..Tree::default()
+        }
+    }
+
+    fn from_text(path: &Path, text: &str, mut names: Names) -> Outcome<Self> {
+        let parsed = text::tree::parse(text, &mut names);
+        let parsed = parsed.map_err(|problems| files::wrong_text(path, &problems))?;
+        Ok(Tree {
+            table: parsed.table,
+            names,
+            source: Some((path.to_path_buf(), parsed.lines)),
+            missing: None,
+        })
+    }
+
+    /// The nodes, where the library accepts the table.
+    pub fn check(&self) -> Outcome<Vec<Node>> {
+        match volefleece::check(&self.table) {
+            Ok(_) => Ok(table::nodes(&self.table)),
+            Err(refusal) => Err(self.refused(refusal)),
+        }
+    }
+
+    /// A refusal of this table, with what a reader may look at first.
+    pub fn refused(&self, refusal: Refusal) -> Failure {
+        Failure::Refused {
+            refusal,
+            hint: self.hint(refusal),
+        }
+    }
+
+    fn hint(&self, refusal: Refusal) -> Option<String> {
+        if refusal == Refusal::Length {
+            let length = match self.table.len() {
+                length if length > MOST_TABLE => {
+                    format!("the table has more than {MOST_TABLE} bytes")
+                }
+                length => format!("the table has {length} bytes"),
+            };
+            return Some(self.missing.clone().unwrap_or(length));
+        }
+        let hint = hint::find(&self.table, refusal)?;
+        let place = match &self.source {
+            Some((path, lines)) => format!("{}:{}", path.display(), lines[hint.record]),
+            None => format!(
+                "record {} (byte {})",
+                hint.record,
+                hint.record * RECORD_BYTES
+            ),
+        };
+        Some(format!("{place}: {}", hint.what))
+    }
+
+    /// Writes the tree to a file, as text where its name says so.
+    pub fn write(&self, path: &Path) -> Outcome {
+        if files::is_text(path) {
+            files::replace(path, text::tree::print(&self.table, &self.names).as_bytes())
+        } else {
+            files::replace(path, &self.table)
+        }
+    }
+}
+
+/// The names in a file that is named, or in a folder's names.txt where there is one.
+pub fn read_names(named: Option<&Path>, folder: &Path) -> Outcome<Names> {
+    let beside = folder.join(NAMES);
+    let (path, text) = match named {
+        Some(path) => (path, Some(files::read_text(path)?)),
+        None => (beside.as_path(), files::read_text_if_there(&beside)?),
+    };
+    let mut names = Names::default();
+    let read = text.map_or(Ok(()), |text| text::names::parse(&text, &mut names));
+    read.map_err(|problems| files::wrong_text(path, &problems))?;
+    Ok(names)
+}
