@@ -117,8 +117,9 @@ impl Names {
     /// The symbol of that name, given or plain.
     pub fn find(&self, name: &str) -> Option<usize> {
         let given = self.symbols.iter().find(|(_, given)| *given == name);
-        let symbol = given.map(|(&symbol, _)| symbol);
-        symbol.or_else(|| (0..VALUES).find(|&symbol| plain_name(symbol) == name))
+        given
+            .map(|(&symbol, _)| symbol)
+            .or_else(|| by_plain_name(name))
     }
 
     /// The lines of a text's header: the house, these symbols and all others that have names, and the branches.
@@ -148,6 +149,12 @@ pub fn shown(named: Named) -> String {
 fn plain_name(symbol: usize) -> String {
     let class = if symbol < FIRST_TIME { "count" } else { "time" };
     format!("{class}-{symbol}")
+}
+
+fn by_plain_name(name: &str) -> Option<usize> {
+    let (_, number) = name.rsplit_once('-')?;
+    let symbol = number.parse().ok().filter(|&symbol| symbol < VALUES)?;
+    (plain_name(symbol) == name).then_some(symbol)
 }
 
 fn is_word(name: &str) -> bool {

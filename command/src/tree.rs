@@ -109,13 +109,7 @@ impl Tree {
 
     fn hint(&self, refusal: Refusal) -> Option<String> {
         if refusal == Refusal::Length {
-            let length = match self.table.len() {
-                length if length > MOST_TABLE => {
-                    format!("the table has more than {MOST_TABLE} bytes")
-                }
-                length => format!("the table has {length} bytes"),
-            };
-            return Some(self.missing.clone().unwrap_or(length));
+            return Some(self.wrong_length());
         }
         let hint = hint::find(&self.table, refusal)?;
         let place = match &self.source {
@@ -127,6 +121,23 @@ impl Tree {
             ),
         };
         Some(format!("{place}: {}", hint.what))
+    }
+
+    fn wrong_length(&self) -> String {
+        let most = MOST_TABLE / RECORD_BYTES;
+        match (&self.source, &self.missing, self.table.len()) {
+            (Some((path, lines)), ..) => format!(
+                "{}:{}: the text has {} nodes, and a table has at most {most}",
+                path.display(),
+                lines[most],
+                lines.len()
+            ),
+            (None, Some(missing), _) => missing.clone(),
+            (None, None, length) if length > MOST_TABLE => {
+                format!("the table has more than {MOST_TABLE} bytes")
+            }
+            (None, None, length) => format!("the table has {length} bytes"),
+        }
     }
 
     /// Writes the tree to a file, as text where its name says so.

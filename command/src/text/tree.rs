@@ -1,13 +1,12 @@
 //! A tree as text: a node on each line, its children below it and further in.
 
+mod node;
 mod print;
 
-use volefleece::{FIRST_TIME, MOST_COUNT, MOST_TIME};
-
 use super::header;
-use super::lines::{lines, number, Line, Problem, Problems, Word};
+use super::lines::{lines, Line, Problem, Problems, Word};
 use crate::names::Names;
-use crate::table::{Amount, Kind, Limit, Node, Scope, MOST_LOOPS};
+use crate::table::{Kind, Node};
 
 pub use print::{node_words, print, print_refused};
 
@@ -34,7 +33,7 @@ enum Role {
 struct Entry<'t> {
     first: Word<'t>,
     role: Option<Role>,
-    /// None where the line has a problem already.
+    /// None where the line does not say its kind.
     node: Option<Node>,
     children: usize,
 }
@@ -73,12 +72,12 @@ impl<'t> Outline<'t> {
         let first = line.peek();
         let indent = line.indent();
         let role = role(line);
-        let read = node(line, names).and_then(|node| line.want_end().map(|()| node));
+        let (node, problem) = node::read(line, names);
         match indent {
             Ok(indent) => self.open_at(indent, &first, role),
             Err(problem) => self.problems.push(problem),
         }
-        let node = read.map_err(|problem| self.problems.push(problem)).ok();
+        self.problems.extend(problem);
         self.entries.push(Entry {
             first,
             role,
@@ -119,12 +118,14 @@ impl<'t> Outline<'t> {
         parent.children += 1;
         let Some(node) = parent.node else { return };
         let problem = match (node.kind, before, role) {
-            (Kind::Block(_), 0, _) => "a block has nothing below it",
+            (Kind::Block(_), ..) => "a block has nothing below it",
             (Kind::Loop(_), 0, Some(Role::Body)) | (Kind::Loop(_), 1, Some(Role::Exit)) => return,
             (Kind::Loop(_), 0, _) => "expected \"body\": a loop's body comes first",
             (Kind::Loop(_), 1, _) => "expected \"exit\": a loop's exit comes after its body",
-            (Kind::Loop(_), 2, _) => "a loop has a body and an exit and nothing more",
-            (Kind::Sequence | Kind::Choice, MOST_CHILDREN, _) => "a node has at most 255 children",
+            (Kind::Loop(_), ..) => "a loop has a body and an exit and nothing more",
+            (Kind::Sequence | Kind::Choice, MOST_CHILDREN.., _) => {
+                "a node has at most 255 children"
+            }
             (Kind::Sequence | Kind::Choice, _, Some(_)) => IN_LOOPS_ALONE,
             _ => return,
         };
@@ -186,100 +187,5 @@ fn role(line: &mut Line) -> Option<Role> {
         Some(Role::Exit)
     } else {
         None
-    }
-}
-
-/// A line's node, as yet without children.
-fn node(line: &mut Line, names: &Names) -> Result<Node, Problem> {
-    let word = line.next();
-    let kind = match word.text {
-        "block" => Kind::Block(time(line, names)?),
-        "sequence" => Kind::Sequence,
-        "choice" => Kind::Choice,
-        "loop" => Kind::Loop(count(line, names)?),
-        _ => {
-            let expected = "\"block\", \"sequence\", \"choice\" or \"loop\"";
-            return Err(Problem::expected(&word, expected));
-        }
-    };
-    let children = 0;
-    let limit = limit(line, names)?;
-    Ok(Node {
-        kind,
-        children,
-        limit,
-    })
-}
-
-fn time(line: &mut Line, names: &Names) -> Result<Amount, Problem> {
-    let word = line.next();
-    let symbol = names.find(word.text).filter(|&symbol| symbol >= FIRST_TIME);
-    let amount = number(&word, MOST_TIME).map(Amount::Plain);
-    let amount = amount.or(symbol.map(|symbol| Amount::Symbol(symbol as u64)));
-    amount.ok_or_else(|| {
-        Problem::expected(
-            &word,
-            &format!("a time from 0 to {MOST_TIME} or the name of one (symbols 16 to 31)"),
-        )
-    })
-}
-
-fn count(line: &mut Line, names: &Names) -> Result<Amount, Problem> {
-    let word = line.next();
-    let plain = number(&word, MOST_COUNT).map(Amount::Plain);
-    let amount = plain.or(count_symbol(&word, names).map(Amount::Symbol));
-    amount.ok_or_else(|| {
-        Problem::expected(
-            &word,
-            &format!("a count from 0 to {MOST_COUNT} or the name of one (symbols 0 to 15)"),
-        )
-    })
-}
-
-fn count_symbol(word: &Word, names: &Names) -> Option<u64> {
-    let symbol = names.find(word.text).filter(|&symbol| symbol < FIRST_TIME);
-    symbol.map(|symbol| symbol as u64)
-}
-
-/// `at most 3 per loop 1`, `at most triangular retries per run`, or nothing.
-fn limit(line: &mut Line, names: &Names) -> Result<Option<Limit>, Problem> {
-    if line.peek().text.is_empty() {
-        return Ok(None);
-    }
-    if line.peek().text != "at" {
-        return Err(Problem::expected(
-            &line.next(),
-            "\"at most\" and a limit, or the end of the line",
-        ));
-    }
-    line.want("at most")?;
-    let amount = if line.take("triangular") {
-        let word = line.next();
-        let symbol = count_symbol(&word, names).map(Amount::Triangular);
-        symbol.ok_or_else(|| Problem::expected(&word, "the name of a count (symbols 0 to 15)"))?
-    } else {
-        count(line, names)?
-    };
-    line.want("per")?;
-    let scope = scope(line)?;
-    Ok(Some(Limit { amount, scope }))
-}
-
-fn scope(line: &mut Line) -> Result<Scope, Problem> {
-    let word = line.next();
-    match word.text {
-        "run" => Ok(Scope::Run),
-        "loop" => {
-            let word = line.next();
-            let loops = number(&word, MOST_LOOPS.into()).filter(|&loops| loops > 0);
-            let expected =
-                "1 for the innermost loop around the node, 2 for the next one outward, up to 8";
-            let loops = loops.ok_or_else(|| Problem::expected(&word, expected))?;
-            Ok(Scope::Loop(loops as u8))
-        }
-        _ => Err(Problem::expected(
-            &word,
-            "\"run\" or \"loop\" and its number",
-        )),
     }
 }

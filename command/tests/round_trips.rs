@@ -1,0 +1,163 @@
+//! What is shown as text and made again is the same, byte for byte: hundreds of thousands of accepted tables, and of values.
+
+use volefleece_command::counts::Counts;
+use volefleece_command::names::{Named, Names};
+use volefleece_command::{table, text};
+use volefleece_tests::rng::Rng;
+use volefleece_tests::trees;
+
+/// Names of all sorts, of some symbols.
+fn names(rng: &mut Rng) -> Names {
+    let words = [
+        "cards",
+        "retries",
+        "x",
+        "Zähler",
+        "カード",
+        "a-b_c",
+        "loops",
+        "T0",
+        "count",
+    ];
+    let mut names = Names::default();
+    for symbol in 0..32 {
+        if rng.once_in(2) {
+            let name = format!("{}{symbol}", rng.pick(&words));
+            names.add(Named::Symbol(symbol), &name).expect("a name");
+        }
+    }
+    if rng.once_in(2) {
+        let (child, name) = (rng.index(255), "the card reader, at the door");
+        names.add(Named::Branch(child), name).expect("a name");
+        names.add(Named::House, "Lakeside 4").expect("a name");
+    }
+    names
+}
+
+#[track_caller]
+fn returns(table: &[u8], names: &Names) {
+    let shown = text::tree::print(table, names);
+    let mut read = Names::default();
+    let parsed = text::tree::parse(&shown, &mut read);
+    let parsed = parsed.unwrap_or_else(|problems| panic!("{problems:?}\n{shown}"));
+    assert_eq!(parsed.table, table, "{shown}");
+    // Only plain names may be lost, and those are the same again.
+    assert_eq!(text::tree::print(&parsed.table, &read), shown);
+    let node_lines = shown.lines().rev().take(parsed.lines.len()).count();
+    assert_eq!(node_lines * 16, table.len());
+}
+
+#[test]
+fn trees_return() {
+    let mut rng = Rng::new(1);
+    let (mut tables, mut records, mut limited, mut triangular) = (0, 0, 0, 0);
+    while tables < 200_000 {
+        let most = rng.pick(&[3, 8, 8, 15, 30]);
+        let size = rng.size(1..=most);
+        let table = trees::within_limits(&mut rng, size).encode();
+        assert_eq!(volefleece::check(&table), Ok(size));
+        returns(&table, &names(&mut rng));
+        tables += 1;
+        records += size;
+        let nodes = table::nodes(&table);
+        limited += nodes.iter().filter(|node| node.limit.is_some()).count();
+        triangular += table.chunks(16).filter(|record| record[1] & 4 != 0).count();
+    }
+    assert!(
+        records > 1_000_000 && limited > 100_000 && triangular > 10_000,
+        "{records} {limited} {triangular}"
+    );
+}
+
+#[test]
+fn large_trees_return() {
+    let mut rng = Rng::new(2);
+    for size in (200..=512).cycle().take(2_000) {
+        let table = trees::within_limits(&mut rng, size).encode();
+        returns(&table, &names(&mut rng));
+    }
+}
+
+/// Every record that question 2 accepts is the node's that it is read as, and no other is read as a node: over all kinds, flags, children
+/// and loops that are near.
+#[test]
+fn nodes_are_what_question_2_accepts() {
+    let near = [0, 1, 2, 3, 4, 5, 6, 7, 8, 9, 254, 255];
+    let (mut read, mut refused) = (0, 0);
+    for kind in near {
+        for flags in near {
+            for children in near {
+                for names in near {
+                    for (limit, value) in [(0, 0), (1, 0), (0, 1), (1, 1), (u8::MAX, u8::MAX)] {
+                        let mut record = [0; 16];
+                        record[..5].copy_from_slice(&[kind, flags, children, names, limit]);
+                        record[15] = value;
+                        let fields = table::records(&record)[0];
+                        assert_eq!(fields.bytes(), record);
+                        let is_node = fields.node().is_some();
+                        let question = volefleece::check(&record)
+                            .err()
+                            .map_or(0, |refusal| refusal.number());
+                        assert_eq!(is_node, question != 2, "{record:?}");
+                        read += usize::from(is_node);
+                        refused += usize::from(!is_node);
+                    }
+                }
+            }
+        }
+    }
+    assert!(read > 500 && refused > 50_000, "{read} {refused}");
+}
+
+fn value(rng: &mut Rng, symbol: usize) -> u64 {
+    let most = volefleece::ceiling(symbol);
+    match rng.index(4) {
+        0 => 0,
+        1 => most,
+        _ => rng.within(0..=most),
+    }
+}
+
+#[test]
+fn values_return() {
+    let mut rng = Rng::new(3);
+    let mut lengths = [0; 33];
+    for _ in 0..100_000 {
+        let given = rng.index(33);
+        let values: Vec<u64> = (0..given).map(|symbol| value(&mut rng, symbol)).collect();
+        let bytes: Vec<u8> = values
+            .iter()
+            .flat_map(|value| value.to_le_bytes())
+            .collect();
+        let shown = text::values::print(&Counts::from_bytes(&bytes), &names(&mut rng));
+        let mut read = Names::default();
+        let counts = text::values::parse(&shown, &mut read)
+            .unwrap_or_else(|problems| panic!("{problems:?}\n{shown}"));
+        assert_eq!(counts.bytes(), bytes, "{shown}");
+        assert_eq!(text::values::print(&counts, &read), shown);
+        lengths[given] += 1;
+    }
+    assert!(lengths.iter().all(|&times| times > 1_000), "{lengths:?}");
+}
+
+/// Values that a text leaves out count the most, as absent ones do, also where a file has to hold something in their place.
+#[test]
+fn values_left_out_count_the_most() {
+    let mut rng = Rng::new(4);
+    for _ in 0..20_000 {
+        let mut counts = Counts::default();
+        for symbol in 0..32 {
+            if rng.once_in(3) {
+                counts.set(symbol, value(&mut rng, symbol));
+            }
+        }
+        let shown = text::values::print(&counts, &names(&mut rng));
+        let read = text::values::parse(&shown, &mut Names::default()).expect("values");
+        assert_eq!(read, counts);
+        let filed = Counts::from_bytes(&counts.bytes());
+        assert_eq!(filed.lent(), counts.lent());
+        for symbol in (0..32).filter(|&symbol| counts.given(symbol).is_none()) {
+            assert_eq!(filed.lent()[symbol], volefleece::ceiling(symbol));
+        }
+    }
+}
