@@ -69,15 +69,13 @@ pub fn lines(text: &str) -> impl Iterator<Item = Line<'_>> {
 }
 
 impl<'t> Line<'t> {
-    /// How far its first word is indented, or the sign there that is no space.
-    pub fn indent(&self) -> Result<usize, Problem> {
-        let first = self.peek();
+    /// How far its first word is indented, and what is wrong with the indent.
+    pub fn indent(&self) -> (usize, Option<Problem>) {
         let before = &self.text[..self.text.len() - self.text.trim_start().len()];
-        if before.chars().all(|sign| sign == ' ') {
-            Ok(before.len())
-        } else {
-            Err(first.problem("expected spaces alone before the first word"))
-        }
+        let is_wrong = before.contains(|sign| sign != ' ');
+        let message = "expected spaces alone before the first word";
+        let problem = is_wrong.then(|| self.peek().problem(message));
+        (before.chars().count(), problem)
     }
 
     /// The next word, which stays the next.

@@ -70,14 +70,12 @@ impl<'t> Outline<'t> {
     /// Reads a node's line. What is wrong with it is kept, and the lines after it are read as if it were right.
     fn add(&mut self, line: &mut Line<'t>, names: &Names) {
         let first = line.peek();
-        let indent = line.indent();
+        let (indent, wrong_indent) = line.indent();
         let role = role(line);
         let (node, problem) = node::read(line, names);
-        match indent {
-            Ok(indent) => self.open_at(indent, &first, role),
-            Err(problem) => self.problems.push(problem),
-        }
-        self.problems.extend(problem);
+        self.open_at(indent, &first, role);
+        self.problems
+            .extend(wrong_indent.into_iter().chain(problem));
         self.entries.push(Entry {
             first,
             role,

@@ -1,0 +1,394 @@
+//! Every line of a wrong text is told, with its place and what was expected there.
+
+use volefleece_command::names::Names;
+use volefleece_command::text::{self, Problems};
+
+/// What is wrong, a line each.
+fn told<T: std::fmt::Debug>(read: Result<T, Problems>) -> Vec<String> {
+    let problems = read.expect_err("a wrong text");
+    problems.iter().map(ToString::to_string).collect()
+}
+
+#[track_caller]
+fn tree(text: &str, expected: &[&str]) {
+    assert_eq!(
+        told(text::tree::parse(text, &mut Names::default())),
+        expected,
+        "{text}"
+    );
+}
+
+#[track_caller]
+fn values(text: &str, expected: &[&str]) {
+    assert_eq!(
+        told(text::values::parse(text, &mut Names::default())),
+        expected,
+        "{text}"
+    );
+}
+
+#[track_caller]
+fn names(text: &str, expected: &[&str]) {
+    assert_eq!(
+        told(text::names::parse(text, &mut Names::default())),
+        expected,
+        "{text}"
+    );
+}
+
+const KIND: &str = "expected \"block\", \"sequence\", \"choice\" or \"loop\"";
+const TIME: &str = "expected a time from 0 to 1000000000000 or the name of one (symbols 16 to 31)";
+const COUNT: &str = "expected a count from 0 to 1000000 or the name of one (symbols 0 to 15)";
+const HEADER: &str = "expected \"symbol\", \"branch\" or \"house\" and a name";
+const LOOPS: &str =
+    "expected 1 for the innermost loop around the node, 2 for the next one outward, up to 8";
+
+#[test]
+fn no_node() {
+    for text in ["", "\n\n", "# nothing\n", "symbol 0 cards\n"] {
+        tree(text, &["1:1: expected a node, and there is none"]);
+    }
+}
+
+#[test]
+fn kinds() {
+    tree("blok 7", &[&format!("1:1: {KIND}, found \"blok\"")]);
+    tree("Block 7", &[&format!("1:1: {KIND}, found \"Block\"")]);
+    tree(
+        "loop 3\n  body\n  exit",
+        &[
+            &format!("2:7: {KIND}, and the line ends"),
+            &format!("3:7: {KIND}, and the line ends"),
+        ],
+    );
+    tree("7", &[&format!("1:1: {KIND}, found \"7\"")]);
+}
+
+#[test]
+fn times_and_counts() {
+    tree("block", &[&format!("1:6: {TIME}, and the line ends")]);
+    for wrong in [
+        "x",
+        "1000000000001",
+        "-1",
+        "+1",
+        "1.5",
+        "1,000",
+        "0x10",
+        "99999999999999999999",
+        "count-3",
+        "٣",
+    ] {
+        tree(
+            &format!("block {wrong}"),
+            &[&format!("1:7: {TIME}, found \"{wrong}\"")],
+        );
+    }
+    for wrong in ["x", "1000001", "-1", "time-16", "count-16", "time-3"] {
+        let text = format!("loop {wrong}\n  body block 1\n  exit block 1");
+        tree(&text, &[&format!("1:6: {COUNT}, found \"{wrong}\"")]);
+    }
+    tree(
+        "symbol 0 cards\nblock cards",
+        &[&format!("2:7: {TIME}, found \"cards\"")],
+    );
+    tree(
+        "symbol 16 radio\nloop radio\n  body block radio\n  exit block 0",
+        &[&format!("2:6: {COUNT}, found \"radio\"")],
+    );
+}
+
+#[test]
+fn limits() {
+    let limit = "expected \"at most\" and a limit, or the end of the line";
+    tree(
+        "block 7 most 3",
+        &[&format!("1:9: {limit}, found \"most\"")],
+    );
+    tree(
+        "sequence 3\n  block 1",
+        &[&format!("1:10: {limit}, found \"3\"")],
+    );
+    tree("block 7 at 3", &["1:12: expected \"most\", found \"3\""]);
+    tree(
+        "block 7 at",
+        &["1:11: expected \"most\", and the line ends"],
+    );
+    tree(
+        "block 7 at most",
+        &[&format!("1:16: {COUNT}, and the line ends")],
+    );
+    tree(
+        "block 7 at most 1000001 per run",
+        &[&format!("1:17: {COUNT}, found \"1000001\"")],
+    );
+    tree(
+        "block 7 at most 3",
+        &["1:18: expected \"per\", and the line ends"],
+    );
+    tree(
+        "block 7 at most 3 per",
+        &["1:22: expected \"run\" or \"loop\" and its number, and the line ends"],
+    );
+    tree(
+        "block 7 at most 3 per pass",
+        &["1:23: expected \"run\" or \"loop\" and its number, found \"pass\""],
+    );
+    for wrong in ["0", "9", "x", "255"] {
+        tree(
+            &format!("block 7 at most 3 per loop {wrong}"),
+            &[&format!("1:28: {LOOPS}, found \"{wrong}\"")],
+        );
+    }
+    tree(
+        "block 7 at most 3 per loop",
+        &[&format!("1:27: {LOOPS}, and the line ends")],
+    );
+    tree(
+        "block 7 at most 3 per run 2",
+        &["1:27: expected the end of the line, found \"2\""],
+    );
+    let name = "expected the name of a count (symbols 0 to 15)";
+    tree(
+        "block 7 at most triangular 3 per run",
+        &[&format!("1:28: {name}, found \"3\"")],
+    );
+    tree(
+        "block 7 at most triangular time-16 per run",
+        &[&format!("1:28: {name}, found \"time-16\"")],
+    );
+}
+
+#[test]
+fn indents() {
+    tree(
+        "sequence\n\tblock 1",
+        &["2:2: expected spaces alone before the first word"],
+    );
+    tree(
+        "sequence\n    block 1\n  block 2",
+        &["3:3: expected the indent of a line above, found 2 spaces"],
+    );
+    tree(
+        "block 1\nblock 2\nblock 3",
+        &[
+            "2:1: expected one root, and this is a second",
+            "3:1: expected one root, and this is a second",
+        ],
+    );
+}
+
+#[test]
+fn children() {
+    tree(
+        "block 1\n  block 2\n  block 3",
+        &[
+            "2:3: a block has nothing below it",
+            "3:3: a block has nothing below it",
+        ],
+    );
+    for kind in ["sequence", "choice"] {
+        tree(
+            kind,
+            &["1:1: expected at least one node below it, further in"],
+        );
+        let many: String = (0..257).map(|_| "  block 1\n").collect();
+        let text = format!("{kind}\n{many}");
+        tree(
+            &text,
+            &[
+                "257:3: a node has at most 255 children",
+                "258:3: a node has at most 255 children",
+            ],
+        );
+        let text = format!("{kind}\n  body block 1\n  exit block 2");
+        let alone = "\"body\" and \"exit\" stand in loops alone";
+        tree(&text, &[&format!("2:3: {alone}"), &format!("3:3: {alone}")]);
+    }
+    tree(
+        "exit block 1",
+        &["1:1: \"body\" and \"exit\" stand in loops alone"],
+    );
+}
+
+#[test]
+fn loops() {
+    let body = "expected \"body\": a loop's body comes first";
+    let exit = "expected \"exit\": a loop's exit comes after its body";
+    tree(
+        "loop 3",
+        &["1:1: expected a body and an exit below it, further in"],
+    );
+    tree(
+        "loop 3\n  body block 1",
+        &["1:1: expected an exit below it, after its body"],
+    );
+    tree(
+        "loop 3\n  block 1\n  block 2",
+        &[&format!("2:3: {body}"), &format!("3:3: {exit}")],
+    );
+    tree(
+        "loop 3\n  exit block 1\n  body block 2",
+        &[&format!("2:3: {body}"), &format!("3:3: {exit}")],
+    );
+    let more = "a loop has a body and an exit and nothing more";
+    tree(
+        "loop 3\n  body block 1\n  exit block 2\n  block 3\n  exit block 4",
+        &[&format!("4:3: {more}"), &format!("5:3: {more}")],
+    );
+}
+
+/// A wrong line hides nothing that is wrong on the lines around it, and its own children are judged by its kind.
+#[test]
+fn every_line_is_told() {
+    let text = "symbol 77 x\nsequence\n  loop x at most 3 per loop 9\n    block 7\n    exit blok 3\n  block 1 at most\nsymbol 1 late\nblock 9 9\n";
+    tree(
+        text,
+        &[
+            "1:8: expected a symbol's number, 0 to 31, found \"77\"",
+            &format!("3:8: {COUNT}, found \"x\""),
+            "4:5: expected \"body\": a loop's body comes first",
+            &format!("5:10: {KIND}, found \"blok\""),
+            &format!("6:18: {COUNT}, and the line ends"),
+            "7:1: names stand before the first node",
+            "8:1: expected one root, and this is a second",
+            "8:9: expected \"at most\" and a limit, or the end of the line, found \"9\"",
+        ],
+    );
+}
+
+#[test]
+fn headers() {
+    names("cards 40", &[&format!("1:1: {HEADER}, found \"cards\"")]);
+    names(
+        "symbol",
+        &["1:7: expected a symbol's number, 0 to 31, and the line ends"],
+    );
+    names(
+        "symbol 32 x",
+        &["1:8: expected a symbol's number, 0 to 31, found \"32\""],
+    );
+    names(
+        "branch 255 x",
+        &["1:8: expected a child's number, 0 to 254, found \"255\""],
+    );
+    for text in ["symbol 3", "branch 3", "house"] {
+        names(
+            text,
+            &[&format!(
+                "1:{}: expected a name, and the line ends",
+                text.len() + 1
+            )],
+        );
+    }
+    names(
+        "symbol 3 card count",
+        &["1:15: expected the end of the line, found \"count\""],
+    );
+    let letters = "is no name: a letter comes first, then letters, digits, - and _";
+    for wrong in ["3", "-x", "a.b", "a/b", "_x", "a=b", "\"x\""] {
+        names(
+            &format!("symbol 3 {wrong}"),
+            &[&format!("1:10: \"{wrong}\" {letters}")],
+        );
+    }
+    for word in [
+        "at",
+        "block",
+        "body",
+        "branch",
+        "choice",
+        "exit",
+        "house",
+        "loop",
+        "most",
+        "per",
+        "run",
+        "sequence",
+        "symbol",
+        "triangular",
+    ] {
+        names(
+            &format!("symbol 3 {word}"),
+            &[&format!(
+                "1:10: \"{word}\" is a word of the text form and no name"
+            )],
+        );
+    }
+    names(
+        "symbol 3 x\nsymbol 4 x",
+        &["2:10: symbol 3 is called x already"],
+    );
+    names(
+        "symbol 3 time-16",
+        &["1:10: symbol 16 is called time-16 already"],
+    );
+    names(
+        "symbol 3 x\nsymbol 3 y",
+        &["2:10: symbol 3 is called both x and y"],
+    );
+    names(
+        "branch 3 x\nbranch 3 y z",
+        &["2:10: branch 3 is called both x and y z"],
+    );
+    names(
+        "house x\nhouse y",
+        &["2:7: the house is called both x and y"],
+    );
+}
+
+#[test]
+fn values_of_symbols() {
+    values(
+        "cards 40",
+        &[&format!(
+            "1:1: {HEADER}, or a symbol's name and its value, found \"cards\""
+        )],
+    );
+    values(
+        "count-0",
+        &["1:8: expected a number from 0 to 1000000, and the line ends"],
+    );
+    values(
+        "count-0 1000001",
+        &["1:9: expected a number from 0 to 1000000, found \"1000001\""],
+    );
+    values(
+        "time-16 1000000000001",
+        &["1:9: expected a number from 0 to 1000000000000, found \"1000000000001\""],
+    );
+    values(
+        "count-0 = 40",
+        &["1:9: expected a number from 0 to 1000000, found \"=\""],
+    );
+    values(
+        "count-0 40 50",
+        &["1:12: expected the end of the line, found \"50\""],
+    );
+    values(
+        "symbol 0 cards\ncards 1\ncards 1\ncount-0 2",
+        &[
+            "3:1: cards has a value already",
+            "4:1: count-0 has a value already",
+        ],
+    );
+    values(
+        "x 1\ny 2",
+        &[
+            &format!("1:1: {HEADER}, or a symbol's name and its value, found \"x\""),
+            &format!("2:1: {HEADER}, or a symbol's name and its value, found \"y\""),
+        ],
+    );
+}
+
+/// What a text may have besides: comments, empty lines, any deeper indent, another system's line ends, names that are given twice alike.
+#[test]
+fn right_texts() {
+    let plain =
+        "sequence\n  block 1\n  choice\n    block 2\n    block time-16 at most count-0 per run\n";
+    let same = "# a tree\r\nsymbol 0 cards # the count\r\nsymbol 0 cards\r\n\r\n   sequence\r\n         block 1\r\n\r\n         choice # here\r\n          block 2\r\n          block   time-16  at most cards per run\r\n";
+    let read = |text| text::tree::parse(text, &mut Names::default()).expect("a tree");
+    assert_eq!(read(plain).table, read(same).table);
+    assert_eq!(read(plain).lines, [1, 2, 3, 4, 5]);
+    assert_eq!(read(same).lines, [5, 6, 8, 9, 10]);
+}
