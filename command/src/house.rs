@@ -47,12 +47,12 @@ impl std::str::FromStr for Setting {
 }
 
 impl House {
-    /// The house of a folder.
-    pub fn read(folder: &Path) -> Outcome<Self> {
+    /// The house of a folder. Its names come from the file that is named, or else from names.txt there.
+    pub fn read(folder: &Path, names: Option<&Path>) -> Outcome<Self> {
         if let Err(error) = std::fs::read_dir(folder) {
             return Err(Failure::file(folder, &error));
         }
-        let mut tree = Tree::read_from(folder, read_names(None, folder)?)?;
+        let mut tree = Tree::read_from(folder, read_names(names, folder)?)?;
         let counts = read_counts(folder, &mut tree)?;
         let title = title(folder, &tree);
         Ok(House {
@@ -69,7 +69,7 @@ impl House {
         let symbol = number
             .or_else(|| self.tree.names.find(name))
             .ok_or_else(|| {
-                let names = self.tree.names.header(&[]).join(", ");
+                let names = self.tree.names.symbols().join(", ");
                 Failure::Problem(format!(
                     "--set {name}={value}: no symbol is called {name} (names here: {names})"
                 ))
@@ -87,6 +87,10 @@ impl House {
 
     /// Asks for the values that the tree uses and nothing gives, on a terminal; elsewhere says that they count high.
     pub fn complete(&mut self, nodes: &[Node], ask: bool) -> Outcome {
+        if self.counts.wrong_length().is_some() {
+            // Whatever is typed, question 9 refuses the file.
+            return Ok(());
+        }
         for symbol in self.absent(nodes) {
             let name = self.tree.names.symbol(symbol);
             if ask && io::stdin().is_terminal() && io::stderr().is_terminal() {

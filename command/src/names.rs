@@ -106,6 +106,11 @@ impl Names {
             .unwrap_or_else(|| plain_name(symbol))
     }
 
+    /// The names that symbols are given.
+    pub fn symbols(&self) -> Vec<&str> {
+        self.symbols.values().map(String::as_str).collect()
+    }
+
     pub fn branch(&self, child: usize) -> Option<&str> {
         self.branches.get(&child).map(String::as_str)
     }

@@ -20,10 +20,20 @@ pub const TEXT: &str = "tree.txt";
 pub struct Tree {
     pub table: Vec<u8>,
     pub names: Names,
-    /// The text that it comes from, and there the line of each record.
-    source: Option<(PathBuf, Vec<usize>)>,
-    /// Where no file was, what was looked for.
-    missing: Option<String>,
+    source: Source,
+}
+
+/// Where a tree comes from.
+#[derive(Clone, Debug, Default)]
+enum Source {
+    /// A call's answer.
+    #[default]
+    Answer,
+    Table(PathBuf),
+    /// A text, and there the line of each record.
+    Text(PathBuf, Vec<usize>),
+    /// A folder that has no tree.
+    Missing(PathBuf),
 }
 
 impl Tree {
@@ -39,7 +49,7 @@ impl Tree {
         if files::is_text(path) {
             Self::from_text(path, &files::read_text(path)?, names)
         } else {
-            Ok(Self::from_table(files::read(path, MOST_TABLE)?, names))
+            Ok(Self::from_file(path, files::read(path, MOST_TABLE)?, names))
         }
     }
 
@@ -51,8 +61,8 @@ impl Tree {
 
     /// The tree of a folder: its tree.tab or tree.txt, or of both, where they say the same. Without either it is empty, as for the desk.
     pub fn read_from(folder: &Path, names: Names) -> Outcome<Self> {
-        let text = folder.join(TEXT);
-        let table = files::read_if_there(&folder.join(TABLE), MOST_TABLE)?;
+        let (path, text) = (folder.join(TABLE), folder.join(TEXT));
+        let table = files::read_if_there(&path, MOST_TABLE)?;
         let from_text = files::read_text_if_there(&text)?;
         let from_text = from_text
             .map(|read| Self::from_text(&text, &read, names.clone()))
@@ -63,20 +73,29 @@ impl Tree {
                 folder.display()
             ))),
             (_, Some(tree)) => Ok(tree),
-            (Some(table), None) => Ok(Self::from_table(table, names)),
+            (Some(table), None) => Ok(Self::from_file(&path, table, names)),
             (None, None) => Ok(Tree {
                 names,
-                missing: Some(format!("{} has no {TABLE} and no {TEXT}", folder.display())),
+                source: Source::Missing(folder.to_path_buf()),
                 ..Tree::default()
             }),
         }
     }
 
-    pub fn from_table(table: Vec<u8>, names: Names) -> Self {
+    /// A call's answer, with the names that it is to have.
+    pub fn from_answer(table: Vec<u8>, names: Names) -> Self {
         Tree {
             table,
             names,
-            ..Tree::default()
+            source: Source::Answer,
+        }
+    }
+
+    fn from_file(path: &Path, table: Vec<u8>, names: Names) -> Self {
+        Tree {
+            table,
+            names,
+            source: Source::Table(path.to_path_buf()),
         }
     }
 
@@ -86,8 +105,7 @@ impl Tree {
         Ok(Tree {
             table: parsed.table,
             names,
-            source: Some((path.to_path_buf(), parsed.lines)),
-            missing: None,
+            source: Source::Text(path.to_path_buf(), parsed.lines),
         })
     }
 
@@ -112,31 +130,31 @@ impl Tree {
             return Some(self.wrong_length());
         }
         let hint = hint::find(&self.table, refusal)?;
+        let (record, byte) = (hint.record, hint.record * RECORD_BYTES);
         let place = match &self.source {
-            Some((path, lines)) => format!("{}:{}", path.display(), lines[hint.record]),
-            None => format!(
-                "record {} (byte {})",
-                hint.record,
-                hint.record * RECORD_BYTES
-            ),
+            Source::Text(path, lines) => format!("{}:{}", path.display(), lines[record]),
+            Source::Table(path) => format!("{}: record {record} (byte {byte})", path.display()),
+            Source::Answer | Source::Missing(_) => format!("record {record} (byte {byte})"),
         };
         Some(format!("{place}: {}", hint.what))
     }
 
     fn wrong_length(&self) -> String {
         let most = MOST_TABLE / RECORD_BYTES;
-        match (&self.source, &self.missing, self.table.len()) {
-            (Some((path, lines)), ..) => format!(
+        let length = match self.table.len() {
+            length if length > MOST_TABLE => format!("more than {MOST_TABLE} bytes"),
+            length => format!("{length} bytes"),
+        };
+        match &self.source {
+            Source::Answer => format!("the table has {length}"),
+            Source::Table(path) => format!("{} has {length}", path.display()),
+            Source::Missing(path) => format!("{} has no {TABLE} and no {TEXT}", path.display()),
+            Source::Text(path, lines) => format!(
                 "{}:{}: the text has {} nodes, and a table has at most {most}",
                 path.display(),
                 lines[most],
                 lines.len()
             ),
-            (None, Some(missing), _) => missing.clone(),
-            (None, None, length) if length > MOST_TABLE => {
-                format!("the table has more than {MOST_TABLE} bytes")
-            }
-            (None, None, length) => format!("the table has {length} bytes"),
         }
     }
 

@@ -25,13 +25,12 @@ pub fn run(arguments: &Draw) -> Outcome<String> {
 
 /// A folder is a house. A file is a tree, and the counts are those of a file that is named.
 fn house(arguments: &Draw) -> Outcome<House> {
-    let path = &arguments.source.tree;
-    let mut house = if path.is_dir() && arguments.source.names.is_none() {
-        House::read(path)?
+    let (path, names) = (&arguments.source.tree, arguments.source.names.as_deref());
+    let mut house = if path.is_dir() {
+        House::read(path, names)?
     } else {
-        let tree = Tree::read(path, arguments.source.names.as_deref())?;
         House {
-            tree,
+            tree: Tree::read(path, names)?,
             counts: Counts::default(),
             title: String::new(),
         }

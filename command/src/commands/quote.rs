@@ -53,7 +53,7 @@ pub fn quote(counted: &cli::Counted, ask: bool) -> Outcome<Quoted> {
 
 /// The house with all the counts that its tree uses, and the nodes of that tree.
 pub fn complete(counted: &cli::Counted, ask: bool) -> Outcome<(House, Vec<Node>)> {
-    let mut house = House::read(&counted.house)?;
+    let mut house = House::read(&counted.house, None)?;
     for setting in &counted.settings.set {
         house.set(setting)?;
     }

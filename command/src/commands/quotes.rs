@@ -104,7 +104,7 @@ fn say(root: &Path, folder: &Path) -> Said {
 }
 
 fn quote_house(folder: &Path, name: &str, notes: &mut Vec<String>) -> Outcome<String> {
-    let house = House::read(folder)?;
+    let house = House::read(folder, None)?;
     let nodes = house.tree.check()?;
     let quote = house.quote()?;
     for symbol in house.absent(&nodes) {

@@ -19,7 +19,7 @@ pub fn simplify(arguments: &Simplify) -> Outcome<String> {
     };
     // Children move, so that the branches' names would be wrong.
     let names = tree.names.without_branches();
-    Tree::from_table(simplified.table, names).write(&arguments.output)?;
+    Tree::from_answer(simplified.table, names).write(&arguments.output)?;
     Ok(format!(
         "simplified {length} steps {} {ending}\n",
         simplified.steps
@@ -42,6 +42,6 @@ pub fn graft(arguments: &Graft) -> Outcome<String> {
     sent.check()?;
     let table = volefleece::graft(&host.table, &sent.table, symbol as u64)?;
     let length = table.len();
-    Tree::from_table(table, host.names).write(&arguments.output)?;
+    Tree::from_answer(table, host.names).write(&arguments.output)?;
     Ok(format!("grafted {length}\n"))
 }
