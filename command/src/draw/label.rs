@@ -1,0 +1,95 @@
+//! What stands in a node's box: the words of the text form.
+
+use super::layout::Size;
+use super::text::{cells, wrapped, CELL};
+use crate::names::Names;
+use crate::table::{Amount, Kind, Limit, Node, Scope};
+
+pub const LINE_HEIGHT: usize = 16;
+/// From a box's edge to its text. A choice's points and a loop's ends take up the sides.
+pub const SIDE_PADDING: usize = 12;
+pub const TOP_PADDING: usize = 4;
+
+/// Room for a plain limit with any number, so that only names break.
+const MOST_CELLS: usize = 28;
+
+/// The lines of a box.
+pub struct Label {
+    pub lines: Vec<Line>,
+}
+
+pub struct Line {
+    pub text: String,
+    /// The class that the line is styled by; none for what a node is.
+    pub class: Option<&'static str>,
+}
+
+impl Label {
+    /// The label of a node, that of a branch with the branch's number and name.
+    pub fn new(node: &Node, names: &Names, branch: Option<usize>) -> Self {
+        let branch = branch.map(|child| (Some("branch"), branch_words(child, names)));
+        let what = (None, kind_words(node.kind, names));
+        let limit = node
+            .limit
+            .map(|limit| (Some("limit"), limit_words(limit, names)));
+        let parts = branch.into_iter().chain([what]).chain(limit);
+        let lines = parts.flat_map(|(class, text)| {
+            let lines = wrapped(&text, MOST_CELLS).into_iter();
+            lines.map(move |text| Line { text, class })
+        });
+        Label {
+            lines: lines.collect(),
+        }
+    }
+
+    /// The size of the box.
+    pub fn size(&self) -> Size {
+        let widest = self.lines.iter().map(|line| cells(&line.text)).max();
+        Size {
+            width: widest.unwrap_or(0) * CELL + 2 * SIDE_PADDING,
+            height: self.lines.len() * LINE_HEIGHT + 2 * TOP_PADDING,
+        }
+    }
+}
+
+/// A branch as a text's header has it.
+pub fn branch_words(child: usize, names: &Names) -> String {
+    match names.branch(child) {
+        None => format!("branch {child}"),
+        Some(name) => format!("branch {child} {name}"),
+    }
+}
+
+fn kind_words(kind: Kind, names: &Names) -> String {
+    let word = kind_word(kind);
+    match kind {
+        Kind::Block(value) | Kind::Loop(value) => format!("{word} {}", amount_words(value, names)),
+        Kind::Sequence | Kind::Choice => word.into(),
+    }
+}
+
+pub fn kind_word(kind: Kind) -> &'static str {
+    match kind {
+        Kind::Block(_) => "block",
+        Kind::Sequence => "sequence",
+        Kind::Choice => "choice",
+        Kind::Loop(_) => "loop",
+    }
+}
+
+fn amount_words(amount: Amount, names: &Names) -> String {
+    let name = |symbol| names.symbol(usize::try_from(symbol).expect("an accepted table's symbol"));
+    match amount {
+        Amount::Plain(number) => number.to_string(),
+        Amount::Symbol(symbol) => name(symbol),
+        Amount::Triangular(symbol) => format!("triangular {}", name(symbol)),
+    }
+}
+
+fn limit_words(limit: Limit, names: &Names) -> String {
+    let amount = amount_words(limit.amount, names);
+    match limit.scope {
+        Scope::Loop(number) => format!("at most {amount} per loop {number}"),
+        Scope::Run => format!("at most {amount} per run"),
+    }
+}
