@@ -10,8 +10,8 @@ pub const LINE_HEIGHT: usize = 16;
 pub const SIDE_PADDING: usize = 12;
 pub const TOP_PADDING: usize = 4;
 
-/// Room for a plain limit with any number, so that only names break.
-const MOST_CELLS: usize = 28;
+/// Room for a limit with any number or plain name, so that only long names are broken.
+const MOST_CELLS: usize = 38;
 
 /// The lines of a box.
 pub struct Label {

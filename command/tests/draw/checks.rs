@@ -1,10 +1,10 @@
 //! What must hold of every picture.
 
-use super::case::Case;
+use super::case::{Case, Expected};
 use super::picture::{squeezed, Area, Link, Picture};
 use volefleece_tests::trees::Kind;
 
-/// How far a box's or a line's edge reaches over its middle.
+/// How far the stroke of a box or of a line reaches to each side.
 const EDGE: f64 = 1.5;
 
 /// Puts every question to a case's picture.
@@ -13,6 +13,7 @@ pub fn check(case: &Case) -> Picture {
     check_title(case, &picture);
     check_nodes(case, &picture);
     check_marks(case, &picture);
+    check_legend(case, &picture);
     check_order(case, &picture);
     check_links(case, &picture);
     check_room(&picture);
@@ -27,7 +28,7 @@ fn check_title(case: &Case, picture: &Picture) {
     assert!(name.is_none_or(|name| picture.title.starts_with(name)));
 }
 
-/// Every record has one box with its words, in the shape of its kind, which are the legend's.
+/// Every record has one box with its words, in the shape of its kind.
 fn check_nodes(case: &Case, picture: &Picture) {
     let expected = case.expected();
     assert_eq!(picture.nodes.len(), expected.len());
@@ -46,10 +47,9 @@ fn check_nodes(case: &Case, picture: &Picture) {
         };
         assert_eq!((&node.classes, node.shape.as_str()), (&kind, shape));
     }
-    assert_eq!(picture.samples.len(), 4);
 }
 
-/// Exactly the branch is marked, with the lines in it and to it and the ground under it, and the legend says what the mark means.
+/// Exactly the branch is marked, with the lines in it and to it and the ground under it.
 fn check_marks(case: &Case, picture: &Picture) {
     let marked = case.marked();
     for (record, node) in picture.nodes.iter().enumerate() {
@@ -65,13 +65,18 @@ fn check_marks(case: &Case, picture: &Picture) {
             place + 1
         );
     }
-    let legend: String = picture
-        .loose
-        .iter()
-        .map(|text| squeezed(&text.content))
-        .collect();
-    assert_eq!(legend.contains("setsthequote"), !marked.is_empty());
-    if let Some(child) = case.branch.filter(|_| !marked.is_empty()) {
+}
+
+/// The legend has a sample of each kind, and says what a mark and a limit mean where there are any.
+fn check_legend(case: &Case, picture: &Picture) {
+    assert_eq!(picture.samples.len(), 4);
+    let lines = picture.loose.iter();
+    let legend: String = lines.map(|text| squeezed(&text.content)).collect();
+    let has_limits = case.tree != case.tree.unlimited();
+    assert_eq!(legend.contains("atmost3perrun:"), has_limits);
+    let is_marked = !case.marked().is_empty();
+    assert_eq!(legend.contains("setsthequote"), is_marked);
+    if let Some(child) = case.branch.filter(|_| is_marked) {
         let name = case.names.branch(child).unwrap_or("");
         let words = format!("bold: branch {child} {name} sets the quote");
         assert!(legend.contains(&squeezed(&words)), "{legend}");
@@ -92,21 +97,16 @@ fn check_order(case: &Case, picture: &Picture) {
     assert!(columns.windows(2).all(|pair| pair[0].right < pair[1].left));
 
     for (record, node) in picture.nodes.iter().enumerate() {
-        let children = expected
-            .iter()
-            .enumerate()
-            .filter(|(_, child)| child.parent.is_some_and(|(parent, _)| parent == record));
-        let middles: Vec<f64> = children
-            .map(|(child, _)| picture.nodes[child].area.middle())
-            .collect();
+        let is_child = |child: &Expected| child.parent.is_some_and(|(parent, _)| parent == record);
+        let drawn = picture.nodes.iter().zip(&expected);
+        let children = drawn.filter(|(_, child)| is_child(child));
+        let middles: Vec<f64> = children.map(|(child, _)| child.area.middle()).collect();
         assert!(middles.windows(2).all(|pair| pair[0] < pair[1]));
         if let (Some(first), Some(last)) = (middles.first(), middles.last()) {
             let away = (node.area.middle() - (first + last) / 2.0).abs();
             // A box that is higher than its children cannot always stand at their middle.
-            assert!(
-                away <= f64::max(13.0, node.area.height() / 2.0 + 8.0),
-                "record {record}"
-            );
+            let most = f64::max(13.0, node.area.height() / 2.0 + 8.0);
+            assert!(away <= most, "record {record}");
         }
     }
 }
@@ -144,8 +144,6 @@ fn on_stem((x, _): (f64, f64), eldest: &Link) -> bool {
 
 /// Everything has its place on the page: boxes and texts apart from each other, and labels inside their boxes.
 fn check_room(picture: &Picture) {
-    let nodes = picture.nodes.iter().map(|node| node.area);
-    let mut areas: Vec<Area> = nodes.chain(picture.samples.iter().copied()).collect();
     for node in &picture.nodes {
         for text in &node.texts {
             assert!(node.area.holds(&text.area), "{}", text.content);
@@ -153,21 +151,15 @@ fn check_room(picture: &Picture) {
         let lines: Vec<Area> = node.texts.iter().map(|text| text.area).collect();
         assert_apart(&lines);
     }
-    // The samples' words stand inside them.
-    let outside = picture.loose.iter().filter(|text| {
-        !picture
-            .samples
-            .iter()
-            .any(|sample| sample.holds(&text.area))
-    });
-    assert_eq!(
-        outside.clone().count() + picture.samples.len(),
-        picture.loose.len()
-    );
-    areas.extend(outside.map(|text| text.area));
+    let nodes = picture.nodes.iter().map(|node| &node.area);
+    let boxes = nodes.chain(&picture.samples).map(wider);
+    let outside: Vec<Area> = picture.outside().map(|text| text.area).collect();
+    // The others are the samples' words.
+    assert_eq!(outside.len(), picture.loose.len() - picture.samples.len());
+    let areas: Vec<Area> = boxes.chain(outside).collect();
     assert_apart(&areas);
-    areas.extend(picture.band);
-    assert!(areas.iter().all(|area| picture.page.holds(&wider(area))));
+    let mut drawn = areas.iter().chain(&picture.band);
+    assert!(drawn.all(|area| picture.page.holds(area)));
 }
 
 fn assert_apart(areas: &[Area]) {

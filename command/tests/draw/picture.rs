@@ -145,6 +145,15 @@ impl Picture {
         }
     }
 
+    /// The texts that stand in no box at all.
+    pub fn outside(&self) -> impl Iterator<Item = &Text> {
+        let in_sample = |text: &Text| {
+            let mut samples = self.samples.iter();
+            samples.any(|sample| sample.holds(&text.area))
+        };
+        self.loose.iter().filter(move |text| !in_sample(text))
+    }
+
     /// The texts on a link to that record.
     pub fn words_before(&self, record: usize) -> Vec<&str> {
         let area = self.nodes[record].area;
@@ -153,11 +162,8 @@ impl Picture {
             let height = area.middle() - 16.0..area.middle();
             side.contains(&text.area.left) && height.contains(&text.area.middle())
         };
-        self.loose
-            .iter()
-            .filter(on)
-            .map(|text| text.content.as_str())
-            .collect()
+        let words = self.loose.iter().filter(on);
+        words.map(|text| text.content.as_str()).collect()
     }
 }
 
