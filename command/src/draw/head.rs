@@ -15,8 +15,8 @@ const HEADING_HEIGHT: usize = 22;
 const REMARK_HEIGHT: usize = 16;
 /// From where letters stand down to their line's bottom.
 const DESCENT: usize = 5;
-/// The samples are all as wide as the longest of their words needs.
-const SAMPLE_WIDTH: usize = 8 * SMALL_CELL + 2 * SIDE_PADDING;
+/// The samples are all as wide as the longest of their words needs, so that the meanings stand in a column.
+const SAMPLE_WIDTH: usize = "sequence".len() * SMALL_CELL + 2 * SIDE_PADDING;
 const SAMPLE_HEIGHT: usize = 18;
 /// From a sample to the one below it, and to what it means.
 const SAMPLE_GAP: usize = 4;

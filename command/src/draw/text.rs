@@ -1,10 +1,10 @@
 //! Text in the picture: how wide it can be, where it is broken, and how XML wants it.
 
-/// A letter's width in the labels' font, at least: monospace letters are 0.6 as wide as the font is high, which is 13.
+/// As wide as a letter of a label can be: monospace letters have 0.602 of their font's size, which is 13 here.
 pub const CELL: usize = 8;
-/// The same for headings, of 16.
+/// The same for a heading, of size 16.
 pub const HEADING_CELL: usize = 10;
-/// The same for small text, of 11.
+/// The same for small text, of size 11.
 pub const SMALL_CELL: usize = 7;
 
 /// Every monospace font has the letters before this one: Latin, Greek, Cyrillic. Others may come from any font.

@@ -65,6 +65,8 @@ fn check_marks(case: &Case, picture: &Picture) {
             place + 1
         );
     }
+    // The line to the branch is over those that it shares a stretch with.
+    assert!(picture.drawn_marks.is_sorted());
 }
 
 /// The legend has a sample of each kind, and says what a mark and a limit mean where there are any.

@@ -121,6 +121,8 @@ pub struct Picture {
     /// All texts that stand in no box of the tree.
     pub loose: Vec<Text>,
     pub band: Option<Area>,
+    /// Whether each line is marked, in the order in which they are drawn.
+    pub drawn_marks: Vec<bool>,
 }
 
 impl Picture {
@@ -132,6 +134,7 @@ impl Picture {
         let loose = svg.named("text").chain(texts);
         let heading = svg.named("text").filter(|text| text.has_class("heading"));
         let nodes = numbered(svg, "g", "record-", 0);
+        let drawn_marks = svg.named("path").map(|path| path.has_class("marked"));
         let mut bands = svg.named("rect").filter(|rect| rect.has_class("band"));
         Picture {
             page: page(svg),
@@ -142,6 +145,7 @@ impl Picture {
             samples: legend.named("g").map(|group| shape(group).1).collect(),
             loose: loose.map(|element| text(element, &sizes)).collect(),
             band: bands.next().map(Area::of_rectangle),
+            drawn_marks: drawn_marks.collect(),
         }
     }
 
