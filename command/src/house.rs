@@ -10,8 +10,8 @@ use crate::failure::{note, Failure, Outcome};
 use crate::files;
 use crate::table::{self, Amount, Node};
 use crate::text;
-use crate::text::tree::node_words;
 use crate::tree::{read_names, Tree};
+use crate::words::node_words;
 
 const TABLE: &str = "values.tab";
 const TEXT: &str = "values.txt";

@@ -13,3 +13,4 @@ pub mod names;
 pub mod table;
 pub mod text;
 pub mod tree;
+pub mod words;

@@ -3,7 +3,8 @@
 use super::layout::Size;
 use super::text::{cells, wrapped, CELL};
 use crate::names::Names;
-use crate::table::{Amount, Kind, Limit, Node, Scope};
+use crate::table::Node;
+use crate::words::{kind_words, limit_words};
 
 pub const LINE_HEIGHT: usize = 16;
 /// From a box's edge to its text. A choice's points and a loop's ends take up the sides.
@@ -57,39 +58,5 @@ pub fn branch_words(child: usize, names: &Names) -> String {
     match names.branch(child) {
         None => format!("branch {child}"),
         Some(name) => format!("branch {child} {name}"),
-    }
-}
-
-fn kind_words(kind: Kind, names: &Names) -> String {
-    let word = kind_word(kind);
-    match kind {
-        Kind::Block(value) | Kind::Loop(value) => format!("{word} {}", amount_words(value, names)),
-        Kind::Sequence | Kind::Choice => word.into(),
-    }
-}
-
-pub fn kind_word(kind: Kind) -> &'static str {
-    match kind {
-        Kind::Block(_) => "block",
-        Kind::Sequence => "sequence",
-        Kind::Choice => "choice",
-        Kind::Loop(_) => "loop",
-    }
-}
-
-fn amount_words(amount: Amount, names: &Names) -> String {
-    let name = |symbol| names.symbol(usize::try_from(symbol).expect("an accepted table's symbol"));
-    match amount {
-        Amount::Plain(number) => number.to_string(),
-        Amount::Symbol(symbol) => name(symbol),
-        Amount::Triangular(symbol) => format!("triangular {}", name(symbol)),
-    }
-}
-
-fn limit_words(limit: Limit, names: &Names) -> String {
-    let amount = amount_words(limit.amount, names);
-    match limit.scope {
-        Scope::Loop(number) => format!("at most {amount} per loop {number}"),
-        Scope::Run => format!("at most {amount} per run"),
     }
 }

@@ -1,9 +1,10 @@
 //! The picture's elements.
 
-use super::label::{kind_word, Label, LINE_HEIGHT, SIDE_PADDING, TOP_PADDING};
+use super::label::{Label, LINE_HEIGHT, SIDE_PADDING, TOP_PADDING};
 use super::layout::{Frame, COLUMN_GAP};
 use super::text::escaped;
 use crate::table::Kind;
+use crate::words::kind_word;
 
 /// From the top of a line to where its letters stand.
 const BASELINE: usize = 12;

@@ -4,7 +4,8 @@ use volefleece::RECORD_BYTES;
 
 use crate::failure::Failure;
 use crate::names::Names;
-use crate::table::{self, Amount, Kind, Limit, Node, Place, Record, Scope};
+use crate::table::{self, Kind, Node, Place, Record, Scope};
+use crate::words::node_words;
 
 /// The text of a table that the library accepts, which gives its bytes back.
 pub fn print(table: &[u8], names: &Names) -> String {
@@ -80,36 +81,4 @@ fn role(records: &[Record], place: &Place) -> &'static str {
 fn hexadecimal(bytes: &[u8]) -> String {
     let bytes: Vec<String> = bytes.iter().map(|byte| format!("{byte:02x}")).collect();
     format!("bytes {}", bytes.join(" "))
-}
-
-/// A node's line without what it is to its parent.
-pub fn node_words(node: &Node, names: &Names) -> String {
-    let kind = match node.kind {
-        Kind::Block(time) => format!("block {}", amount(time, names)),
-        Kind::Sequence => "sequence".into(),
-        Kind::Choice => "choice".into(),
-        Kind::Loop(bound) => format!("loop {}", amount(bound, names)),
-    };
-    match node.limit {
-        None => kind,
-        Some(limit) => format!("{kind} {}", limit_words(limit, names)),
-    }
-}
-
-/// A limit's words.
-pub fn limit_words(limit: Limit, names: &Names) -> String {
-    let most = amount(limit.amount, names);
-    match limit.scope {
-        Scope::Run => format!("at most {most} per run"),
-        Scope::Loop(number) => format!("at most {most} per loop {number}"),
-    }
-}
-
-fn amount(amount: Amount, names: &Names) -> String {
-    let name = |symbol| names.symbol(usize::try_from(symbol).unwrap_or(usize::MAX));
-    match amount {
-        Amount::Plain(number) => number.to_string(),
-        Amount::Symbol(symbol) => name(symbol),
-        Amount::Triangular(symbol) => format!("triangular {}", name(symbol)),
-    }
 }

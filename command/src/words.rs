@@ -1,0 +1,49 @@
+//! The words for a node, in texts and pictures alike.
+
+use crate::names::Names;
+use crate::table::{Amount, Kind, Limit, Node, Scope};
+
+/// A node's line without what it is to its parent.
+pub fn node_words(node: &Node, names: &Names) -> String {
+    let kind = kind_words(node.kind, names);
+    match node.limit {
+        None => kind,
+        Some(limit) => format!("{kind} {}", limit_words(limit, names)),
+    }
+}
+
+/// A kind with its value.
+pub fn kind_words(kind: Kind, names: &Names) -> String {
+    let word = kind_word(kind);
+    match kind {
+        Kind::Block(value) | Kind::Loop(value) => format!("{word} {}", amount_words(value, names)),
+        Kind::Sequence | Kind::Choice => word.into(),
+    }
+}
+
+pub fn kind_word(kind: Kind) -> &'static str {
+    match kind {
+        Kind::Block(_) => "block",
+        Kind::Sequence => "sequence",
+        Kind::Choice => "choice",
+        Kind::Loop(_) => "loop",
+    }
+}
+
+pub fn limit_words(limit: Limit, names: &Names) -> String {
+    let most = amount_words(limit.amount, names);
+    match limit.scope {
+        Scope::Run => format!("at most {most} per run"),
+        Scope::Loop(number) => format!("at most {most} per loop {number}"),
+    }
+}
+
+fn amount_words(amount: Amount, names: &Names) -> String {
+    // A refused table may have symbols that there are not.
+    let name = |symbol| names.symbol(usize::try_from(symbol).unwrap_or(usize::MAX));
+    match amount {
+        Amount::Plain(number) => number.to_string(),
+        Amount::Symbol(symbol) => name(symbol),
+        Amount::Triangular(symbol) => format!("triangular {}", name(symbol)),
+    }
+}
