@@ -132,8 +132,8 @@ pub struct Repository {
 const COPIED: [&str; 11] = [
     "KIT",
     "bench",
+    "desk",
     "install",
-    "quote",
     "simplify",
     "test",
     "scripts/build.sh",

@@ -1,4 +1,4 @@
-//! The commands `./quote`, `./simplify`, `./install`, `./bench` and `./test`: their arguments, lines and exit statuses, what they build and when,
+//! The commands `./desk`, `./simplify`, `./install`, `./bench` and `./test`: their arguments, lines and exit statuses, what they build and when,
 //! and what is installed. Where the real programs are not built from the sources yet, a command builds them first, by `rt`.
 
 use std::ffi::OsStr;
@@ -69,8 +69,8 @@ fn by_closed(shell: &Path, name: &str, room: &Folder, closed: &str) -> Command {
 fn the_samples() {
     let room = room();
     let none: [&str; 0] = [];
-    run("quote", &room, &none).expect(0, HOUSE);
-    run("quote", &room, &[file("samples/entrance")]).expect(0, ENTRANCE);
+    run("desk", &room, &none).expect(0, HOUSE);
+    run("desk", &room, &[file("samples/entrance")]).expect(0, ENTRANCE);
     run("simplify", &room, &none).expect(0, SIMPLIFIED);
     let simple = fs::read(file("target/workshop/simple.tab")).expect("written");
     assert_eq!(simple, sample("house", TREE));
@@ -84,12 +84,12 @@ fn the_samples() {
 fn an_answer_ends_with_0_and_a_refusal_with_1() {
     let room = room();
     put_house(&room.path("h"), 7);
-    run("quote", &room, &["h"]).expect(0, "figure 7 branch 255");
+    run("desk", &room, &["h"]).expect(0, "figure 7 branch 255");
     run("simplify", &room, &["h"]).expect(0, "simplified 16 steps 0 finished");
     room.write("h/tree.tab", &sample("workshop", TREE));
     run("simplify", &room, &["h", "3"]).expect(0, "simplified 288 steps 3 spent");
     room.write("h/tree.tab", &block(7)[..15]);
-    run("quote", &room, &["h"]).expect(1, "refused 1");
+    run("desk", &room, &["h"]).expect(1, "refused 1");
     run("simplify", &room, &["h"]).expect(1, "refused 1");
 }
 
@@ -102,7 +102,7 @@ fn a_message_ends_with_2() {
     }
     assert!(!room.path("h/simple.tab").exists());
     fs::create_dir_all(room.path("unreadable/tree.tab")).expect("made");
-    for name in ["quote", "simplify"] {
+    for name in ["desk", "simplify"] {
         run(name, &room, &["unreadable"]).expect_message("tree.tab: ");
     }
     fs::create_dir(room.path("h/simple.tab")).expect("made");
@@ -115,7 +115,7 @@ fn a_message_ends_with_2() {
 fn arguments_are_counted() {
     let copy = Repository::new(PROGRAM);
     for (name, arguments) in [
-        ("quote", &["samples/house", "more"][..]),
+        ("desk", &["samples/house", "more"][..]),
         ("simplify", &["samples/house", "1", "more"]),
         ("install", &[]),
         ("install", &["prefix", "more"]),
@@ -137,7 +137,7 @@ fn arguments_are_counted() {
 fn empty_arguments_are_told() {
     let copy = Repository::new(PROGRAM);
     for (name, arguments) in [
-        ("quote", &[""][..]),
+        ("desk", &[""][..]),
         ("simplify", &[""]),
         ("simplify", &["samples/house", ""]),
         ("simplify", &["", "1"]),
@@ -157,7 +157,7 @@ fn empty_arguments_are_told() {
 #[test]
 fn usage_is_told() {
     let copy = Repository::new(PROGRAM);
-    for name in ["quote", "simplify", "install", "bench", "test"] {
+    for name in ["desk", "simplify", "install", "bench", "test"] {
         let ended = Ended::of(copy.command(name).arg("--help"));
         assert_eq!((ended.status, &*ended.error), (Some(0), ""));
         assert!(ended.output.starts_with(&format!("usage: ./{name}")));
@@ -178,7 +178,7 @@ fn cdpath_leads_nowhere() {
             let mut command = by(&shell, name, &room, OsStr::new("h"));
             Ended::of(command.env("CDPATH", room.path("elsewhere")))
         };
-        run("quote").expect(0, "figure 1 branch 255");
+        run("desk").expect(0, "figure 1 branch 255");
         run("simplify").expect(0, "simplified 16 steps 0 finished");
         fs::remove_file(room.path("h/simple.tab")).expect("written here");
         assert!(!room.path("elsewhere/h/simple.tab").exists());
@@ -191,7 +191,7 @@ fn a_command_finds_its_own_folder() {
     let room = room();
     fs::create_dir(room.path("-P")).expect("made");
     fs::create_dir_all(room.path("elsewhere/-P")).expect("made");
-    symlink(file("quote"), room.path("-P/link")).expect("linked");
+    symlink(file("desk"), room.path("-P/link")).expect("linked");
     symlink("-P/link", room.path("link")).expect("linked");
     let run = |shell: &Path, name: &str, folder| {
         let mut command = command(shell);
@@ -202,7 +202,7 @@ fn a_command_finds_its_own_folder() {
         run(&shell, "link", room.path(".")).expect(0, HOUSE);
         run(&shell, "-P/link", room.path(".")).expect(0, HOUSE);
         run(&shell, "link", room.path("-P")).expect(0, HOUSE);
-        run(&shell, "quote", file(".")).expect(0, HOUSE);
+        run(&shell, "desk", file(".")).expect(0, HOUSE);
     }
     let path = env::var_os("PATH").expect("PATH");
     let folders = [room.path("-P")].into_iter().chain(env::split_paths(&path));
@@ -237,16 +237,16 @@ fn folders_of_any_name() {
                 let mut command = by(&shell, command, &room, name);
                 Ended::of(command.env("OLDPWD", room.path("old")))
             };
-            run("quote").expect(0, &format!("figure {figure} branch 255"));
+            run("desk").expect(0, &format!("figure {figure} branch 255"));
             run("simplify").expect(0, "simplified 16 steps 0 finished");
             let simple = room.path(".").join(name).join("simple.tab");
             fs::remove_file(simple).expect("written there");
         }
     }
     put_house(&room.path("--help"), 50);
-    run("quote", &room, &["./--help"]).expect(0, "figure 50 branch 255");
+    run("desk", &room, &["./--help"]).expect(0, "figure 50 branch 255");
     let path = room.path("-P").canonicalize().expect("a folder");
-    run("quote", &room, &[path]).expect(0, "figure 2 branch 255");
+    run("desk", &room, &[path]).expect(0, "figure 2 branch 255");
 }
 
 /// As to any program, not as to a shell's `cd`.
@@ -256,14 +256,14 @@ fn a_path_through_a_link_leads_on_from_its_target() {
     put_house(&room.path("other"), 3);
     fs::create_dir(room.path("other/inner")).expect("made");
     symlink("other/inner", room.path("link")).expect("linked");
-    run("quote", &room, &["link/.."]).expect(0, "figure 3 branch 255");
+    run("desk", &room, &["link/.."]).expect(0, "figure 3 branch 255");
 }
 
 #[test]
 fn a_folder_that_is_not_there_is_told() {
     let room = room();
     room.write("file", b"");
-    for name in ["quote", "simplify"] {
+    for name in ["desk", "simplify"] {
         for missing in ["missing", "-", "-x", "missing/../here", "file"] {
             run(name, &room, &[missing]).expect_message(&format!("{missing}: no such folder"));
         }
@@ -279,7 +279,7 @@ fn a_line_that_cannot_be_written_is_told() {
     let room = room();
     put_house(&room.path("h"), 7);
     for shell in shells() {
-        for name in ["quote", "simplify"] {
+        for name in ["desk", "simplify"] {
             Ended::of(&mut by_closed(&shell, name, &room, ">&-")).expect_message(TOLD);
             let mut command = by(&shell, name, &room, OsStr::new("h"));
             let full = File::options().write(true).open("/dev/full");
@@ -298,7 +298,7 @@ fn a_message_that_cannot_be_written_ends_with_2() {
     for shell in shells() {
         let (reader, writer) = io::pipe().expect("a pipe");
         drop(reader);
-        let mut command = by(&shell, "quote", &room, OsStr::new("missing"));
+        let mut command = by(&shell, "desk", &room, OsStr::new("missing"));
         Ended::of(command.stderr(writer)).expect_message("");
     }
 }
@@ -310,7 +310,7 @@ fn the_line_is_one_write() {
     put_house(&room.path("h"), 7);
     for shell in shells() {
         for (name, line) in [
-            ("quote", "figure 7 branch 255\n"),
+            ("desk", "figure 7 branch 255\n"),
             ("simplify", "simplified 16 steps 0 finished\n"),
         ] {
             let (ours, theirs) = UnixDatagram::pair().expect("sockets");
@@ -335,7 +335,7 @@ fn a_program_has_its_descriptors() {
     put_script(&copy.path("closed"), "exec \"$@\" <&- 2>&-");
     for shell in shells() {
         let mut closed = copy.command("closed");
-        Ended::of(closed.arg(shell).arg(copy.path("quote"))).expect(0, LINE);
+        Ended::of(closed.arg(shell).arg(copy.path("desk"))).expect(0, LINE);
     }
 }
 
@@ -354,7 +354,7 @@ fn a_program_that_does_not_answer_is_told() {
         "printf '\\n'",
     ] {
         let copy = Repository::new(program);
-        for name in ["quote", "simplify"] {
+        for name in ["desk", "simplify"] {
             let ended = copy.run(name);
             ended.expect_message("");
             let last = ended.error.lines().last().expect("a message");
@@ -362,7 +362,7 @@ fn a_program_that_does_not_answer_is_told() {
         }
     }
     let copy = Repository::new("echo 'tree.tab: why' >&2");
-    copy.run("quote").expect_message("tree.tab: why\n");
+    copy.run("desk").expect_message("tree.tab: why\n");
 }
 
 // Building.
@@ -371,11 +371,11 @@ fn a_program_that_does_not_answer_is_told() {
 fn what_is_built_needs_no_rt() {
     let room = room();
     let none: [&str; 0] = [];
-    run("quote", &room, &none).expect(0, HOUSE);
+    run("desk", &room, &none).expect(0, HOUSE);
     run("simplify", &room, &none).expect(0, SIMPLIFIED);
     put_tools(&room.path("tools"));
-    let mut quote = real("quote", &room);
-    let ended = Ended::of(quote.env("PATH", room.path("tools")));
+    let mut desk = real("desk", &room);
+    let ended = Ended::of(desk.env("PATH", room.path("tools")));
     ended.expect(0, HOUSE);
     assert_eq!(ended.error, "");
     let mut simplify = real("simplify", &room);
@@ -389,13 +389,13 @@ fn what_is_not_built_needs_rt() {
         let mut command = copy.command_with(name, &["tools"]);
         Ended::of(command.args((name == "install").then_some(copy.path("prefix"))))
     };
-    for name in ["quote", "simplify", "install"] {
+    for name in ["desk", "simplify", "install"] {
         without(name).expect_message("rt must be on PATH");
     }
-    copy.run("quote").expect(0, LINE);
-    without("quote").expect(0, LINE);
+    copy.run("desk").expect(0, LINE);
+    without("desk").expect(0, LINE);
     put(&copy.path("crates/desk/src/main.rt"), "second");
-    without("quote").expect_message("rt must be on PATH");
+    without("desk").expect_message("rt must be on PATH");
     assert!(!copy.path("prefix").exists());
 }
 
@@ -405,7 +405,7 @@ fn changes_are_built_once() {
     let copy = Repository::new(PROGRAM);
     let mut calls = 0;
     let mut built = |changed: bool| {
-        copy.run("quote").expect(0, LINE);
+        copy.run("desk").expect(0, LINE);
         calls += usize::from(changed);
         assert_eq!(copy.calls(), vec!["check desk"; calls]);
     };
@@ -448,11 +448,11 @@ fn a_failed_build_is_told_and_tried_again() {
     let copy = Repository::new(PROGRAM);
     put(&copy.path("broken"), "");
     for calls in 1..3 {
-        copy.run("quote").expect_message("rt check desk failed");
+        copy.run("desk").expect_message("rt check desk failed");
         assert_eq!(copy.calls().len(), calls);
     }
     fs::remove_file(copy.path("broken")).expect("removed");
-    copy.run("quote").expect(0, LINE);
+    copy.run("desk").expect(0, LINE);
 }
 
 /// What changes while it is built is not taken for built.
@@ -463,10 +463,10 @@ fn a_change_during_a_build_is_built() {
         &copy.path("while-building"),
         "echo more >>crates/desk/src/main.rt",
     );
-    copy.run("quote").expect(0, LINE);
+    copy.run("desk").expect(0, LINE);
     put_script(&copy.path("while-building"), ":");
     for _ in 0..2 {
-        copy.run("quote").expect(0, LINE);
+        copy.run("desk").expect(0, LINE);
         assert_eq!(copy.calls().len(), 2);
     }
 }
@@ -476,7 +476,7 @@ fn commands_build_one_at_a_time() {
     let copy = Repository::new(PROGRAM);
     put_script(&copy.path("while-building"), "sleep 0.3");
     thread::scope(|threads| {
-        for name in ["quote", "quote", "simplify", "simplify", "quote"] {
+        for name in ["desk", "desk", "simplify", "simplify", "desk"] {
             let copy = &copy;
             threads.spawn(move || copy.run(name).expect(0, LINE));
         }
@@ -555,7 +555,7 @@ fn the_gate_lets_none_build() {
     put_script(&copy.path("while-building"), "sleep 0.3");
     thread::scope(|threads| {
         threads.spawn(|| assert_eq!(copy.run("test").status, Some(0)));
-        threads.spawn(|| copy.run("quote").expect(0, LINE));
+        threads.spawn(|| copy.run("desk").expect(0, LINE));
     });
     assert!(!copy.calls().contains(&"two at once".to_string()));
 }
