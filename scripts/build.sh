@@ -1,20 +1,36 @@
 # What the commands of this repository need to build. `root` is its folder.
 
-# Waits until no other command here builds, and lets none build before `unlock` or the end: `rt` does not expect another at its files.
+# Waits until no other command builds here, or holds the file named, and lets none before `unlock` or the end: neither `rt` nor apt-get expects another at
+# its files.
 lock() {
-    exec 9<"$root/crates.txt"
+    held=${1-$root/crates.txt}
+    exec 9<"$held"
     flock -n 9 && return
-    printf '%s: waiting for another build here\n' "$name" >&2
-    flock 9 || fail 'crates.txt cannot be locked'
+    printf '%s: waiting for another command at work\n' "$name" >&2
+    flock 9 || fail "$held cannot be locked"
 }
 
 unlock() {
     exec 9<&-
 }
 
-# The checksum of all that `rt` builds from.
-sources() {
-    listed=$(cd "$root" && find KIT crates.txt crates -type f -exec sha256sum {} +) || return
+# Writes a file, or standard input for `-`, to its place whole, whoever reads the old one: replace MODE PLACE FILE
+replace() {
+    (umask 022 && mkdir -p -- "${2%/*}") || fail "${2%/*} cannot be made"
+    [ ! -d "$2" ] || fail "$2 is a folder"
+    new=$(mktemp -- "$2.XXXXXX") || fail "$2 cannot be written"
+    cat "$3" >"$new" && chmod "$1" "$new" && mv -f -- "$new" "$2" && return
+    rm -f -- "$new"
+    fail "$2 cannot be written"
+}
+
+# The checksum of these files and all files of these folders, but for what cargo and ./setup make there: checksum PATH...
+checksum() {
+    listed=$(
+        cd "$root" &&
+            find "$@" \( -path command/.cargo -o -path command/Cargo.lock -o -path command/target -o -path volefleece-rs/target \) -prune \
+                -o -type f -exec sha256sum {} +
+    ) || return
     printf '%s\n' "$listed" | LC_ALL=C sort | sha256sum
 }
 
@@ -23,31 +39,71 @@ state() {
     printf '%s %s\n' "$1" "$(sha256sum <"$2")"
 }
 
+# Whether `file` is built from `sources`, files and folders; `from` is their checksum.
 is_built() {
-    from=$(sources) || fail 'the sources cannot be read'
-    [ -f "$1" ] && [ -f "$1.built" ] && [ "$(cat "$1.built")" = "$(state "$from" "$1")" ]
+    from=$(checksum $sources) || fail 'the sources cannot be read'
+    [ -f "$file" ] && [ -f "$file.built" ] && [ "$(cat "$file.built")" = "$(state "$from" "$file")" ]
+}
+
+# Whether `file` was built from these sources and is another file now, or none: `rt` and cargo would still take it for built.
+is_spoilt() {
+    case $(cat "$file.built" 2>/dev/null) in
+    "$from "*) ;;
+    *) return 1 ;;
+    esac
+}
+
+# Has a function build `file` unless it is built from `sources` as they are now: renew FUNCTION ARGUMENT...
+renew() {
+    is_built && return
+    lock
+    if ! is_built; then
+        "$@" </dev/null
+        state "$from" "$file" >"$file.built" || fail "$file.built cannot be written"
+    fi
+    unlock
+}
+
+by_rt() {
+    command -v rt >/dev/null || fail "$file is not built from these sources, and to build it the kit's rt must be on PATH"
+    if is_spoilt; then
+        # the last word
+        for crate; do :; done
+        rm -f "$file" "$root/target/stamp/$crate"
+    fi
+    rm -f "$file.built"
+    (cd "$root" && exec rt "$@") >&2 || fail "rt $* failed"
+    [ -f "$file" ] || fail "rt takes $file for built, and it is missing: remove the folder target and try again"
 }
 
 # Has `rt` build a file unless it is built from what is there now: build FILE WORD...
 build() {
     file=$root/$1
+    sources='KIT crates.txt crates'
     shift
-    is_built "$file" && return
-    command -v rt >/dev/null || fail "$file is not built from these sources, and to build it the kit's rt must be on PATH"
-    lock
-    if ! is_built "$file"; then
-        # What was built from these sources and is another file now `rt` would still take for built, by its stamp.
-        case $(cat "$file.built" 2>/dev/null) in
-        "$from "*)
-            # the last word
-            for crate; do :; done
-            rm -f "$file" "$root/target/stamp/$crate"
-            ;;
-        esac
-        rm -f "$file.built"
-        (cd "$root" && exec rt "$@") >&2 || fail "rt $* failed"
-        [ -f "$file" ] || fail "rt takes $file for built, and it is missing: remove the folder target and try again"
-        state "$from" "$file" >"$file.built" || fail "$file.built cannot be written"
+    renew by_rt "$@"
+}
+
+# The archive and the folder are these, whatever the caller's environment names.
+in_command() (
+    unset VOLEFLEECE_LIB_DIR
+    cd "$root/command" && exec cargo "$@" --release --target-dir target
+)
+
+by_cargo() {
+    "$root/setup" || exit 2
+    if is_spoilt; then
+        in_command clean --package volefleece-command >&2 || fail 'cargo clean failed'
     fi
-    unlock
+    rm -f "$file.built"
+    in_command build >&2 || fail 'cargo build failed'
+    [ -f "$file" ] || fail "cargo takes $file for built, and it is missing: remove the folder command/target and try again"
+}
+
+# Has cargo build the command, `file` then, unless it is built from what is there now, the archive among it.
+build_command() {
+    build target/staticlib/libvolefleece.a staticlib volefleece
+    file=$root/command/target/release/volefleece
+    sources='target/staticlib/libvolefleece.a command volefleece-rs'
+    renew by_cargo
 }

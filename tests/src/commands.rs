@@ -1,5 +1,5 @@
-//! The repository's commands as processes: the real ones, and copies beside stand-ins for `rt`, cargo and the programs, which show what a
-//! command starts and when.
+//! The repository's commands as processes: the real ones, and copies beside stand-ins for `rt`, cargo, Debian's tools and the programs, which
+//! show what a command starts and when.
 
 use std::ffi::{OsStr, OsString};
 use std::os::unix::fs::{symlink, PermissionsExt};
@@ -9,7 +9,7 @@ use std::{env, fs};
 
 use crate::programs::{copy_program, project, Folder};
 
-/// Every tool that a command starts, `rt`, cargo and the shell apart.
+/// Every tool that a command starts, `rt`, cargo, Debian's and the shell apart.
 const TOOLS: [&str; 18] = [
     "basename",
     "cat",
@@ -123,24 +123,50 @@ pub fn put_script(path: &Path, text: &str) {
 }
 
 /// A copy of the commands in a folder of its own, with few sources. `rt` is a stand-in there that keeps a list of its calls, builds copies of
-/// the file `program` and gives itself away if two of it run at once; so is cargo.
+/// what is in the folder `builds` and gives itself away if two of it run at once; so are cargo, which builds a copy of the file `volefleece`, and
+/// Debian's tools.
 pub struct Repository {
     folder: Folder,
 }
 
 /// The commands and what they read.
-const COPIED: [&str; 11] = [
+const COPIED: [&str; 14] = [
     "KIT",
     "bench",
     "desk",
     "install",
+    "quote",
+    "setup",
     "simplify",
     "test",
     "scripts/build.sh",
     "scripts/commands.sh",
+    "scripts/debian.toml",
     "scripts/volefleece-quote",
     "scripts/volefleece-simplify",
     "scripts/volefleece.pc.in",
+];
+
+/// What `rt` builds for the commands, in the folder `target`.
+const BUILT: [&str; 4] = [
+    "bin/desk",
+    "bin/sales",
+    "staticlib/libvolefleece.a",
+    "staticlib/libprobes.a",
+];
+
+/// Debian's packages that the command is built and tested with, as `./setup` asks for them.
+pub const PACKAGES: [&str; 10] = [
+    "librust-clap-dev",
+    "librust-clap-complete-dev",
+    "librust-indicatif-dev",
+    "librust-dialoguer-dev",
+    "librust-serde-json-dev",
+    "librust-rayon-dev",
+    "librust-tempfile-dev",
+    "librust-sha2-dev",
+    "librust-assert-cmd-dev",
+    "librust-libc-dev",
 ];
 
 const RT: &str = r#"
@@ -155,13 +181,10 @@ ci | check | staticlib)
         rmdir "$HERE/busy"
         exit "$(cat "$HERE/ci-ends")"
     fi
-    mkdir -p target/bin target/staticlib target/stamp
+    mkdir -p target/stamp
     stamp=$(find KIT crates.txt crates -type f -exec sha256sum {} +)
     if [ "$(cat "target/stamp/$2" 2>/dev/null)" != "$stamp" ]; then
-        cp "$HERE/program" target/bin/desk
-        cp "$HERE/program" target/bin/sales
-        cp "$HERE/program" target/staticlib/libvolefleece.a
-        cp "$HERE/program" target/staticlib/libprobes.a
+        cp -R "$HERE/builds/." target
         printf '%s\n' "$stamp" >"target/stamp/$2"
     fi
     rmdir "$HERE/busy"
@@ -169,40 +192,153 @@ ci | check | staticlib)
     ;;
 esac"#;
 
+/// It fails where the file `fails` has its folder and its first word.
 const CARGO: &str = r#"
-echo "cargo $*" >>"$HERE/calls"
-echo "tests ran${VOLEFLEECE_LIB_DIR-}${VOLEFLEECE_DESK-}${VOLEFLEECE_SALES-}${VOLEFLEECE_BEFORE-}"
-[ ! -e "$HERE/broken" ]"#;
+[ "$1" != --config ] || shift 2
+echo "${PWD##*/}: cargo $*" >>"$HERE/calls"
+[ "$(cat "$HERE/fails" 2>/dev/null)" != "${PWD##*/}: $1" ] || exit 101
+case $1 in
+generate-lockfile)
+    [ ! -e "$HERE/unfit" ] || { echo 'no version fits' >&2; exit 101; }
+    echo Debian >Cargo.lock
+    exit
+    ;;
+fetch)
+    [ -e "$HERE/crates-io" ] && [ "$(cat Cargo.lock 2>/dev/null)" != Debian ] || exit 101
+    echo crates.io >Cargo.lock
+    exit
+    ;;
+clean) rm -f target/stamp ;;
+build)
+    "$HERE/while-building"
+    mkdir -p target/release
+    stamp=$(find src ../volefleece-rs/src ../target/staticlib/libvolefleece.a -type f -exec sha256sum {} +)
+    if [ "$(cat target/stamp 2>/dev/null)" != "$stamp" ] || [ ! -e target/release/volefleece ]; then
+        cp "$HERE/volefleece" target/release/volefleece
+        printf '%s\n' "$stamp" >target/stamp
+    fi
+    ;;
+esac
+echo "tests ran${VOLEFLEECE_LIB_DIR-}${VOLEFLEECE_DESK-}${VOLEFLEECE_SALES-}${VOLEFLEECE_BEFORE-}""#;
+
+/// The command, which shows its arguments.
+const VOLEFLEECE: &str = r#"
+if [ "$1" = completions ]; then
+    echo "completes in $2"
+else
+    printf '<%s>' "$@"
+    printf '\n'
+fi
+exit "$(cat "$HERE/ends")""#;
+
+const DPKG_QUERY: &str = r#"
+for package; do
+    grep "^$package " "$HERE/packages"
+done"#;
+
+/// It installs what it is asked for unless there is a file `unreachable`.
+const APT_GET: &str = r#"
+echo "apt-get $*" >>"$HERE/calls"
+echo 'apt-get at work'
+mkdir "$HERE/busy" || echo 'two at once' >>"$HERE/calls"
+"$HERE/while-building"
+rmdir "$HERE/busy"
+[ ! -e "$HERE/unreachable" ] || exit 100
+for package; do
+    case $package in
+    librust-*) echo "$package installed" >>"$HERE/packages" ;;
+    esac
+done"#;
+
+/// It asks for a password unless there is a file `no-password`.
+const SUDO: &str = r#"
+echo "sudo $*" >>"$HERE/calls"
+[ -e "$HERE/no-password" ] || { echo 'a password is required' >&2; exit 1; }
+shift
+exec "$@""#;
 
 impl Repository {
-    /// One whose program says this by its script's text.
+    /// One whose programs say this by their script's text, on a machine with all packages, whose user is root.
     pub fn new(program: &str) -> Self {
-        let folder = Folder::new("desk");
-        fs::create_dir(folder.path("scripts")).expect("a new folder");
+        let repository = Repository {
+            folder: Folder::new("desk"),
+        };
+        fs::create_dir(repository.path("scripts")).expect("a new folder");
         for name in COPIED {
-            copy_program(&file(name), &folder.path(name));
+            copy_program(&file(name), &repository.path(name));
         }
-        put(&folder.path("crates.txt"), "desk:\n");
-        put(&folder.path("crates/desk/src/main.rt"), "first");
-        put(&folder.path("include/volefleece.h"), "");
-        for sample in ["house", "workshop"] {
-            put(&folder.path(&format!("samples/{sample}/tree.tab")), "");
+        for name in BUILT {
+            put_script(&repository.path("builds").join(name), program);
         }
-        put(&folder.path("tests/Cargo.toml"), "");
-        put(&folder.path("ci"), "proved\n3 passed, 0 failed\n");
-        put(&folder.path("ci-ends"), "0");
-        fs::copy(file("KIT"), folder.path("version")).expect("copied");
-        put_script(&folder.path("program"), program);
-        put_script(&folder.path("while-building"), ":");
-        put_script(&folder.path("stand-ins/rt"), RT);
-        put_script(&folder.path("stand-ins/cargo"), CARGO);
-        put_tools(&folder.path("tools"));
-        for name in ["rmdir", "sleep", "kill"] {
+        repository.put_sources();
+        repository.put_stand_ins();
+        repository.put_packages(&PACKAGES);
+        repository
+    }
+
+    /// One whose programs, archives and header are the real ones.
+    pub fn with_real_programs() -> Self {
+        let repository = Repository::new(":");
+        for name in BUILT {
+            let built = file("target").join(name);
+            copy_program(&built, &repository.path("builds").join(name));
+        }
+        let header = "include/volefleece.h";
+        fs::copy(file(header), repository.path(header)).expect("copied");
+        repository
+    }
+
+    fn put_sources(&self) {
+        for (name, text) in [
+            ("crates.txt", "desk:\n"),
+            ("crates/desk/src/main.rt", "first"),
+            ("include/volefleece.h", ""),
+            ("samples/house/tree.tab", ""),
+            ("samples/workshop/tree.tab", ""),
+            ("tests/Cargo.toml", ""),
+            ("command/src/main.rs", "first"),
+            ("volefleece-rs/src/lib.rs", "first"),
+        ] {
+            put(&self.path(name), text);
+        }
+    }
+
+    fn put_stand_ins(&self) {
+        put(&self.path("ci"), "proved\n3 passed, 0 failed\n");
+        put(&self.path("ci-ends"), "0");
+        put(&self.path("ends"), "0");
+        put(&self.path("user"), "0");
+        fs::copy(file("KIT"), self.path("version")).expect("copied");
+        for (name, text) in [
+            ("while-building", ":"),
+            ("volefleece", VOLEFLEECE),
+            ("stand-ins/rt", RT),
+            ("stand-ins/cargo", CARGO),
+            ("stand-ins/dpkg-query", DPKG_QUERY),
+            ("stand-ins/apt-get", APT_GET),
+            ("stand-ins/sudo", SUDO),
+            ("stand-ins/id", "cat \"$HERE/user\""),
+        ] {
+            put_script(&self.path(name), text);
+        }
+        put_tools(&self.path("tools"));
+        for name in ["rmdir", "sleep", "kill", "true"] {
             if let Some(tool) = find(name) {
-                symlink(tool, folder.path("tools").join(name)).expect("linked");
+                symlink(tool, self.path("tools").join(name)).expect("linked");
             }
         }
-        Repository { folder }
+    }
+
+    /// Has these packages installed alone. A package that was removed is still known.
+    pub fn put_packages(&self, installed: &[&str]) {
+        let packages = PACKAGES.iter().map(|package| {
+            let status = match installed.contains(package) {
+                true => "installed",
+                false => "config-files",
+            };
+            format!("{package} {status}\n")
+        });
+        put(&self.path("packages"), &packages.collect::<String>());
     }
 
     pub fn path(&self, name: &str) -> PathBuf {
@@ -228,7 +364,7 @@ impl Repository {
         Ended::of(&mut self.command(name))
     }
 
-    /// What `rt` and cargo were called with so far.
+    /// What the stand-ins were called with so far: `rt` by its arguments alone, cargo after its folder.
     pub fn calls(&self) -> Vec<String> {
         let calls = self.folder.read("calls").unwrap_or_default();
         let text = String::from_utf8(calls).expect("text");

@@ -1,5 +1,6 @@
-//! The commands `./desk`, `./simplify`, `./install`, `./bench` and `./test`: their arguments, lines and exit statuses, what they build and when,
-//! and what is installed. Where the real programs are not built from the sources yet, a command builds them first, by `rt`.
+//! The commands `./setup`, `./quote`, `./desk`, `./simplify`, `./install`, `./bench` and `./test`: their arguments, lines and exit statuses, what
+//! they build and when, and what is installed. Where the real programs are not built from the sources yet, a command builds them first, by `rt`;
+//! the command that cargo builds is a stand-in throughout, since these tests need no Rust package.
 
 use std::ffi::OsStr;
 use std::fs::{self, File};
@@ -121,6 +122,7 @@ fn arguments_are_counted() {
         ("install", &["prefix", "more"]),
         ("bench", &["archive", "more"]),
         ("test", &["more"]),
+        ("setup", &["more"]),
     ] {
         let ended = Ended::of(
             copy.command(name)
@@ -157,7 +159,7 @@ fn empty_arguments_are_told() {
 #[test]
 fn usage_is_told() {
     let copy = Repository::new(PROGRAM);
-    for name in ["desk", "simplify", "install", "bench", "test"] {
+    for name in ["desk", "simplify", "install", "bench", "test", "setup"] {
         let ended = Ended::of(copy.command(name).arg("--help"));
         assert_eq!((ended.status, &*ended.error), (Some(0), ""));
         assert!(ended.output.starts_with(&format!("usage: ./{name}")));
@@ -480,10 +482,20 @@ fn commands_build_one_at_a_time() {
             let copy = &copy;
             threads.spawn(move || copy.run(name).expect(0, LINE));
         }
+        for _ in 0..2 {
+            threads.spawn(|| assert_eq!(copy.run("quote").status, Some(0)));
+        }
     });
     let mut calls = copy.calls();
     calls.sort();
-    assert_eq!(calls, ["check desk", "check sales"]);
+    let built = [
+        "check desk",
+        "check sales",
+        BUILT_COMMAND,
+        FITTED,
+        "staticlib volefleece",
+    ];
+    assert_eq!(calls, built);
 }
 
 /// Each has the copy of the sample to itself.
@@ -496,6 +508,318 @@ fn the_sample_is_simplified_by_one_at_a_time() {
             threads.spawn(|| copy.run("simplify").expect(0, LINE));
         }
     });
+}
+
+// The command.
+
+/// How `./setup` finds that Debian's packages fit, and how the command is built.
+const FITTED: &str = "command: cargo generate-lockfile --offline";
+const BUILT_COMMAND: &str = "command: cargo build --release --target-dir target";
+
+/// `./quote` of the copy with arguments.
+fn quote(copy: &Repository, arguments: &[&str]) -> Ended {
+    Ended::of(copy.command("quote").args(arguments))
+}
+
+/// Standard output is the command's alone.
+#[test]
+fn the_command_gets_the_arguments_unchanged() {
+    let copy = Repository::new(PROGRAM);
+    put_script(&copy.path("while-building"), "echo building");
+    for (arguments, last) in [
+        (&["a house"][..], "<a house>"),
+        (&["", "--x"], "<><--x>"),
+        (
+            &["-", "--a b", "", "*", "$HOME", "\\c", "two\nlines", "--"],
+            "<-><--a b><><*><$HOME><\\c><two\nlines><-->",
+        ),
+        (&["-h"], "<-h>"),
+    ] {
+        quote(&copy, arguments).expect(0, &format!("<quote>{last}"));
+    }
+    let house = copy.path(".").canonicalize().expect("a folder");
+    let house = house.join("samples/house").display().to_string();
+    for (arguments, last) in [
+        (&[][..], ""),
+        (&["--help"], "<--help>"),
+        (&["--", "x"], "<--><x>"),
+        (&["--x y", "", "h"], "<--x y><><h>"),
+    ] {
+        quote(&copy, arguments).expect(0, &format!("<quote><{house}>{last}"));
+    }
+}
+
+#[test]
+fn a_quote_ends_as_the_command_does() {
+    let copy = Repository::new(PROGRAM);
+    for ends in [0, 1, 2, 77] {
+        put(&copy.path("ends"), &ends.to_string());
+        quote(&copy, &["h"]).expect(ends, "<quote><h>");
+    }
+    put_script(&copy.path("volefleece"), "kill -9 $$");
+    put(&copy.path("command/src/main.rs"), "killed");
+    assert_eq!(quote(&copy, &["h"]).status, None);
+}
+
+/// The command may ask, and is no build's reader.
+#[test]
+fn the_command_reads_what_a_quote_is_given() {
+    let copy = Repository::new(PROGRAM);
+    put_script(&copy.path("volefleece"), "cat");
+    put_script(&copy.path("while-building"), "cat >&2");
+    put(&copy.path("typed"), "typed\n");
+    for _ in 0..2 {
+        let typed = File::open(copy.path("typed")).expect("opened");
+        Ended::of(copy.command("quote").stdin(typed)).expect(0, "typed");
+    }
+}
+
+/// A quote makes these calls, and the next one none.
+#[track_caller]
+fn expect_built(copy: &Repository, calls: &[&str]) {
+    for calls in [calls, &[]] {
+        let before = copy.calls().len();
+        quote(copy, &["h"]).expect(0, "<quote><h>");
+        assert_eq!(copy.calls()[before..], *calls);
+    }
+}
+
+/// By contents, as what `rt` builds, and what cargo and `./setup` write there is no source.
+#[test]
+fn changes_of_the_command_are_built_once() {
+    let copy = Repository::new(PROGRAM);
+    expect_built(&copy, &["staticlib volefleece", FITTED, BUILT_COMMAND]);
+    for source in [
+        "command/src/main.rs",
+        "command/src/new.rs",
+        "command/Cargo.toml",
+        "volefleece-rs/src/lib.rs",
+        "volefleece-rs/build.rs",
+    ] {
+        put(&copy.path(source), "second");
+        expect_built(&copy, &[FITTED, BUILT_COMMAND]);
+        put(&copy.path(source), "second");
+        expect_built(&copy, &[]);
+    }
+    for made in [
+        "command/Cargo.lock",
+        "command/.cargo/config.toml",
+        "command/target/debug/volefleece",
+        "volefleece-rs/target/debug/made",
+    ] {
+        put(&copy.path(made), "other");
+        expect_built(&copy, &[]);
+    }
+}
+
+#[test]
+fn the_command_is_built_of_the_archive() {
+    let copy = Repository::new(PROGRAM);
+    let source = copy.path("crates/desk/src/main.rt");
+    expect_built(&copy, &["staticlib volefleece", FITTED, BUILT_COMMAND]);
+    put(&source, "the same archive");
+    expect_built(&copy, &["staticlib volefleece"]);
+    put_script(&copy.path("builds/staticlib/libvolefleece.a"), "another");
+    put(&source, "another archive");
+    expect_built(&copy, &["staticlib volefleece", FITTED, BUILT_COMMAND]);
+}
+
+#[test]
+fn a_command_that_was_not_built_is_replaced() {
+    const CLEANED: &str =
+        "command: cargo clean --package volefleece-command --release --target-dir target";
+    let copy = Repository::new(PROGRAM);
+    expect_built(&copy, &["staticlib volefleece", FITTED, BUILT_COMMAND]);
+    put_script(&copy.path("command/target/release/volefleece"), "spoilt");
+    expect_built(&copy, &[FITTED, CLEANED, BUILT_COMMAND]);
+    fs::remove_dir_all(copy.path("command/target")).expect("removed");
+    expect_built(&copy, &[FITTED, BUILT_COMMAND]);
+}
+
+#[test]
+fn a_built_command_needs_neither_rt_nor_cargo() {
+    let copy = Repository::new(PROGRAM);
+    let without = |stand_in: &str| {
+        fs::rename(copy.path("stand-ins").join(stand_in), copy.path(stand_in)).expect("moved");
+        let ended = quote(&copy, &["h"]);
+        fs::rename(copy.path(stand_in), copy.path("stand-ins").join(stand_in)).expect("moved");
+        ended
+    };
+    without("rt").expect_message("rt must be on PATH");
+    without("cargo").expect_message("cargo must be on PATH");
+    quote(&copy, &["h"]).expect(0, "<quote><h>");
+    let mut command = copy.command_with("quote", &["tools"]);
+    let ended = Ended::of(command.arg("h"));
+    ended.expect(0, "<quote><h>");
+    assert_eq!(ended.error, "");
+}
+
+#[test]
+fn a_command_that_cannot_be_built_is_told_and_tried_again() {
+    let copy = Repository::new(PROGRAM);
+    put(&copy.path("fails"), "command: build");
+    for _ in 0..2 {
+        quote(&copy, &["h"]).expect_message("quote: cargo build failed\n");
+    }
+    fs::remove_file(copy.path("fails")).expect("removed");
+    put(&copy.path("unfit"), "");
+    quote(&copy, &["h"]).expect_message("setup: ");
+    fs::remove_file(copy.path("unfit")).expect("removed");
+    let mut command = copy.command("quote");
+    let ended = Ended::of(command.arg("h").env("VOLEFLEECE_LIB_DIR", "elsewhere"));
+    ended.expect(0, "<quote><h>");
+    assert!(!ended.error.contains("elsewhere"), "{ended:?}");
+}
+
+// Setting up.
+
+const FETCHED: &str = "command: cargo fetch --quiet";
+
+/// `./setup` of the copy says nothing on standard output and ends well, after these calls.
+#[track_caller]
+fn expect_set_up(copy: &Repository, calls: &[&str]) -> String {
+    let before = copy.calls().len();
+    let ended = copy.run("setup");
+    assert_eq!(ended.status, Some(0), "{ended:?}");
+    assert_eq!(ended.output, "");
+    assert_eq!(copy.calls()[before..], *calls);
+    ended.error
+}
+
+/// Whether cargo is to take Debian's packages, by its configuration and by the lock file.
+#[track_caller]
+fn expect_debian(copy: &Repository, used: bool) {
+    let read = |name| fs::read_to_string(copy.path(name)).ok();
+    let written = read("command/.cargo/config.toml");
+    assert_eq!(written, used.then(|| read("scripts/debian.toml")).flatten());
+    let lock = ["crates.io\n", "Debian\n"][usize::from(used)];
+    assert_eq!(read("command/Cargo.lock").as_deref(), Some(lock));
+}
+
+#[test]
+fn where_nothing_is_missing_setup_does_nothing() {
+    let copy = Repository::new(PROGRAM);
+    let config = || fs::metadata(copy.path("command/.cargo/config.toml")).expect("written");
+    assert_eq!(expect_set_up(&copy, &[FITTED]), "");
+    expect_debian(&copy, true);
+    let (file, mode) = (config().ino(), config().mode());
+    assert_eq!(mode & 0o777, 0o644);
+    assert_eq!(expect_set_up(&copy, &[FITTED]), "");
+    assert_eq!(config().ino(), file);
+    put(&copy.path("command/.cargo/config.toml"), "other");
+    assert_eq!(expect_set_up(&copy, &[FITTED]), "");
+    expect_debian(&copy, true);
+}
+
+#[test]
+fn root_installs_what_is_missing_alone() {
+    for missing in [&PACKAGES[..1], &PACKAGES[3..5], &PACKAGES[9..], &PACKAGES] {
+        let copy = Repository::new(PROGRAM);
+        let there = PACKAGES.iter().filter(|package| !missing.contains(package));
+        copy.put_packages(&there.copied().collect::<Vec<_>>());
+        let missing = missing.join(" ");
+        let install = format!("apt-get install -y --no-install-recommends {missing}");
+        let told = expect_set_up(&copy, &["apt-get update", &install, FITTED]);
+        assert!(told.starts_with(&format!("setup: installing {missing}\n")));
+        assert!(told.contains("apt-get at work\n"));
+        expect_debian(&copy, true);
+        assert_eq!(expect_set_up(&copy, &[FITTED]), "");
+    }
+}
+
+#[test]
+fn others_install_by_sudo_without_a_password() {
+    let copy = Repository::new(PROGRAM);
+    copy.put_packages(&PACKAGES[1..]);
+    put(&copy.path("user"), "1000");
+    put(&copy.path("no-password"), "");
+    let install = format!("apt-get install -y --no-install-recommends {}", PACKAGES[0]);
+    let calls = [
+        "sudo -n true",
+        "sudo -n apt-get update",
+        "apt-get update",
+        &format!("sudo -n {install}"),
+        &install,
+        FITTED,
+    ];
+    expect_set_up(&copy, &calls);
+    expect_debian(&copy, true);
+}
+
+/// The message is the command that installs them.
+#[test]
+fn what_setup_may_not_install_it_names() {
+    let copy = Repository::new(PROGRAM);
+    copy.put_packages(&PACKAGES[2..]);
+    put(&copy.path("user"), "1000");
+    let [first, second, ..] = PACKAGES;
+    let told = format!("\nsudo apt-get install -y --no-install-recommends {first} {second}\n");
+    let refused = || {
+        let ended = copy.run("setup");
+        ended.expect_message(&told);
+        assert!(!ended.error.contains("password"), "{ended:?}");
+        assert!(!copy.path("command/.cargo/config.toml").exists());
+    };
+    refused();
+    assert_eq!(copy.calls(), ["sudo -n true", FETCHED]);
+    for missing in ["sudo", "apt-get"] {
+        fs::remove_file(copy.path("stand-ins").join(missing)).expect("removed");
+        refused();
+    }
+    put(&copy.path("user"), "0");
+    refused();
+}
+
+#[test]
+fn where_debian_has_no_dpkg_all_is_missing() {
+    let copy = Repository::new(PROGRAM);
+    for name in ["dpkg-query", "apt-get"] {
+        fs::remove_file(copy.path("stand-ins").join(name)).expect("removed");
+    }
+    copy.run("setup").expect_message(&PACKAGES.join(" "));
+}
+
+/// Without leave to install, where installing fails, and where the packages do not fit. What was made of Debian's packages goes.
+#[test]
+fn crates_io_is_the_last_way() {
+    let copy = Repository::new(PROGRAM);
+    put(&copy.path("crates-io"), "");
+    expect_set_up(&copy, &[FITTED]);
+    copy.put_packages(&PACKAGES[1..]);
+    put(&copy.path("user"), "1000");
+    assert_eq!(expect_set_up(&copy, &["sudo -n true", FETCHED]), "");
+    expect_debian(&copy, false);
+
+    put(&copy.path("user"), "0");
+    put(&copy.path("unreachable"), "");
+    let install = format!("apt-get install -y --no-install-recommends {}", PACKAGES[0]);
+    expect_set_up(&copy, &["apt-get update", &install, FETCHED]);
+    expect_debian(&copy, false);
+
+    copy.put_packages(&PACKAGES);
+    expect_set_up(&copy, &[FITTED]);
+    expect_debian(&copy, true);
+    put(&copy.path("unfit"), "");
+    assert_eq!(expect_set_up(&copy, &[FITTED, FETCHED]), "");
+    expect_debian(&copy, false);
+    fs::remove_file(copy.path("crates-io")).expect("removed");
+    copy.run("setup").expect_message("\nno version fits\n");
+}
+
+#[test]
+fn two_setups_install_once() {
+    let copy = Repository::new(PROGRAM);
+    copy.put_packages(&PACKAGES[1..]);
+    put_script(&copy.path("while-building"), "sleep 0.3");
+    thread::scope(|threads| {
+        for _ in 0..3 {
+            threads.spawn(|| assert_eq!(copy.run("setup").status, Some(0)));
+        }
+    });
+    let calls = copy.calls();
+    let installing = calls.iter().filter(|call| *call != FITTED);
+    assert_eq!(installing.count(), 2, "{calls:?}");
+    expect_debian(&copy, true);
 }
 
 // The gate.
@@ -518,7 +842,7 @@ fn the_gate_ends_with_the_count() {
             "ci",
             "staticlib volefleece",
             "staticlib probes",
-            "cargo test --release --offline"
+            "tests: cargo test --release --offline"
         ]
     );
 }
@@ -526,7 +850,7 @@ fn the_gate_ends_with_the_count() {
 #[test]
 fn the_gate_keeps_the_count_back() {
     let copy = Repository::new(PROGRAM);
-    put_script(&copy.path("stand-ins/cargo"), "exit 101");
+    put(&copy.path("fails"), "tests: test");
     let ended = copy.run("test");
     assert_ne!(ended.status, Some(0));
     assert_eq!(ended.output, "proved\n");
@@ -573,7 +897,7 @@ fn the_gate_wants_the_kit_that_the_proofs_are_of() {
 #[test]
 fn the_benchmarks_are_of_what_is_built() {
     let copy = Repository::new(PROGRAM);
-    let benched = "cargo bench --offline --bench quotes";
+    let benched = "tests: cargo bench --offline --bench quotes";
     let desk = copy.path("target/bin/desk");
     let ran = format!("tests ran{}\n", desk.display());
     assert_eq!(copy.run("bench").output, ran);
@@ -661,9 +985,11 @@ fn installed(prefix: &Path, name: &str, tools: &Path, arguments: &[&str]) -> End
 
 #[test]
 fn an_installed_desk_needs_no_kit() {
+    let copy = Repository::with_real_programs();
     let room = room();
     let prefix = room.path("a prefix");
-    expect_installed(&run("install", &room, &[&prefix]), &prefix);
+    let ended = Ended::of(copy.command("install").arg(&prefix));
+    expect_installed(&ended, &prefix);
     let tools = room.path("tools");
     fs::create_dir(&tools).expect("made");
     symlink(find("readlink").expect("a tool"), tools.join("readlink")).expect("linked");
@@ -715,8 +1041,8 @@ fn installing_again_replaces_files_whole() {
             assert_eq!(told.status, Some(2), "{told:?}");
             assert!(told.error.contains(&format!("{file} is a folder")));
             fs::remove_dir(prefix.join(file)).expect("removed");
-            install(name);
         }
+        expect_installed(&install(name), &prefix);
     }
     for name in ["a\nb", "a\"b", "a$b", "a\\b", "a#b"] {
         install(name).expect_message("a file for pkg-config cannot name this folder");
@@ -749,9 +1075,11 @@ fn field(text: &str, start: &str) -> String {
 
 #[test]
 fn pkg_config_finds_the_library() {
+    let copy = Repository::with_real_programs();
     let room = room();
     let prefix = room.path("with space");
-    expect_installed(&run("install", &room, &[&prefix]), &prefix);
+    let ended = Ended::of(copy.command("install").arg(&prefix));
+    expect_installed(&ended, &prefix);
     let folder = prefix.join("lib/pkgconfig");
     let text = fs::read_to_string(folder.join("volefleece.pc")).expect("read");
     assert_eq!(field(&text, "prefix="), prefix.display().to_string());
