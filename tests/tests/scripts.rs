@@ -936,7 +936,11 @@ fn the_benchmark_compares_with_the_build_that_is_named() {
 
 // Installing.
 
-const INSTALLED: [(&str, u32); 8] = [
+const INSTALLED: [(&str, u32); 12] = [
+    ("bin/volefleece", 0o755),
+    ("share/bash-completion/completions/volefleece", 0o644),
+    ("share/zsh/site-functions/_volefleece", 0o644),
+    ("share/fish/vendor_completions.d/volefleece.fish", 0o644),
     ("libexec/volefleece/desk", 0o755),
     ("libexec/volefleece/sales", 0o755),
     ("libexec/volefleece/commands.sh", 0o644),
@@ -1015,6 +1019,31 @@ fn an_installed_desk_needs_no_kit() {
     fs::rename(&prefix, room.path("moved")).expect("moved");
     symlink(room.path("moved/bin/volefleece-quote"), room.path("link")).expect("linked");
     Ended::of(command(room.path("link")).arg(room.path("h"))).expect(0, HOUSE);
+}
+
+/// The completions are what the command prints, and where it prints none nothing is installed.
+#[test]
+fn the_command_is_installed_with_its_completions() {
+    let copy = Repository::new(PROGRAM);
+    let install = |prefix: &Path| Ended::of(copy.command("install").arg(prefix));
+    let prefix = copy.path("prefix");
+    expect_installed(&install(&prefix), &prefix);
+    let read = |name| fs::read(prefix.join(name)).expect("installed");
+    assert_eq!(
+        read("bin/volefleece"),
+        fs::read(copy.path("volefleece")).expect("read")
+    );
+    for (name, shell) in [
+        (INSTALLED[1].0, "bash"),
+        (INSTALLED[2].0, "zsh"),
+        (INSTALLED[3].0, "fish"),
+    ] {
+        assert_eq!(read(name), format!("completes in {shell}\n").into_bytes());
+    }
+    put(&copy.path("ends"), "2");
+    let other = copy.path("other");
+    install(&other).expect_message("volefleece completions bash failed");
+    assert!(!other.exists());
 }
 
 /// What is there is replaced whole and not written to, and a name may be relative.
