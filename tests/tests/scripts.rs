@@ -833,7 +833,8 @@ fn the_gate_ends_with_the_count() {
     }
     let ended = Ended::of(&mut test);
     assert_eq!(ended.status, Some(0), "{ended:?}");
-    assert_eq!(ended.output, "proved\ntests ran\n3 passed, 0 failed\n");
+    let ran = "tests ran\n".repeat(3);
+    assert_eq!(ended.output, format!("proved\n{ran}3 passed, 0 failed\n"));
     assert_eq!(
         copy.calls(),
         [
@@ -842,18 +843,34 @@ fn the_gate_ends_with_the_count() {
             "ci",
             "staticlib volefleece",
             "staticlib probes",
-            "tests: cargo test --release --offline"
+            "tests: cargo test --release --offline",
+            FITTED,
+            "volefleece-rs: cargo test --release --offline",
+            "command: cargo test --release --target-dir target"
         ]
     );
 }
 
 #[test]
 fn the_gate_keeps_the_count_back() {
+    for (passed, fails) in [
+        (0, "tests: test"),
+        (1, "volefleece-rs: test"),
+        (2, "command: test"),
+    ] {
+        let copy = Repository::new(PROGRAM);
+        put(&copy.path("fails"), fails);
+        let ended = copy.run("test");
+        assert_eq!(ended.status, Some(101));
+        let ran = "tests ran\n".repeat(passed);
+        assert_eq!(ended.output, format!("proved\n{ran}"));
+    }
+
     let copy = Repository::new(PROGRAM);
-    put(&copy.path("fails"), "tests: test");
+    put(&copy.path("unfit"), "");
     let ended = copy.run("test");
-    assert_ne!(ended.status, Some(0));
-    assert_eq!(ended.output, "proved\n");
+    assert_eq!(ended.status, Some(2));
+    assert_eq!(ended.output, "proved\ntests ran\n");
 
     for (count, ends) in [("2 passed, 1 failed", "0"), ("3 passed, 0 failed", "1")] {
         let copy = Repository::new(PROGRAM);
