@@ -54,12 +54,26 @@ fn the_program_in_c() {
 #[test]
 fn the_program_in_rust() {
     let folder = Folder::new("desk");
-    folder.write("main.rs", block("From Rust, in edition 2024").as_bytes());
-    let program = folder.path("program");
-    let mut compile = Command::new(env::var_os("RUSTC").unwrap_or("rustc".into()));
+    folder.write(
+        "main.rs",
+        block("names the archive's folder where").as_bytes(),
+    );
+    let rustc = || Command::new(env::var_os("RUSTC").unwrap_or("rustc".into()));
+    let (library, program) = (folder.path("libvolefleece.rlib"), folder.path("program"));
+    let mut compile = rustc();
     compile
-        .args(["--edition", "2024", "-l", "static=volefleece", "-L"])
+        .args(["--edition", "2021", "--crate-type", "rlib", "--crate-name"])
+        .args(["volefleece", "-l", "static=volefleece", "-L"])
         .arg(format!("native={}", archive_folder().display()))
+        .arg(file("volefleece-rs/src/lib.rs"))
+        .arg("-o")
+        .arg(&library);
+    let compiled = Ended::of(&mut compile);
+    assert_eq!(compiled.status, Some(0), "{}", compiled.error);
+    let mut compile = rustc();
+    compile
+        .args(["--edition", "2021", "--extern"])
+        .arg(format!("volefleece={}", library.display()))
         .arg(folder.path("main.rs"))
         .arg("-o")
         .arg(&program);

@@ -1,0 +1,45 @@
+//! The quotes on README.md's first page are what the command prints.
+
+use assert_cmd::Command;
+
+const README: &str = include_str!("../../README.md");
+
+/// The indented lines of README.md, without their indent, in blocks.
+fn blocks() -> Vec<String> {
+    let lines: Vec<&str> = README.lines().collect();
+    let blocks = lines.split(|line| !line.starts_with("    "));
+    let block = |lines: &[&str]| {
+        lines
+            .iter()
+            .map(|line| format!("{}\n", &line[4..]))
+            .collect()
+    };
+    blocks
+        .filter(|lines| !lines.is_empty())
+        .map(block)
+        .collect()
+}
+
+/// A `./quote` on the page, and the block after it.
+#[track_caller]
+fn quoted(command: &str) {
+    let blocks = blocks();
+    let at = blocks
+        .iter()
+        .position(|block| *block == format!("{command}\n"));
+    let expected = &blocks[at.expect("the command on the page") + 1];
+    let words = command.split(' ').skip(1);
+    let mut quote = Command::cargo_bin("volefleece").expect("the command");
+    quote.current_dir("..").arg("quote").args(words);
+    quote.assert().success().stdout(expected.clone()).stderr("");
+}
+
+#[test]
+fn a_first_quote() {
+    quoted("./quote samples/house --set cards=40 --set retries=3");
+}
+
+#[test]
+fn a_choice() {
+    quoted("./quote samples/entrance");
+}
