@@ -8,10 +8,6 @@ pub mod Weight
 pub mod Settled
 pub mod ListPairs
 pub mod Ranges
-pub mod Admits
-pub mod Covered
-pub mod Reached
-pub mod CaseI
 pub mod Alike
 pub mod Branch
 pub mod Found

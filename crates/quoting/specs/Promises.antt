@@ -11,7 +11,7 @@ use Rattle.table.specs.Table.{decode}
 use Rattle.table.specs.declared.Most.{Most}
 use Rattle.triangular.specs.Triangular.{rule}
 use Rattle.evaluate.specs.Evaluate.{Values, allowed, list, valuesOf}
-use Rattle.evaluate.specs.Runs.{Pass, Run, Costs, cost, limitFree}
+use Rattle.runs.specs.Runs.{Pass, Run, Costs, cost, limitFree}
 use Rattle.lists.specs.Pairs.{ArePairs, Pairs, numbers, width}
 use Rattle.quoting.specs.declared.Listed.{Listed}
 use Rattle.quoting.specs.declared.Quote.{Quote}

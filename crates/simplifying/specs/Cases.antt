@@ -10,7 +10,7 @@ use Rattle.table.specs.Numbers.{mostRecords}
 use Rattle.table.specs.Notation.{_/_at_, allHold, block, both, either, loop, sequence, symbol}
 use Rattle.table.specs.Table.{encode}
 use Rattle.table.specs.Trees.{Tree, nil, _▸_}
-use Rattle.evaluate.specs.Cases.{caseC, caseE, caseH, caseI, limitedZero, term}
+use Rattle.runs.specs.Cases.{caseC, caseE, caseH, caseI, limitedZero, term}
 use Rattle.evaluate.specs.Closed.{stays, closed, isPlain, plainKind, plainLimit, symbolFree, isUnlimited}
 use Rattle.simplify.specs.Same.{sameNumber, sameLimit, sameKind, same}
 use Rattle.simplify.specs.Rules.{isBlock, isSum, limitOf, children, relimit, leaf, bare, timeOfKind, timeOf, when, rule1, gives, anyGives, giveWay, rule2, alone, rule3, rule4, isZero, anyZero, without, rule5, bares, others, total, largest, rule6, atFirst, rule7, isPair, headOf, tailOf, firstOf, secondOf, allPairs, firsts, shares, sharedOut, rule8, exit, rule9}

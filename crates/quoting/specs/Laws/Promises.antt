@@ -20,8 +20,8 @@ use Rattle.evaluate.specs.Evaluate.{Values, allowed, valuesOf, figure}
 use Rattle.lists.specs.Pairs.{Pairs, ever, numbers, run, width}
 use Rattle.evaluate.specs.ListPairs.{listPairs}
 use Rattle.evaluate.specs.Laws.ListPairs.{list-pairs}
-use Rattle.evaluate.specs.Laws.Covered.{covered}
-use Rattle.evaluate.specs.Laws.Reached.{reached}
+use Rattle.runs.specs.Laws.Covered.{covered}
+use Rattle.runs.specs.Laws.Reached.{reached}
 use Rattle.quoting.specs.declared.Listed.{Listed}
 use Rattle.quoting.specs.declared.Quote.{Quote}
 use Rattle.writing.specs.Over.{over}

@@ -10,9 +10,9 @@ use lib.ListN.{length}
 use Rattle.booleans.specs.Tests.{_and_}
 use Rattle.booleans.specs.Laws.{both}
 use Rattle.table.specs.Trees.{Tree, node, Forest, nil, _▸_}
-use Rattle.evaluate.specs.Nodes.{Limit, Unlimited, AtMost, Kind, Block, Sequence, Choice, Loop}
+use Rattle.runs.specs.Nodes.{Limit, Unlimited, AtMost, Kind, Block, Sequence, Choice, Loop}
 use Rattle.evaluate.specs.Evaluate.{Values, amount, allowed}
-use Rattle.evaluate.specs.Runs.{total, All, Pass, PassIn, Spot, SpotIn, limitAt, count, cost, keeps, here, Admitted, AdmittedIn, Costs}
+use Rattle.runs.specs.Runs.{total, All, Pass, PassIn, Spot, SpotIn, limitAt, count, cost, keeps, here, Admitted, AdmittedIn, Costs}
 
 -- every node passes a test
 unfoldable mutual

@@ -8,16 +8,16 @@ use native.Mathlib.Omega.{arith}
 use lib.Dec.{T, leb→le, eqb→eq, leb}
 use lib.ListN.{length}
 use borrow.Author.Tests.{leb-true, leb-false}
-use Rattle.evaluate.specs.Nodes.{Limit, Unlimited, AtMost, Kind, Block, Sequence, Choice, Loop, Number, Node}
+use Rattle.runs.specs.Nodes.{Limit, Unlimited, AtMost, Kind, Block, Sequence, Choice, Loop, Number, Node}
 use Rattle.booleans.specs.Laws.{both, join-and, by-cond}
 use Rattle.table.specs.Trees.{Tree, node, Forest, nil, _▸_, rest, around, size}
 use Rattle.table.specs.Questions.{arity, listed, listedIn}
 use Rattle.lists.specs.Streams.{Stream, const, add, merge, taken}
 use Rattle.lists.specs.Laws.MergeLaws.{group-const}
 use Rattle.evaluate.specs.Evaluate.{rounds, Values, amount, name, limit, turns, join, start, list, before, figure}
 use Rattle.evaluate.specs.Closed.{isUnlimited, stays, closed, closedIn}
-use Rattle.evaluate.specs.Runs.{limitFree, limitFreeIn, out, seenLimit, Spot, SpotIn, limitAt, limitIn, total, All, Pass, PassIn, cost, costIn, keeps, here, Admitted, AdmittedIn, Costs}
+use Rattle.runs.specs.Runs.{limitFree, limitFreeIn, out, seenLimit, Spot, SpotIn, limitAt, limitIn, total, All, Pass, PassIn, cost, costIn, keeps, here, Admitted, AdmittedIn, Costs}
 use Rattle.evaluate.specs.Laws.Constant.{closed-const, unlimited-is}
 
 stays-free : (l : Limit) (d : ℕ) → T (isUnlimited l) → T (stays l d)
 unfolding isUnlimited stays

@@ -9,15 +9,15 @@ use native.Mathlib.Omega.{arith}
 use lib.Dec.{leb}
 use lib.ListN.{length, length-append}
 use borrow.Author.Tests.{leb-true, leb-false, lt-leb}
-use Rattle.evaluate.specs.Nodes.{Limit, Unlimited, AtMost, Kind, Block, Sequence, Choice, Loop}
+use Rattle.runs.specs.Nodes.{Limit, Unlimited, AtMost, Kind, Block, Sequence, Choice, Loop}
 use Rattle.table.specs.Numbers.{wholeRun}
 use Rattle.table.specs.Trees.{Tree, node, Forest, nil, _▸_, rest}
 use Rattle.lists.specs.Streams.{Stream, S, group, const}
 use Rattle.lists.specs.Laws.Sums.{S-group, S-const, S-mono, S-add, S-cap}
 use Rattle.lists.specs.Laws.Merge.{merge-over}
 use Rattle.evaluate.specs.Evaluate.{inner, outward, rounds, Values, amount, seen, name, nameIn, limit, turns, join, start, list, before, figure, allowed}
-use Rattle.evaluate.specs.Runs.{total, All, Pass, PassIn, Spot, SpotIn, out, seenLimit, limitAt, limitIn, count, countIn, cost, costIn, keeps, here, Admitted, AdmittedIn, Run}
+use Rattle.runs.specs.Runs.{total, All, Pass, PassIn, Spot, SpotIn, out, seenLimit, limitAt, limitIn, count, countIn, cost, costIn, keeps, here, Admitted, AdmittedIn, Run}
 use Rattle.evaluate.specs.Laws.Monotone.{list-falls, before-falls}
 
 -- totals over lists
 pub total-map : {A B : Type 0} (f : B → ℕ) (g : A → B) (xs : List A) → total f (map g xs) ≡ total (λ x. f (g x)) xs

@@ -7,10 +7,10 @@ use native.Mathlib.Omega.{arith}
 use lib.ListN.{length}
 use Rattle.table.specs.Notation.{_/_at_, block, both, either, loop}
 use Rattle.table.specs.Trees.{Tree}
 use Rattle.evaluate.specs.Evaluate.{Values}
-use Rattle.evaluate.specs.Runs.{Admitted, All, Pass, Run, Spot, cost, count, here, total}
-use Rattle.evaluate.specs.Cases.{caseI, computed, limitedZero}
-use Rattle.evaluate.specs.Laws.Covered.{all-impl}
+use Rattle.runs.specs.Runs.{Admitted, All, Pass, Run, Spot, cost, count, here, total}
+use Rattle.runs.specs.Cases.{caseI, computed, limitedZero}
+use Rattle.runs.specs.Laws.Covered.{all-impl}
 
 total-under : {A : Type 0} (f g : A → ℕ) (c k : ℕ) (xs : List A) → All (λ x. f x ≤ c + k * g x) xs → total f xs ≤ length xs * c + k * total g xs
 unfolding total

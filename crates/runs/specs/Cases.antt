@@ -10,10 +10,10 @@ use Rattle.booleans.specs.Tests.{_and_}
 use Rattle.table.specs.Notation.{_/T_at_, _/_at_, block, both, either, loop, sequence}
 use Rattle.triangular.specs.Triangular.{rule, triangular}
 use Rattle.table.specs.Trees.{Tree, nil, _▸_, rest}
-use Rattle.evaluate.specs.Nodes.{AtMost, Most}
+use Rattle.runs.specs.Nodes.{AtMost, Most}
 use Rattle.evaluate.specs.Evaluate.{Values, amount, outward, allowed}
-use Rattle.evaluate.specs.Runs.{Costs, Pass, Run, cost, count, here, limitAt, out, seenLimit, total}
-use Rattle.evaluate.specs.Laws.Admits.{admits, every, everyNode, isRun, keepsHere, keepsLimit, run-costs}
+use Rattle.runs.specs.Runs.{Costs, Pass, Run, cost, count, here, limitAt, out, seenLimit, total}
+use Rattle.runs.specs.Laws.Admits.{admits, every, everyNode, isRun, keepsHere, keepsLimit, run-costs}
 
 -- ---- the trees
 

@@ -6,11 +6,11 @@ use mathlib.Core.Logic.{_⊎_, inl, inr}
 use Prim.Native.Nat.{ℕ, _+_, _≤_}
 use lib.Dec.{leb}
 use lib.ListN.{length}
-use Rattle.evaluate.specs.Nodes.{Kind, Block, Sequence, Choice, Loop, Limit, Unlimited, AtMost}
+use Rattle.runs.specs.Nodes.{Kind, Block, Sequence, Choice, Loop, Limit, Unlimited, AtMost}
 use Rattle.booleans.specs.Tests.{_and_}
 use Rattle.table.specs.Trees.{Tree, node, Forest, nil, _▸_, rest}
 use Rattle.evaluate.specs.Evaluate.{outward, Values, allowed, amount}
 use Rattle.evaluate.specs.Closed.{isUnlimited}
 
 -- a pass of a sequence is one pass of each child in order; of a choice, one pass of one child; of a loop, some of the body, then one of the exit
 abbrev mutual
