@@ -87,16 +87,16 @@ build() {
 # The archive and the folder are these, whatever the caller's environment names.
 in_command() (
     unset VOLEFLEECE_LIB_DIR
-    cd "$root/command" && exec cargo "$@" --release --target-dir target
+    cd "$root/command" && exec cargo "$@" --target-dir target
 )
 
 by_cargo() {
     "$root/setup" || exit 2
     if is_spoilt; then
-        in_command clean --package volefleece-command >&2 || fail 'cargo clean failed'
+        in_command clean --release --package volefleece-command >&2 || fail 'cargo clean failed'
     fi
     rm -f "$file.built"
-    in_command build >&2 || fail 'cargo build failed'
+    in_command build --release >&2 || fail 'cargo build failed'
     [ -f "$file" ] || fail "cargo takes $file for built, and it is missing: remove the folder command/target and try again"
 }
 

@@ -21,6 +21,7 @@
 //! - `grafts`: two tables with a symbol and a buffer, both grafters.
 //! - `programs`: the programs as processes, and their files.
 //! - `commands`: the repository's commands as processes, the real ones and copies beside stand-ins.
+//! - `timing`: medians of times, for the benchmarks.
 //! - `rng`: a small deterministic generator of random numbers.
 
 pub mod cases;
@@ -46,4 +47,5 @@ pub mod runs;
 pub mod simplifications;
 pub mod simplifier;
 pub mod tables;
+pub mod timing;
 pub mod trees;

@@ -627,7 +627,7 @@ fn the_command_is_built_of_the_archive() {
 #[test]
 fn a_command_that_was_not_built_is_replaced() {
     const CLEANED: &str =
-        "command: cargo clean --package volefleece-command --release --target-dir target";
+        "command: cargo clean --release --package volefleece-command --target-dir target";
     let copy = Repository::new(PROGRAM);
     expect_built(&copy, &["staticlib volefleece", FITTED, BUILT_COMMAND]);
     put_script(&copy.path("command/target/release/volefleece"), "spoilt");
@@ -915,20 +915,24 @@ fn the_gate_wants_the_kit_that_the_proofs_are_of() {
 fn the_benchmarks_are_of_what_is_built() {
     let copy = Repository::new(PROGRAM);
     let benched = "tests: cargo bench --offline --bench quotes";
+    let command = "command: cargo bench --bench houses --target-dir target";
     let desk = copy.path("target/bin/desk");
     let ran = format!("tests ran{}\n", desk.display());
-    assert_eq!(copy.run("bench").output, ran);
+    assert_eq!(copy.run("bench").output, ran.repeat(2));
     assert_eq!(
         copy.calls(),
         [
             "staticlib volefleece",
             "staticlib probes",
             "check desk",
-            benched
+            benched,
+            FITTED,
+            BUILT_COMMAND,
+            command
         ]
     );
     assert_eq!(copy.run("bench").status, Some(0));
-    assert_eq!(copy.calls()[4..], [benched]);
+    assert_eq!(copy.calls()[7..], [benched, command]);
 }
 
 #[test]
@@ -947,7 +951,7 @@ fn the_benchmark_compares_with_the_build_that_is_named() {
         bench(&["before.a"]).output,
         ran(before.to_str().expect("UTF-8"))
     );
-    assert_eq!(bench(&[]).output, ran(""));
+    assert_eq!(bench(&[]).output, ran("").repeat(2));
     bench(&["missing.a"]).expect_message("missing.a: no such file");
 }
 

@@ -1,11 +1,11 @@
 //! The calls against plain Rust.
 
 use crate::quote::{quotes, Quote, LIMITS, SIZES};
-use crate::timing::{each, median, microseconds};
 use volefleece::raw;
 use volefleece_tests::evaluator::{self, Quoted};
 use volefleece_tests::format::LIST_ROOM;
 use volefleece_tests::reader;
+use volefleece_tests::timing::{each, median, microseconds};
 
 const TABLES: usize = 16;
 const REPETITIONS: usize = 301;

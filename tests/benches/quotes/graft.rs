@@ -1,11 +1,11 @@
 //! The grafting call against plain Rust.
 
 use crate::quote::SIZES;
-use crate::timing::{each, microseconds};
 use volefleece::raw;
 use volefleece_tests::format::{MOST_RECORDS, RECORD_BYTES};
 use volefleece_tests::grafter;
 use volefleece_tests::rng::Rng;
+use volefleece_tests::timing::{each, microseconds};
 use volefleece_tests::trees;
 
 const PAIRS: usize = 16;

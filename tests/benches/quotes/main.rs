@@ -16,7 +16,6 @@ mod quote;
 mod shared;
 mod simplify;
 mod stack;
-mod timing;
 mod words;
 
 fn main() {

@@ -3,12 +3,12 @@
 
 use crate::program::integer_program;
 use crate::quote::{quotes, Limits, Quote, LIMITS, SIZES};
-use crate::timing::{medians, Call};
 use std::path::{Path, PathBuf};
 use std::process::{Command, Stdio};
 use std::time::{Duration, Instant};
 use std::{env, fs, process};
 use volefleece_tests::programs::{values_file, TREE, VALUES};
+use volefleece_tests::timing::{medians, Call};
 
 const DESK: &str = "VOLEFLEECE_DESK";
 const LP_SOLVE: &str = "lp_solve";

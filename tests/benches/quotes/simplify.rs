@@ -2,11 +2,11 @@
 
 use crate::quote::{quotes, LIMITS, SIZES};
 use crate::shared::{self, Shared};
-use crate::timing::{each, median, microseconds};
 use volefleece::raw;
 use volefleece_tests::format::{MOST_RECORDS, RECORD_BYTES};
 use volefleece_tests::rng::Rng;
 use volefleece_tests::simplifier::{self, Simplified};
+use volefleece_tests::timing::{each, median, microseconds};
 use volefleece_tests::trees::{self, Amount, Kind, Tree};
 
 const TABLES: usize = 16;

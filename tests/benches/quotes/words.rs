@@ -2,9 +2,9 @@
 //! Rust's own. The first two are loops of as many instructions, each measured at four places in memory.
 
 use crate::places::{Loaded, PLACES};
-use crate::timing::{each, microseconds};
 use volefleece_tests::probes::Compared;
 use volefleece_tests::rng::Rng;
+use volefleece_tests::timing::{each, microseconds};
 
 const SIZES: [usize; 5] = [16, 64, 256, 1024, 4096];
 
