@@ -9,7 +9,7 @@ use crate::counts::Counts;
 use crate::failure::{note, Failure, Outcome};
 use crate::files;
 use crate::table::{self, Amount, Node};
-use crate::text;
+use crate::text::{self, digits};
 use crate::tree::{read_names, Tree};
 use crate::words::node_words;
 
@@ -65,18 +65,14 @@ impl House {
     /// Sets a symbol, by its name or its number.
     pub fn set(&mut self, setting: &Setting) -> Outcome {
         let Setting { name, value } = setting;
-        let number = name.parse().ok().filter(|&number: &usize| number < VALUES);
-        let symbol = number
-            .or_else(|| self.tree.names.find(name))
-            .ok_or_else(|| {
-                let names = self.tree.names.symbols().join(", ");
-                Failure::Problem(format!(
-                    "--set {name}={value}: no symbol is called {name} (names here: {names})"
-                ))
-            })?;
+        let symbol = self.tree.names.find_or_number(name).ok_or_else(|| {
+            let names = self.tree.names.symbols().join(", ");
+            Failure::Problem(format!(
+                "--set {name}={value}: no symbol is called {name} (names here: {names})"
+            ))
+        })?;
         let most = ceiling(symbol);
-        let number = value.parse().ok().filter(|&number| number <= most);
-        let number = number.ok_or_else(|| {
+        let number = digits(value, most).ok_or_else(|| {
             Failure::Problem(format!(
                 "--set {name}={value}: expected a number from 0 to {most}"
             ))

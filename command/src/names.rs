@@ -4,6 +4,8 @@ use std::collections::{BTreeMap, BTreeSet};
 
 use volefleece::{FIRST_TIME, VALUES};
 
+use crate::text::digits;
+
 /// The names of one tree. A symbol without a name has a plain one, `count-3` or `time-16`.
 #[derive(Clone, Debug, Default, PartialEq, Eq)]
 pub struct Names {
@@ -125,6 +127,12 @@ impl Names {
         given
             .map(|(&symbol, _)| symbol)
             .or_else(|| by_plain_name(name))
+    }
+
+    /// The symbol of that number or name.
+    pub fn find_or_number(&self, symbol: &str) -> Option<usize> {
+        let number = digits(symbol, VALUES as u64 - 1).map(|number| number as usize);
+        number.or_else(|| self.find(symbol))
     }
 
     /// The lines of a text's header: the house, these symbols and all others that have names, and the branches.

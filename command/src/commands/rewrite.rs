@@ -1,7 +1,5 @@
 //! `volefleece simplify` and `graft`: the calls that write a tree.
 
-use volefleece::VALUES;
-
 use crate::cli::{Graft, Simplify};
 use crate::failure::{Failure, Outcome};
 use crate::tree::Tree;
@@ -30,9 +28,7 @@ pub fn graft(arguments: &Graft) -> Outcome<String> {
     let host = Tree::read(&arguments.host, arguments.names.as_deref())?;
     let sent = Tree::read(&arguments.sent, None)?;
     let name = &arguments.symbol;
-    let number = name.parse().ok().filter(|&number: &usize| number < VALUES);
-    let symbol = number.or_else(|| host.names.find(name));
-    let symbol = symbol.ok_or_else(|| {
+    let symbol = host.names.find_or_number(name).ok_or_else(|| {
         Failure::Problem(format!(
             "--symbol {name}: no symbol of the host is called so"
         ))

@@ -136,7 +136,12 @@ impl<'t> Line<'t> {
 
 /// The number that a word is, up to a largest one.
 pub fn number(word: &Word, most: u64) -> Option<u64> {
-    let is_number = !word.text.is_empty() && word.text.bytes().all(|byte| byte.is_ascii_digit());
-    let number = is_number.then(|| word.text.parse().ok()).flatten();
+    digits(word.text, most)
+}
+
+/// The number of these digits, up to a largest one. A sign is none.
+pub fn digits(text: &str, most: u64) -> Option<u64> {
+    let is_number = !text.is_empty() && text.bytes().all(|byte| byte.is_ascii_digit());
+    let number = is_number.then(|| text.parse().ok()).flatten();
     number.filter(|&number| number <= most)
 }
