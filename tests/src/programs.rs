@@ -21,11 +21,16 @@ pub struct Folder {
 impl Folder {
     /// An empty folder for the program of that name.
     pub fn new(program: &str) -> Self {
+        Folder::of(find(program))
+    }
+
+    /// An empty folder for the program at that path.
+    pub fn of(program: PathBuf) -> Self {
         static MADE: AtomicUsize = AtomicUsize::new(0);
         let number = MADE.fetch_add(1, Ordering::Relaxed);
-        let name = format!("volefleece-{program}-{}-{number}", process::id());
+        let name = program.file_name().expect("a file").display();
+        let name = format!("volefleece-{name}-{}-{number}", process::id());
         let path = env::temp_dir().join(name);
-        let program = find(program);
         fs::create_dir(&path).expect("a new folder");
         Folder { path, program }
     }

@@ -1,0 +1,62 @@
+//! Random houses.
+
+use volefleece_tests::damage;
+use volefleece_tests::faults;
+use volefleece_tests::noise;
+use volefleece_tests::programs::values_file;
+use volefleece_tests::rng::Rng;
+use volefleece_tests::trees::{self, Amounts};
+
+/// Figures on both sides of the ceiling.
+const MIDDLING: Amounts = Amounts {
+    time: 10_000_000,
+    bound: 200,
+    limit: 1_000,
+    symbols: 3,
+};
+
+/// A table that is accepted.
+pub fn accepted(rng: &mut Rng) -> Vec<u8> {
+    let records = rng.size(1..=60);
+    let mut tree = trees::within_limits(rng, records);
+    MIDDLING.set(rng, &mut tree);
+    tree.encode()
+}
+
+/// A table that is accepted about every other time.
+pub fn table(rng: &mut Rng) -> Vec<u8> {
+    let mut table = accepted(rng);
+    match rng.index(12) {
+        0 => return rng.pick(&noise::KINDS)(rng),
+        1 => damage::remove_record(rng, &mut table),
+        2 => {
+            let record = damage::random_record(rng, &table);
+            damage::random_edit(rng).apply(&mut table, record);
+        }
+        3..=6 => {
+            let faults = [rng.within(1..=7)];
+            let tree = faults::tree(rng, &faults);
+            return faults::table(rng, &tree, &faults);
+        }
+        _ => {}
+    }
+    table
+}
+
+/// A file of values: none, short, whole, of a wrong length, or with a number out of range.
+pub fn values(rng: &mut Rng) -> Option<Vec<u8>> {
+    let mut values = MIDDLING.values(rng);
+    if rng.once_in(6) {
+        let most = rng.pick(&[1_000_001, 1_000_000_000_001, u64::MAX]);
+        values[rng.index(32)] = most;
+    }
+    let mut file = values_file(&values);
+    match rng.index(10) {
+        0 => return None,
+        1 => file.truncate(8 * rng.size(0..=32)),
+        2 => file.truncate(rng.size(0..=256)),
+        3 => file.extend(vec![0; rng.pick(&[1, 8, 300])]),
+        _ => {}
+    }
+    Some(file)
+}

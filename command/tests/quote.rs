@@ -1,0 +1,401 @@
+//! `volefleece quote`: a house's files, names and settings, and its line against the desk program's.
+
+mod common;
+
+use common::*;
+use serde_json::{json, Value};
+use volefleece::Refusal;
+use volefleece_tests::programs::{sample, values_file, written, Folder, TREE, VALUES};
+use volefleece_tests::rng::Rng;
+use volefleece_tests::tables::*;
+
+/// The sample entrance: what its files hold, and what is said of it.
+const ENTRANCE_TEXT: &str = "\
+choice
+  loop cards
+    body block 340
+    exit block 60
+  sequence
+    block 1200
+    block radio
+";
+const ENTRANCE_VALUES: &str = "cards 40\nretries 3\nradio 90000\n";
+const ENTRANCE_LINES: &str = "\
+house Lakeside, the side entrance
+figure 91200 cycles
+branch radio (child 1 of the choice at the root)
+count cards 40
+time radio 90000 cycles
+";
+
+const QUOTE: [&str; 2] = ["quote", "."];
+
+fn with_set<'a>(settings: &[&'a str]) -> Vec<&'a str> {
+    let set = settings.iter().flat_map(|&setting| ["--set", setting]);
+    QUOTE.into_iter().chain(set).collect()
+}
+
+fn json_of(folder: &Folder, status: i32) -> Value {
+    let written = ends(folder.command().args(QUOTE).arg("--json"), status);
+    assert_eq!(written.output.lines().count(), 1);
+    serde_json::from_str(&written.output).expect("JSON")
+}
+
+// What is said.
+
+#[test]
+fn a_house_in_lines() {
+    answers(&house("entrance"), &QUOTE, ENTRANCE_LINES);
+    answers(
+        &house("house"),
+        &QUOTE,
+        "house Lakeside\nfigure 210910 cycles\nbranch none (no choice at the root)\n\
+         count cards 40\ncount retries 3\ntime radio 90000 cycles\n",
+    );
+}
+
+#[test]
+fn a_house_without_names() {
+    let folder = house("entrance");
+    remove(&folder, NAMES);
+    let title = folder.path("").file_name().expect("a name").to_owned();
+    let lines = format!(
+        "house {}\nfigure 91200 cycles\nbranch sequence (child 1 of the choice at the root)\n\
+         count count-0 40\ntime time-16 90000 cycles\n",
+        title.to_str().expect("text")
+    );
+    answers(&folder, &QUOTE, &lines);
+}
+
+#[test]
+fn the_desks_line_alone() {
+    let line = ["quote", ".", "--line"];
+    answers(&house("entrance"), &line, "figure 91200 branch 1\n");
+    answers(&house("house"), &line, "figure 210910 branch 255\n");
+    let folder = house("house");
+    folder.write(VALUES, &[0; 7]);
+    let written = ends(folder.command().args(line), 1);
+    assert_eq!(written.output, "refused 9\n");
+}
+
+#[test]
+fn the_same_as_json() {
+    let count = |symbol, name, value| json!({"symbol": symbol, "name": name, "value": value, "given": true});
+    let counts = [count(0, "cards", 40), count(16, "radio", 90_000)];
+    let entrance = json!({
+        "house": "Lakeside, the side entrance",
+        "figure": 91_200,
+        "branch": {"child": 1, "name": "radio"},
+        "counts": counts,
+    });
+    assert_eq!(json_of(&house("entrance"), 0), entrance);
+    let folder = house("house");
+    folder.write(TREE, &symbol_repeat(1, block(7), block(0)));
+    folder.write(VALUES, &values_file(&[40]));
+    let absent = json!({"symbol": 1, "name": "retries", "value": 1_000_000, "given": false});
+    let expected =
+        json!({"house": "Lakeside", "figure": 7_000_000, "branch": null, "counts": [absent]});
+    assert_eq!(json_of(&folder, 0), expected);
+}
+
+#[test]
+fn a_refusal_as_json() {
+    let folder = house("entrance");
+    folder.write(VALUES, &values_file(&[1_000_001]));
+    let refused = json!({
+        "refused": 9,
+        "reason": Refusal::Values.reason(),
+        "hint": "cards is 1000001, and at most 1000000 is allowed",
+    });
+    assert_eq!(json_of(&folder, 1), refused);
+    folder.write(TREE, &[]);
+    assert_eq!(json_of(&folder, 1)["refused"], 1);
+}
+
+#[test]
+fn a_refusal_has_its_reason_and_a_hint() {
+    for (values, hint) in [
+        (vec![0; 9], "values.tab has 9 bytes"),
+        (vec![0; 1_000], "values.tab has more than 256 bytes"),
+        (values_file(&[0, 1_000_001]), "retries is 1000001"),
+    ] {
+        let folder = house("house");
+        folder.write(VALUES, &values);
+        let said = refuses(&folder, &QUOTE, 9);
+        assert!(said.contains(&format!("\nhint: {hint}")), "{said}");
+    }
+    let folder = house("house");
+    folder.write(TREE, &triangular_limited(block(1), 0, 255));
+    folder.write(VALUES, &values_file(&[1_001]));
+    let said = refuses(&folder, &QUOTE, 13);
+    assert!(said.contains("\nhint: cards is 1001"), "{said}");
+}
+
+#[test]
+fn swapped_counts_are_seen() {
+    let folder = house("house");
+    let said = ends(folder.command().args(QUOTE), 0).output;
+    let mut values = sample("house", VALUES);
+    (0..8).for_each(|byte| values.swap(byte, 8 + byte));
+    folder.write(VALUES, &values);
+    let swapped = ends(folder.command().args(QUOTE), 0).output;
+    assert!(said.contains("count cards 40\ncount retries 3\n"));
+    assert!(swapped.contains("count cards 3\ncount retries 40\n"));
+    assert!(!swapped.contains("figure 210910 "));
+}
+
+/// Only those that the tree uses are named, whichever way the answer is wanted.
+#[test]
+fn absent_counts_are_named_and_count_high() {
+    let folder = house("entrance");
+    folder.write(VALUES, &[]);
+    let notes =
+        "cards is not given and counts 1000000\nradio is not given and counts 1000000000000\n";
+    for way in [
+        &QUOTE[..],
+        &["quote", ".", "--line"],
+        &["quote", ".", "--json"],
+    ] {
+        let written = ends(folder.command().args(way), 1);
+        assert_eq!(written.error, notes);
+        assert!(written.output.contains("10"), "{}", written.output);
+    }
+    let written = ends(folder.command().args(with_set(&["radio=90000"])), 0);
+    assert_eq!(
+        written.error,
+        notes.lines().next().expect("a line").to_owned() + "\n"
+    );
+    assert!(written
+        .output
+        .contains("figure 340000060 cycles\nbranch card "));
+    assert!(written
+        .output
+        .contains("count cards 1000000 (not given)\ntime radio 90000 cycles\n"));
+    remove(&folder, VALUES);
+    assert_eq!(ends(folder.command().args(QUOTE), 1).error, notes);
+}
+
+// Settings.
+
+#[test]
+fn settings_override_by_name_and_by_number() {
+    let folder = house("entrance");
+    for (settings, figure, branch) in [
+        (&["cards=268"][..], 91_200, "radio"),
+        (&["cards=269"], 91_520, "card"),
+        (&["0=269"], 91_520, "card"),
+        (&["count-0=269"], 91_520, "card"),
+        (&[" cards = 269 "], 91_520, "card"),
+        (&["cards=269", "radio=100000"], 101_200, "radio"),
+        (&["cards=1", "0=269"], 91_520, "card"),
+        (&["cards=1000000"], 340_000_060, "card"),
+        (&["retries=9", "31=0"], 91_200, "radio"),
+    ] {
+        let said = ends(folder.command().args(with_set(settings)), 0);
+        let start = format!("figure {figure} cycles\nbranch {branch} ");
+        assert!(said.output.contains(&start), "{settings:?} {}", said.output);
+        assert_eq!(said.error, "");
+    }
+}
+
+#[test]
+fn wrong_settings_are_told() {
+    let folder = house("entrance");
+    for (setting, words) in [
+        (
+            "card=4",
+            &["--set card=4: no symbol is called card", "cards"][..],
+        ),
+        ("32=4", &["no symbol is called 32"]),
+        ("=4", &["--set =4"]),
+        (
+            "cards=",
+            &["--set cards=: expected a number from 0 to 1000000"],
+        ),
+        ("cards=1000001", &["from 0 to 1000000"]),
+        ("cards=-1", &["from 0 to 1000000"]),
+        ("cards=+1", &["from 0 to 1000000"]),
+        ("cards=4x", &["from 0 to 1000000"]),
+        ("cards=4=5", &["from 0 to 1000000"]),
+        ("radio=1000000000001", &["from 0 to 1000000000000"]),
+        (
+            "radio=99999999999999999999999",
+            &["from 0 to 1000000000000"],
+        ),
+    ] {
+        complains(&folder, &with_set(&[setting]), words);
+    }
+    let written = ends(folder.command().args(with_set(&["cards"])), 2);
+    assert!(
+        written.error.contains("expected NAME=NUMBER"),
+        "{}",
+        written.error
+    );
+}
+
+// Files.
+
+#[test]
+fn both_forms_give_the_same() {
+    for (tree, values) in [(true, false), (false, true), (true, true)] {
+        for alone in [false, true] {
+            let folder = house("entrance");
+            if tree {
+                folder.write(TREE_TEXT, ENTRANCE_TEXT.as_bytes());
+                alone.then(|| remove(&folder, TREE));
+            }
+            if values {
+                // As the table has them: nothing is absent before the radio.
+                let zeros: String = (2..16)
+                    .map(|symbol| format!("count-{symbol} 0\n"))
+                    .collect();
+                folder.write(
+                    VALUES_TEXT,
+                    (ENTRANCE_VALUES.to_owned() + &zeros).as_bytes(),
+                );
+                alone.then(|| remove(&folder, VALUES));
+            }
+            answers(&folder, &QUOTE, ENTRANCE_LINES);
+        }
+    }
+}
+
+#[test]
+fn forms_that_contradict_are_told() {
+    let folder = house("entrance");
+    folder.write(TREE_TEXT, ENTRANCE_TEXT.replace("340", "341").as_bytes());
+    let words = [
+        "tree.tab and tree.txt hold different trees",
+        "remove one",
+        "volefleece make",
+    ];
+    complains(&folder, &QUOTE, &words);
+    let folder = house("entrance");
+    folder.write(VALUES_TEXT, b"cards 41\n");
+    let words = [
+        "values.tab and values.txt hold different values",
+        "volefleece values make",
+    ];
+    complains(&folder, &QUOTE, &words);
+}
+
+#[test]
+fn missing_files() {
+    let folder = house("entrance");
+    complains(&folder, &["quote", "none"], &["volefleece: none: "]);
+    complains(&folder, &["quote", TREE], &["volefleece: tree.tab: "]);
+    remove(&folder, TREE);
+    let said = refuses(&folder, &QUOTE, 1);
+    assert!(
+        said.contains("\nhint: . has no tree.tab and no tree.txt\n"),
+        "{said}"
+    );
+}
+
+/// Even where the tree alone would be refused.
+#[test]
+fn files_that_cannot_be_read_are_told() {
+    for file in [TREE, TREE_TEXT, VALUES, VALUES_TEXT, NAMES] {
+        let folder = folder();
+        folder.put_folder(file);
+        complains(&folder, &QUOTE, &[&format!("volefleece: ./{file}: ")]);
+    }
+    for (file, line) in [(TREE_TEXT, 2), (VALUES_TEXT, 1), (NAMES, 3)] {
+        let folder = folder();
+        let lines = "\n".repeat(line - 1);
+        folder.write(file, &[lines.as_bytes(), b"\xff"].concat());
+        complains(
+            &folder,
+            &QUOTE,
+            &[&format!("./{file}:{line}: expected text in UTF-8")],
+        );
+    }
+}
+
+#[test]
+fn every_line_that_is_wrong_is_told() {
+    let folder = house("entrance");
+    folder.write(VALUES_TEXT, b"cards many\ndoors 4\ncards 4\ncards 5\n");
+    let places = [
+        "./values.txt:1:7: ",
+        "./values.txt:2:1: ",
+        "./values.txt:4:1: ",
+    ];
+    complains(&folder, &QUOTE, &places);
+}
+
+// Names.
+
+#[test]
+fn names_come_from_headers_too() {
+    let names = String::from_utf8(sample("entrance", NAMES)).expect("text");
+    for (of_tree, of_values) in [(&names[..], ""), ("", &names), (&names, &names)] {
+        let folder = house("entrance");
+        remove(&folder, NAMES);
+        let tree = if of_tree.is_empty() {
+            ENTRANCE_TEXT
+                .replace("cards", "count-0")
+                .replace("radio", "time-16")
+        } else {
+            of_tree.to_owned() + ENTRANCE_TEXT
+        };
+        folder.write(TREE_TEXT, tree.as_bytes());
+        remove(&folder, VALUES);
+        let values = ENTRANCE_VALUES;
+        folder.write(VALUES_TEXT, (of_values.to_owned() + values).as_bytes());
+        answers(&folder, &QUOTE, ENTRANCE_LINES);
+    }
+}
+
+#[test]
+fn names_that_contradict_are_told() {
+    for (header, place) in [
+        (
+            "symbol 0 tags\n",
+            "1:10: symbol 0 is called both cards and tags",
+        ),
+        ("symbol 2 cards\n", "1:10: symbol 0 is called cards already"),
+        (
+            "branch 1 wire\n",
+            "1:10: branch 1 is called both radio and wire",
+        ),
+        ("house Seaside\n", "1:7: the house is called both"),
+        ("\nsymbol 3 loop\n", "2:10: \"loop\" is a word"),
+        ("symbol 3 3a\n", "1:10: \"3a\" is no name"),
+    ] {
+        let folder = house("entrance");
+        folder.write(TREE_TEXT, (header.to_owned() + ENTRANCE_TEXT).as_bytes());
+        complains(&folder, &QUOTE, &[&format!("./tree.txt:{place}")]);
+        remove(&folder, TREE_TEXT);
+        folder.write(VALUES_TEXT, header.as_bytes());
+        complains(&folder, &QUOTE, &[&format!("./values.txt:{place}")]);
+    }
+}
+
+// The desk's line.
+
+#[test]
+fn random_houses_have_the_desks_line() {
+    let mut rng = Rng::new(701);
+    let mut answered = [0; 14];
+    for _ in 0..480 {
+        let folder = Folder::new("desk");
+        folder.write(TREE, &random::table(&mut rng));
+        if let Some(values) = random::values(&mut rng) {
+            folder.write(VALUES, &values);
+        }
+        let desks = written(&mut folder.command()).output;
+        let refused = desks.strip_prefix("refused ");
+        let refused = refused.map_or(0, |number| number.trim().parse().expect("a number"));
+        let mut command = command_in(&folder);
+        let line = ends(
+            command.args(["quote", ".", "--line"]),
+            i32::from(refused > 0),
+        );
+        assert_eq!(line.output, desks);
+        answered[refused] += 1;
+    }
+    // No buffer is too short here, and nothing is grafted.
+    let reached = |number: usize| matches!(number, 8 | 11 | 12) || answered[number] > 3;
+    assert!((0..14).all(reached), "{answered:?}");
+}
