@@ -1,6 +1,6 @@
 //! A house: a folder with a tree, counts and names.
 
-use std::io::{self, IsTerminal};
+use std::io::{self, BufRead, IsTerminal, Write};
 use std::path::Path;
 
 use volefleece::{ceiling, Quote, Refusal, MOST_TRIANGULAR, VALUES};
@@ -225,25 +225,21 @@ pub fn not_given(name: &str, symbol: usize) -> String {
     format!("{name} is not given and counts {}", ceiling(symbol))
 }
 
-/// Asks until a number in range is typed.
+/// Asks until a number in range is typed. Whole lines are read, so that the terminal itself tells the end of input and an interrupt.
 fn ask_for(name: &str, most: u64) -> Outcome<u64> {
-    let number = |text: &String| {
-        text.trim()
-            .parse()
-            .ok()
-            .filter(|&number: &u64| number <= most)
-    };
-    let range = format!("0 to {most}");
-    let answer = dialoguer::Input::<String>::new()
-        .with_prompt(format!("{name} ({range})"))
-        .validate_with(|text: &String| {
-            number(text)
-                .map(|_| ())
-                .ok_or(format!("a number from {range}, please"))
-        })
-        .interact_text();
-    let answer = answer
-        .map_err(|error| Failure::Problem(format!("{name}: no number was typed: {error}")))?;
-    number(&answer)
-        .ok_or_else(|| Failure::Problem(format!("{name}: {answer}: no number from {range}")))
+    let mut input = io::stdin().lock();
+    loop {
+        let _ = write!(io::stderr(), "{name} (0 to {most}): ");
+        let mut line = Vec::new();
+        let read = input.read_until(b'\n', &mut line);
+        if read.is_err() || line.is_empty() {
+            note("");
+            let message = format!("{name}: no number was typed; --set {name}=NUMBER gives one");
+            return Err(Failure::Problem(message));
+        }
+        match digits(String::from_utf8_lossy(&line).trim(), most) {
+            Some(number) => return Ok(number),
+            None => note(&format!("a number from 0 to {most}, please")),
+        }
+    }
 }
