@@ -2,9 +2,10 @@
 
 use std::fs::{self, File};
 use std::io::{self, Read, Write};
+use std::os::unix::fs::MetadataExt;
 use std::path::{Path, PathBuf};
 
-use crate::failure::{Failure, Outcome};
+use crate::failure::{note, Failure, Outcome};
 use crate::text::Problems;
 
 /// Longer than any text of a table, so that a file without an end is not read for ever.
@@ -67,22 +68,64 @@ pub fn is_text(path: &Path) -> bool {
     path.extension().is_some_and(|extension| extension == "txt")
 }
 
-/// Puts bytes in a file's place: it has these or, where that fails or is ended before, what it had. What is no plain file, as a pipe, is
-/// written directly.
-pub fn replace(path: &Path, bytes: &[u8]) -> Outcome {
-    // A link stays and its file is replaced.
-    let place = fs::canonicalize(path).unwrap_or_else(|_| path.to_path_buf());
-    let old = fs::metadata(&place).ok();
-    let written = match &old {
-        Some(old) if !old.is_file() && !old.is_dir() => File::options()
-            .write(true)
-            .open(&place)
-            .and_then(|mut file| file.write_all(bytes)),
-        _ => replace_file(&place, bytes, old.map(|old| old.permissions())),
+/// Puts bytes in a file's place: it has these or, where that fails or is ended before, what it had. What is no plain file, as a pipe, and
+/// what others write to as well, as standard output, is written directly. Answers what is left to say on standard output.
+pub fn replace(path: &Path, bytes: &[u8], said: String) -> Outcome<String> {
+    let to_output = is_standard_output(path);
+    let written = if to_output {
+        let mut output = io::stdout();
+        output.write_all(bytes).and_then(|()| output.flush())
+    } else {
+        replace_or_write(path, bytes)
     };
     written.map_err(|error| {
         Failure::Problem(format!("{}: cannot be written: {error}", path.display()))
-    })
+    })?;
+    if to_output {
+        note(&said);
+        return Ok(String::new());
+    }
+    Ok(said + "\n")
+}
+
+/// Whether a path leads to where this process's standard output goes, as /dev/stdout does.
+fn is_standard_output(path: &Path) -> bool {
+    let file = |path: &Path| fs::metadata(path).map(|found| (found.dev(), found.ino()));
+    match (file(path), file(Path::new("/dev/stdout"))) {
+        (Ok(file), Ok(output)) => file == output,
+        _ => false,
+    }
+}
+
+fn replace_or_write(path: &Path, bytes: &[u8]) -> io::Result<()> {
+    let old = match fs::metadata(path) {
+        Err(error) if error.kind() != io::ErrorKind::NotFound => return Err(error),
+        old => old.ok(),
+    };
+    match old {
+        Some(old) if !old.is_file() && !old.is_dir() => {
+            let mut file = File::options().write(true).open(path)?;
+            file.write_all(bytes)
+        }
+        _ => replace_file(&behind_links(path), bytes, old.map(|old| old.permissions())),
+    }
+}
+
+/// A link stays: its file is replaced, or made where there is none yet.
+fn behind_links(path: &Path) -> PathBuf {
+    let mut place = path.to_path_buf();
+    while let Ok(to) = fs::read_link(&place) {
+        place = folder_of(&place).join(to);
+    }
+    place
+}
+
+/// The folder that a file is in.
+fn folder_of(path: &Path) -> &Path {
+    match path.parent() {
+        Some(folder) if folder != Path::new("") => folder,
+        _ => Path::new("."),
+    }
 }
 
 /// The new file is made in a folder beside the old one, so that it has the permissions of any new file there, or the old one's.
@@ -91,19 +134,16 @@ fn replace_file(
     bytes: &[u8],
     permissions: Option<fs::Permissions>,
 ) -> io::Result<()> {
-    let folder = match place.parent() {
-        Some(folder) if folder != Path::new("") => folder,
-        _ => Path::new("."),
-    };
+    let folder = folder_of(place);
     let making = tempfile::Builder::new()
         .prefix(".volefleece-")
         .tempdir_in(folder)?;
     let new: PathBuf = making.path().join("new");
     let mut file = File::create_new(&new)?;
-    file.write_all(bytes)?;
     if let Some(permissions) = permissions {
         file.set_permissions(permissions)?;
     }
+    file.write_all(bytes)?;
     file.sync_all()?;
     fs::rename(&new, place)?;
     // Some file systems cannot do this for a folder, and the file is replaced already.

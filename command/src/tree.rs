@@ -158,12 +158,13 @@ impl Tree {
         }
     }
 
-    /// Writes the tree to a file, as text where its name says so.
-    pub fn write(&self, path: &Path) -> Outcome {
+    /// Writes the tree to a file, as text where its name says so. Answers what is left to say on standard output.
+    pub fn write(&self, path: &Path, said: String) -> Outcome<String> {
         if files::is_text(path) {
-            files::replace(path, text::tree::print(&self.table, &self.names).as_bytes())
+            let text = text::tree::print(&self.table, &self.names);
+            files::replace(path, text.as_bytes(), said)
         } else {
-            files::replace(path, &self.table)
+            files::replace(path, &self.table, said)
         }
     }
 }

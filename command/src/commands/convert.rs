@@ -43,8 +43,8 @@ pub fn show(source: &Source) -> Outcome<Answer> {
 pub fn make(converted: &Converted) -> Outcome<String> {
     let tree = Tree::read_text(&converted.text, converted.names.as_deref())?;
     let records = tree.check()?.len();
-    files::replace(&converted.output, &tree.table)?;
-    Ok(format!("made {records} records\n"))
+    let said = format!("made {records} records");
+    files::replace(&converted.output, &tree.table, said)
 }
 
 pub fn show_values(values: &Path, names: Option<&Path>) -> Outcome<String> {
@@ -65,8 +65,7 @@ pub fn make_values(converted: &Converted) -> Outcome<String> {
     for symbol in (0..values).filter(|&symbol| counts.given(symbol).is_none()) {
         note(&not_given(&names.symbol(symbol), symbol));
     }
-    files::replace(&converted.output, &bytes)?;
-    Ok(format!("made {values} values\n"))
+    files::replace(&converted.output, &bytes, format!("made {values} values"))
 }
 
 fn folder_of(path: &Path) -> &Path {

@@ -19,8 +19,8 @@ pub fn run(arguments: &Draw) -> Outcome<String> {
     let nodes = house.tree.check()?;
     let branch = branch(&mut house, &nodes)?;
     let picture = draw::svg(&house.tree.table, &house.tree.names, branch);
-    files::replace(&arguments.output, picture.as_bytes())?;
-    Ok(format!("drew {} records\n", nodes.len()))
+    let said = format!("drew {} records", nodes.len());
+    files::replace(&arguments.output, picture.as_bytes(), said)
 }
 
 /// A folder is a house. A file is a tree, and the counts are those of a file that is named.

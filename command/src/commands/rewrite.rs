@@ -17,11 +17,8 @@ pub fn simplify(arguments: &Simplify) -> Outcome<String> {
     };
     // Children move, so that the branches' names would be wrong.
     let names = tree.names.without_branches();
-    Tree::from_answer(simplified.table, names).write(&arguments.output)?;
-    Ok(format!(
-        "simplified {length} steps {} {ending}\n",
-        simplified.steps
-    ))
+    let said = format!("simplified {length} steps {} {ending}", simplified.steps);
+    Tree::from_answer(simplified.table, names).write(&arguments.output, said)
 }
 
 pub fn graft(arguments: &Graft) -> Outcome<String> {
@@ -38,6 +35,6 @@ pub fn graft(arguments: &Graft) -> Outcome<String> {
     sent.check()?;
     let table = volefleece::graft(&host.table, &sent.table, symbol as u64)?;
     let length = table.len();
-    Tree::from_answer(table, host.names).write(&arguments.output)?;
-    Ok(format!("grafted {length}\n"))
+    let said = format!("grafted {length}");
+    Tree::from_answer(table, host.names).write(&arguments.output, said)
 }
