@@ -4,7 +4,7 @@
 //! `CALLS_FAIL` is a call's name, which of these calls it is, counted from 1, and an error's number: that call answers -1
 //! with it, or, where the number is 0, the program is killed there. `CALLS_MOST` is the most bytes that a call moves.
 
-use std::ffi::{c_char, c_int, c_void};
+use std::ffi::{c_char, c_int, c_uint, c_void};
 use std::sync::atomic::{AtomicUsize, Ordering};
 use std::{env, mem};
 
@@ -39,6 +39,9 @@ call!(fsync(fd: c_int) -> c_int);
 call!(close(fd: c_int) -> c_int);
 call!(rename(from: *const c_char, to: *const c_char) -> c_int);
 call!(unlink(path: *const c_char) -> c_int);
+call!(open64(path: *const c_char, flags: c_int, mode: c_uint) -> c_int);
+call!(mkdir(path: *const c_char, mode: c_uint) -> c_int);
+call!(fchmod(fd: c_int, mode: c_uint) -> c_int);
 call!(getentropy(bytes: *mut c_void, count: usize) -> c_int);
 
 unsafe fn fails(name: &str, number: usize) -> bool {
@@ -68,6 +71,12 @@ impl Argument for usize {
 
 impl Argument for c_int {
     fn cut(self) -> c_int {
+        self
+    }
+}
+
+impl Argument for c_uint {
+    fn cut(self) -> c_uint {
         self
     }
 }
