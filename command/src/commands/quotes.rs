@@ -83,7 +83,7 @@ fn say(root: &Path, folder: &Path) -> Said {
     } else {
         below
     };
-    let name = name.to_string_lossy().escape_debug().to_string();
+    let name = on_one_line(&name.to_string_lossy());
     let mut notes = Vec::new();
     let (line, status) = match quote_house(folder, &name, &mut notes) {
         Ok(line) => (line, 0),
@@ -101,6 +101,16 @@ fn say(root: &Path, folder: &Path) -> Said {
         notes,
         status,
     }
+}
+
+/// A folder's name without line ends and other signs that move what is printed.
+fn on_one_line(name: &str) -> String {
+    let sign = |sign: char| match sign {
+        '\\' => "\\\\".into(),
+        sign if sign.is_control() => sign.escape_debug().to_string(),
+        sign => sign.to_string(),
+    };
+    name.chars().map(sign).collect()
 }
 
 fn quote_house(folder: &Path, name: &str, notes: &mut Vec<String>) -> Outcome<String> {
