@@ -9,7 +9,10 @@ use volefleece_command::commands::{self, Answer};
 use volefleece_command::failure::{note, Failure};
 
 fn main() -> ExitCode {
-    let cli = Cli::parse();
+    let cli = match Cli::try_parse() {
+        Ok(cli) => cli,
+        Err(said) => return explain(&said),
+    };
     let answer = match commands::run(&cli.command) {
         Ok(answer) => answer,
         Err(refused @ Failure::Refused { .. }) => Answer {
@@ -25,11 +28,23 @@ fn main() -> ExitCode {
         }
     };
     let mut output = io::stdout();
-    match output
-        .write_all(answer.text.as_bytes())
-        .and_then(|()| output.flush())
-    {
-        Ok(()) => answer.status.into(),
+    ending(output.write_all(answer.text.as_bytes()), answer.status)
+}
+
+/// Says how the command is used, or that it was used wrongly.
+fn explain(said: &clap::Error) -> ExitCode {
+    let printed = said.print();
+    if said.use_stderr() {
+        ExitCode::from(2)
+    } else {
+        ending(printed, 0)
+    }
+}
+
+/// That exit status, if standard output was written and the rest of it can be.
+fn ending(written: io::Result<()>, status: u8) -> ExitCode {
+    match written.and_then(|()| io::stdout().flush()) {
+        Ok(()) => status.into(),
         Err(error) => {
             note(&format!(
                 "volefleece: standard output cannot be written: {error}"
