@@ -10,11 +10,14 @@ use crate::failure::{note, Failure, Outcome};
 use crate::files;
 use crate::table::{self, Amount, Node};
 use crate::text::{self, digits};
-use crate::tree::{read_names, Tree};
+use crate::tree::{self, read_names, Tree};
 use crate::words::node_words;
 
 const TABLE: &str = "values.tab";
 const TEXT: &str = "values.txt";
+
+/// A folder with one of these files is a house.
+pub const FILES: [&str; 4] = [tree::TABLE, tree::TEXT, TABLE, TEXT];
 
 /// A house as its folder has it, with what the caller sets.
 #[derive(Clone, Debug)]

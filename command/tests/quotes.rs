@@ -135,7 +135,6 @@ fn threads_change_nothing() {
 #[test]
 fn the_status_is_the_worst_houses() {
     let folder = folder();
-    answers(&folder, &QUOTES, "");
     put(&folder, &format!("good/{TREE}"), block(7));
     answers(&folder, &QUOTES, "good: figure 7 branch 255\n");
     put(&folder, &format!("bad/{TREE}"), "");
@@ -227,12 +226,38 @@ fn a_folder_that_cannot_be_read_is_told() {
     set(0).expect("set");
     let said = ends(&mut command, 2);
     set(0o755).expect("set");
-    assert_eq!(said.output, "house: figure 7 branch 255\n");
+    let lines = "house: figure 7 branch 255\nshut: cannot be read\n";
+    assert_eq!(said.output, lines);
     assert!(
         said.error.starts_with("./shut: Permission denied"),
         "{}",
         said.error
     );
+}
+
+#[test]
+fn a_folder_without_houses_is_told() {
+    let folder = folder();
+    folder.put_folder("empty");
+    let said = quotes(&folder, 2);
+    assert_eq!(said.output, "");
+    let message = "volefleece: .: there is no house in it or below it\n";
+    assert_eq!(said.error, message);
+}
+
+/// Values without a tree are a house's whose tree is missing, and not passed over.
+#[test]
+fn a_house_without_a_tree_is_refused() {
+    let folder = folder();
+    put(&folder, "house/values.tab", [0; 8]);
+    let said = quotes(&folder, 1);
+    assert!(
+        said.output.starts_with("house: refused 1: "),
+        "{}",
+        said.output
+    );
+    let hint = "house: hint: ./house has no tree.tab and no tree.txt\n";
+    assert_eq!(said.error, hint);
 }
 
 // The page.

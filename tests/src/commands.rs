@@ -156,11 +156,10 @@ const BUILT: [&str; 4] = [
 ];
 
 /// Debian's packages that the command is built and tested with, as `./setup` asks for them.
-pub const PACKAGES: [&str; 10] = [
+pub const PACKAGES: [&str; 9] = [
     "librust-clap-dev",
     "librust-clap-complete-dev",
     "librust-indicatif-dev",
-    "librust-dialoguer-dev",
     "librust-serde-json-dev",
     "librust-rayon-dev",
     "librust-tempfile-dev",

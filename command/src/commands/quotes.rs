@@ -8,8 +8,7 @@ use rayon::prelude::*;
 
 use super::{quote, Answer};
 use crate::failure::{note, Failure, Outcome};
-use crate::house::{not_given, House};
-use crate::tree;
+use crate::house::{self, not_given, House};
 
 /// What is said of one house: its line, what to add on standard error, and the exit status that it alone would have.
 struct Said {
@@ -19,8 +18,7 @@ struct Said {
 }
 
 pub fn run(folder: &Path) -> Outcome<Answer> {
-    let mut notes = Vec::new();
-    let houses = houses(folder, &mut notes)?;
+    let houses = houses(folder)?;
     // Drawn on a terminal alone.
     let progress = ProgressBar::new(houses.len() as u64);
     let said: Vec<Said> = houses
@@ -29,51 +27,45 @@ pub fn run(folder: &Path) -> Outcome<Answer> {
         .map(|house| say(folder, house))
         .collect();
     progress.finish_and_clear();
-    notes
-        .iter()
-        .chain(said.iter().flat_map(|said| &said.notes))
-        .for_each(|line| note(line));
-    let unread = if notes.is_empty() { 0 } else { 2 };
+    let notes = said.iter().flat_map(|said| &said.notes);
+    notes.for_each(|line| note(line));
+    let statuses = said.iter().map(|said| said.status);
     Ok(Answer {
         text: said.iter().map(|said| said.line.as_str()).collect(),
-        status: said
-            .iter()
-            .map(|said| said.status)
-            .max()
-            .unwrap_or_default()
-            .max(unread),
+        status: statuses.max().unwrap_or_default(),
     })
 }
 
-/// The folders with a tree at or below this one, in order. A folder below it that cannot be read is noted.
-fn houses(folder: &Path, notes: &mut Vec<String>) -> Outcome<Vec<PathBuf>> {
+/// The houses at or below a folder, in order. What cannot be read may be one, and is told in its place.
+fn houses(folder: &Path) -> Outcome<Vec<PathBuf>> {
+    if let Err(error) = fs::read_dir(folder) {
+        return Err(Failure::file(folder, &error));
+    }
     let mut houses = Vec::new();
     let mut left = vec![folder.to_path_buf()];
     while let Some(folder) = left.pop() {
         let entries = fs::read_dir(&folder).and_then(Iterator::collect::<Result<Vec<_>, _>>);
-        match entries {
-            Err(error) if houses.is_empty() && left.is_empty() && notes.is_empty() => {
-                return Err(Failure::file(&folder, &error))
-            }
-            Err(error) => notes.push(Failure::file(&folder, &error).to_string()),
-            Ok(entries) => {
-                let is_tree = |entry: &fs::DirEntry| {
-                    [tree::TABLE, tree::TEXT]
-                        .iter()
-                        .any(|name| entry.file_name() == *name)
-                };
-                if entries.iter().any(is_tree) {
-                    houses.push(folder);
-                }
-                let folders = entries
-                    .iter()
-                    .filter(|entry| entry.file_type().is_ok_and(|kind| kind.is_dir()));
-                left.extend(folders.map(fs::DirEntry::path));
+        let is_house = entries.as_ref().map_or(true, |entries| has_house(entries));
+        for entry in entries.iter().flatten() {
+            if entry.file_type().is_ok_and(|kind| kind.is_dir()) {
+                left.push(entry.path());
             }
         }
+        if is_house {
+            houses.push(folder);
+        }
+    }
+    if houses.is_empty() {
+        let message = format!("{}: there is no house in it or below it", folder.display());
+        return Err(Failure::Problem(message));
     }
     houses.sort();
     Ok(houses)
+}
+
+fn has_house(entries: &[fs::DirEntry]) -> bool {
+    let is_one = |entry: &fs::DirEntry| house::FILES.iter().any(|name| entry.file_name() == *name);
+    entries.iter().any(is_one)
 }
 
 fn say(root: &Path, folder: &Path) -> Said {
