@@ -11,35 +11,11 @@ use volefleece_tests::damage::{self, Edit};
 use volefleece_tests::faults;
 use volefleece_tests::noise;
 use volefleece_tests::reader;
+use volefleece_tests::records::*;
 use volefleece_tests::rng::Rng;
 use volefleece_tests::trees::{self, Tree};
 
 // The words.
-
-/// Kind, flags, children, byte 3, limit, value.
-type Record = (u8, u8, u8, u8, u32, u64);
-
-const BLOCK: Record = (0, 0, 0, 0, 0, 7);
-const LOOP: Record = (3, 0, 2, 0, 0, 3);
-
-fn sequence(children: u8) -> Record {
-    (1, 0, children, 0, 0, 0)
-}
-
-/// A block with a limit of 1 and that byte 3.
-fn limited(names: u8) -> Record {
-    (0, 0, 0, names, 1, 7)
-}
-
-fn table(records: &[Record]) -> Vec<u8> {
-    let mut table = Vec::new();
-    for &(kind, flags, children, names, limit, value) in records {
-        table.extend([kind, flags, children, names]);
-        table.extend(limit.to_le_bytes());
-        table.extend(value.to_le_bytes());
-    }
-    table
-}
 
 /// The library refuses the table so, and the hint is that record with those words.
 #[track_caller]
@@ -508,13 +484,7 @@ fn records_too_many_and_too_few() {
 fn trees_about_the_limits_of_question_5() {
     let (mut rng, mut judge) = start(4);
     for _ in 0..25_000 {
-        let depth = rng.size(29..=35);
-        let loops = rng.size(6..=10);
-        let mut tree = trees::spine(&mut rng, depth, loops);
-        let size = tree.records() + rng.size(0..=20);
-        trees::pad(&mut rng, &mut tree, size);
-        let wanted = rng.within(0..=255);
-        trees::put_limits(&mut rng, &mut tree, wanted);
+        let (tree, ..) = trees::about_question_5(&mut rng);
         judge.judge(&tree.encode());
     }
     judge.assert_reached(&[(0, 5_000), (5, 15_000)], 2);

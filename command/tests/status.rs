@@ -54,19 +54,6 @@ fn with_files() -> Folder {
     folder
 }
 
-/// Trees that questions 1 to 7 refuse, in this order.
-fn refused_trees() -> Vec<Vec<u8>> {
-    vec![
-        block(7)[..15].to_vec(),
-        vec![4; 16],
-        block(1_000_000_000_001),
-        [block(1), block(2)].concat(),
-        in_loops(9, 1, block(1)),
-        limited(block(1), 1, 1),
-        in_loops(8, 1, limited(block(1), 1, 255)),
-    ]
-}
-
 // 0 and 1.
 
 #[test]
@@ -81,7 +68,7 @@ fn an_answer_ends_with_0() {
 
 #[test]
 fn a_refused_tree_ends_with_1() {
-    for (tree, number) in refused_trees().into_iter().zip(1..) {
+    for (tree, number) in refused_tables().into_iter().zip(1..) {
         let folder = with_files();
         folder.write(TREE, &tree);
         for arguments in OF_A_TREE {

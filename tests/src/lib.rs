@@ -12,7 +12,7 @@
 //!   trees.
 //! - `probes`: the library's inner functions that tests and benchmark call.
 //! - `notation`: trees as docs/FORMAT.md writes them on a line.
-//! - `tables`, `cases`: hand-written tables, and document 01's cases.
+//! - `tables`, `records`, `cases`: hand-written tables, by their trees and by their records, and document 01's cases.
 //! - `damage`, `faults`, `noise`: tables that are wrong in some way.
 //! - `fenced`: memory that kills who reaches outside it.
 //! - `compare`: one table, both readers, and what is lent to any call.
@@ -42,6 +42,7 @@ pub mod probes;
 pub mod programs;
 pub mod quotes;
 pub mod reader;
+pub mod records;
 pub mod rng;
 pub mod runs;
 pub mod simplifications;

@@ -65,6 +65,19 @@ pub fn long(records: usize) -> Vec<u8> {
     sequence(&[wide(255), wide(records - 259), block(1)])
 }
 
+/// Tables that questions 1 to 7 refuse, in this order.
+pub fn refused_tables() -> Vec<Vec<u8>> {
+    vec![
+        block(7)[..15].to_vec(),
+        vec![4; 16],
+        block(1_000_000_000_001),
+        [block(1), block(2)].concat(),
+        in_loops(9, 1, block(1)),
+        limited(block(1), 1, 1),
+        in_loops(8, 1, limited(block(1), 1, 255)),
+    ]
+}
+
 /// A record without a limit.
 fn record(kind: u8, flags: u8, children: usize, value: u64) -> Vec<u8> {
     let children = u8::try_from(children).expect("at most 255 children");

@@ -4,35 +4,7 @@
 
 use volefleece::raw::{self, Checked};
 use volefleece_tests::compare::{lend, second_check, shown};
-
-/// Kind, flags, children, byte 3, limit, value.
-type Record = (u8, u8, u8, u8, u32, u64);
-
-const BLOCK: Record = (0, 0, 0, 0, 0, 7);
-const LOOP: Record = (3, 0, 2, 0, 0, 3);
-
-fn sequence(children: u8) -> Record {
-    (1, 0, children, 0, 0, 0)
-}
-
-fn choice(children: u8) -> Record {
-    (2, 0, children, 0, 0, 0)
-}
-
-/// A block with a limit of 1 and that byte 3.
-fn limited(names: u8) -> Record {
-    (0, 0, 0, names, 1, 7)
-}
-
-fn table(records: &[Record]) -> Vec<u8> {
-    let mut table = Vec::new();
-    for &(kind, flags, children, names, limit, value) in records {
-        table.extend([kind, flags, children, names]);
-        table.extend(limit.to_le_bytes());
-        table.extend(value.to_le_bytes());
-    }
-    table
-}
+use volefleece_tests::records::*;
 
 /// So many loops, each the body of the one before and the innermost one around `inner`. All exits
 /// are blocks.

@@ -89,15 +89,9 @@ fn largest_tree(rng: &mut Rng, round: usize) -> Tree {
 fn trees_at_the_limits_of_question_5() {
     let (mut rng, mut comparison) = start(3);
     for _ in 0..30_000 {
-        let depth = rng.size(29..=35);
-        let loops = rng.size(6..=10);
-        let mut tree = trees::spine(&mut rng, depth, loops);
-        let size = tree.records() + rng.size(0..=20);
-        trees::pad(&mut rng, &mut tree, size);
-        let wanted = rng.within(0..=255);
-        trees::put_limits(&mut rng, &mut tree, wanted);
+        let (tree, depth, loops) = trees::about_question_5(&mut rng);
         let expected = if depth <= 32 && loops <= 8 {
-            Checked::accept(size)
+            Checked::accept(tree.records())
         } else {
             Checked::refuse(5)
         };

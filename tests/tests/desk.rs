@@ -104,19 +104,6 @@ fn ceilings() -> [u64; 32] {
     ceilings
 }
 
-/// Trees that fail questions 1 to 7, in this order.
-fn refused_trees() -> Vec<Vec<u8>> {
-    vec![
-        block(7)[..15].to_vec(),
-        vec![4; 16],
-        block(1_000_000_000_001),
-        [block(1), block(2)].concat(),
-        in_loops(9, 1, block(1)),
-        limited(block(1), 1, 1),
-        in_loops(8, 1, limited(block(1), 1, 255)),
-    ]
-}
-
 // Samples.
 
 #[test]
@@ -406,7 +393,7 @@ fn only_values_under_flag_4_are_asked() {
 #[test]
 fn a_bad_trees_number_comes_before_the_values() {
     let too_large = values_file(&[1_000_001]);
-    for (question, tree) in (1..).zip(refused_trees()) {
+    for (question, tree) in (1..).zip(refused_tables()) {
         let line = format!("refused {question}");
         for values in [
             &[][..],

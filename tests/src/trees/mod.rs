@@ -10,7 +10,9 @@ mod triangles;
 use crate::format::*;
 pub use amounts::Amounts;
 pub use places::{deepest_block, drop_symbol, put_symbol};
-pub use random::{grow, loops_around, pad, put_limits, spine, within_limits, without_limits};
+pub use random::{
+    about_question_5, grow, loops_around, pad, put_limits, spine, within_limits, without_limits,
+};
 pub use redundant::{crowded, deepest, ending_in_loops, redundant};
 pub use triangles::{drop_triangles, put_about_1000};
 

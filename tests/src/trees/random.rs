@@ -35,6 +35,18 @@ pub fn without_limits(rng: &mut Rng, records: usize) -> Tree {
     }
 }
 
+/// A tree about as deep, and with about as many loops around a node, as question 5 allows; with both numbers.
+pub fn about_question_5(rng: &mut Rng) -> (Tree, usize, usize) {
+    let depth = rng.size(29..=35);
+    let loops = rng.size(6..=10);
+    let mut tree = spine(rng, depth, loops);
+    let size = tree.records() + rng.size(0..=20);
+    pad(rng, &mut tree, size);
+    let weight = rng.within(0..=MOST_WEIGHT);
+    put_limits(rng, &mut tree, weight);
+    (tree, depth, loops)
+}
+
 /// A tree without limits of exactly that many records, at most that deep, with at most that many
 /// loops around any node.
 pub fn grow(rng: &mut Rng, records: usize, depth: usize, loops: usize) -> Tree {
