@@ -1,4 +1,5 @@
 -- From where a tree's list is constant, and how far that is at most.
+use mathlib.Core.Path.{_≡_}
 use mathlib.Core.Bool.{cond}
 use Prim.Native.Nat.{ℕ, _+_, _*_, _≤_, _<_}
 use native.Mathlib.Omega.{arith}
@@ -11,7 +12,8 @@ use Rattle.table.specs.Questions.{countInRange, limitInRange, listed, listedIn,
 use Rattle.lists.specs.Streams.{Stream}
 use Rattle.lists.specs.Laws.Sums.{Falls}
 use Rattle.lists.specs.Laws.Settled.{Settled, add-settled, merge-settled, const-settled, group-settled, cap-settled}
-use Rattle.triangular.specs.Laws.Rule.{triangular-most}
+use Rattle.triangular.specs.Triangular.{mostTriangular, rule}
+use Rattle.triangular.specs.Laws.Rule.{triangular-is, triangular-most}
 use Rattle.evaluate.specs.Evaluate.{join, rounds, Values, amount, limit, turns, name, list, before, allowed}
 use Rattle.evaluate.specs.ListPairs.{placeOf, turned, place, placeIn}
 use Rattle.evaluate.specs.Laws.Monotone.{list-falls, before-falls, turns-falls}
@@ -48,6 +50,11 @@ mutual
   before-settled v k (t ▸ f) =
       join-settled k _ _ _ _ (turns-falls v k (name t) _ (list-falls v t)) (before-falls v (rest k) f)
       (turns-settled v k (name t) _ _ (list-settled v t)) (before-settled v (rest k) f)
+
+-- a limit under flag 4 is the rule's number itself, as far as the constant table goes
+pub allowed-rule : (v : Values) (s : ℕ) → v s ≤ mostTriangular → allowed v (Most.Triangular s) ≡ rule (v s)
+unfolding allowed
+allowed-rule v s l = triangular-is (v s) l
 
 -- ---- with limits at most their ceiling, no place is past that many for each fall that `bound` counts
 
