@@ -11,7 +11,7 @@ use Rattle.table.specs.Bytes.{fromBytes}
 use Rattle.table.specs.Asking.{_asks_, byRefusal, firstNo}
 use Rattle.table.specs.Checking.{questions}
 use Rattle.quoting.specs.declared.Quote.{Quote}
-use Rattle.quoting.specs.Values.{ceiling}
+use Rattle.values.specs.Values.{ceiling}
 use Rattle.quoting.specs.Answers.{quoteOf, quoteQuestions, quotedFigure, quotedRefusal}
 
 -- bytes that a value takes in values.tab

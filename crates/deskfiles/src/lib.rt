@@ -1,6 +1,6 @@
 // What the desk program decides from the bytes of its two files.
-use quoting::HOW_MANY_VALUES;
 use quoting::Quote;
+use values::HOW_MANY_VALUES;
 ghost use mathlib.Core.Path.{_≡_};
 ghost use Prim.Native.Nat.{_<_, _%_, _*_};
 ghost use lib.ListN.{drop, length};
@@ -19,7 +19,7 @@ fn value_of(bytes: &[u8], i: usize) -> u64
     if at < bytes.len() {
         table::read_u64(bytes, at)
     } else {
-        quoting::ceiling_of(i)
+        values::ceiling_of(i)
     }
 }
 

@@ -13,7 +13,7 @@ use Rattle.evaluate.specs.ListPairs.{listPairs}
 use Rattle.quoting.specs.declared.Checked.{Checked}
 use Rattle.quoting.specs.declared.Quote.{Quote}
 use Rattle.quoting.specs.declared.Listed.{Listed}
-use Rattle.quoting.specs.Values.{valueQuestions}
+use Rattle.values.specs.Values.{valueQuestions}
 
 -- ---- checking: questions 1 to 7
 

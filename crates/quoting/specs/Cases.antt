@@ -17,7 +17,7 @@ use Rattle.lists.specs.Pairs.{Pairs, ever, run, inFront, tail, pairs}
 use Rattle.evaluate.specs.Evaluate.{allowed, amount, inner, outward, seen, name, limit, rounds, turns, join, start, list, figure, noBranch, holderIn, branchIn, branch, fits, zeros}
 use Rattle.evaluate.specs.ListPairs.{placeOf, turned, place, listPairs}
 use Rattle.quoting.specs.declared.Quote.{Quote}
-use Rattle.quoting.specs.Values.{ceiling, question13, question9, ranged, recordSmall, triangleSmall, valueQuestions}
+use Rattle.values.specs.Values.{ceiling, question13, question9, ranged, recordSmall, triangleSmall, valueQuestions}
 use Rattle.table.specs.Limits.{limitHolds}
 use Rattle.quoting.specs.Answers.{figureAnswer, figureRefusal, quoteQuestions}
 

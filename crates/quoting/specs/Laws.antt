@@ -1,6 +1,5 @@
 -- Laws, in the order in which they lean on each other.
 pub mod Answers
-pub mod Values
 pub mod Lent
 pub mod Figures
 pub mod Evaluated

@@ -1,5 +1,4 @@
 -- Definitions, in the order of reading.
-pub mod Values
 pub mod Answers
 pub mod Promises
 pub mod Branches

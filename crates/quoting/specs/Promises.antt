@@ -16,7 +16,7 @@ use Rattle.lists.specs.Pairs.{ArePairs, Pairs, numbers, width}
 use Rattle.quoting.specs.declared.Listed.{Listed}
 use Rattle.quoting.specs.declared.Quote.{Quote}
 use Rattle.quoting.specs.Answers.{figureAnswer, listedPairs, listedRefusal, quotedFigure, quotedRefusal}
-use Rattle.quoting.specs.Values.{NoneLower}
+use Rattle.values.specs.Values.{NoneLower}
 
 -- a limit under flag 4 is the triangular number of its symbol's value itself, and not of a smaller one
 unfoldable pub byRule : Values → Most → Bool

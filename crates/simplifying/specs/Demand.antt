@@ -11,7 +11,7 @@ use Rattle.simplify.specs.Steps.{step, isNone, after}
 use Rattle.quoting.specs.declared.Checked.{Checked}
 use Rattle.quoting.specs.declared.Quote.{Quote}
 use Rattle.simplifying.specs.declared.Simplified.{Simplified}
-use Rattle.quoting.specs.Values.{NoneLower}
+use Rattle.values.specs.Values.{NoneLower}
 use Rattle.quoting.specs.Promises.{Promises}
 use Rattle.writing.specs.Over.{over}
 use Rattle.quoting.specs.Answers.{checkAnswer, figureAnswer, quotedFigure, quotedRefusal}

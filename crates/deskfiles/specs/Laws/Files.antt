@@ -16,7 +16,7 @@ use Rattle.table.specs.Checking.{questions, refusal}
 use Rattle.table.specs.Laws.Asking.{Yes, all-yes, left-out, number-is, numbered, refused}
 use Rattle.table.specs.Laws.Refusal.{check-passed, check-passes, check-stops}
 use Rattle.quoting.specs.declared.Quote.{Quote}
-use Rattle.quoting.specs.Values.{NoneLower, ceiling, ranged, valueQuestions}
+use Rattle.values.specs.Values.{NoneLower, ceiling, ranged, valueQuestions}
 use Rattle.quoting.specs.Answers.{figureAnswer, figureRefusal, quoteOf, quoteQuestions, quotedRefusal}
 use Rattle.deskfiles.specs.Files.{FilesPromise, fileValues, filesAnswer, filesRefusal, valueIn, valueLength, valuesFrom, valuesWhole}
 use Rattle.quoting.specs.Laws.Figures.{figure-monotone, figured-ranged}

@@ -17,11 +17,11 @@ use Rattle.table.specs.Checking.{IsTable, refusal}
 use Rattle.table.specs.Laws.Asking.{answered}
 use Rattle.evaluate.specs.Evaluate.{branch, figure, fits, valuesOf}
 use Rattle.evaluate.specs.Laws.Ranges.{figure-most}
-use Rattle.quoting.specs.Values.{ceiling, question13, question9, ranged, triangleSmall}
+use Rattle.values.specs.Values.{ceiling, question13, question9, ranged, triangleSmall}
 use Rattle.quoting.specs.Answers.{checkAnswer, figureAnswer, quotedFigure, quotedRefusal}
 use Rattle.quoting.specs.declared.Checked.{Checked}
 use Rattle.quoting.specs.Laws.Figures.{figure-asked, figure-is, figured}
-use Rattle.quoting.specs.Laws.Values.{thirteen-limits, values-carry, values-nine, values-thirteen}
+use Rattle.values.specs.Laws.Values.{thirteen-limits, values-carry, values-nine, values-thirteen}
 use Rattle.splice.specs.Graft.{graft, uses}
 use Rattle.graft.specs.Answers.{graftTable, question11, question12}
 use Rattle.graft.specs.Promises.{GraftPromised, Quoted, hostValues}

@@ -15,7 +15,7 @@ use Rattle.table.specs.Questions.{limitInRange, listed, listedIn, mostInRange}
 use Rattle.table.specs.Trees.{Tree, node, Forest, nil, _▸_, around, rest}
 use Rattle.evaluate.specs.Evaluate.{Values}
 use Rattle.triangular.specs.Triangular.{mostTriangular}
-use Rattle.quoting.specs.Values.{triangleSmall}
+use Rattle.values.specs.Values.{triangleSmall}
 use Rattle.splice.specs.Graft.{graft, graftIn, inPlace, isSymbol, rename, renameIn, renamedLimit, uses, usesIn}
 use Rattle.splice.specs.Laws.Sizes.{symbol-only}
 use Rattle.graft.specs.Laws.Grafted.{count-but}

@@ -9,7 +9,7 @@ use Rattle.quoting.specs.declared.Quote.{Quote}
 use Rattle.quoting.specs.Laws.Evaluated.{figure-found, figure-no, figure-refused, quote-large}
 use Rattle.quoting.specs.Laws.Figures.{quote-values}
 use Rattle.quoting.specs.Laws.Promises.{kept}
-use Rattle.quoting.specs.Laws.Values.{values-long}
+use Rattle.values.specs.Laws.Values.{values-long}
 use Rattle.quoting.proofs.figure.Statement.{statement}
 use Rattle.quoting.proofs.figure.Tie as tie
 

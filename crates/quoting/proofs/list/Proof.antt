@@ -8,7 +8,7 @@ use Rattle.lists.specs.Laws.Numbers.{list-width, list-numbers}
 use Rattle.quoting.specs.Laws.Evaluated.{list-found, list-no, list-refused, list-short, quote-large}
 use Rattle.quoting.specs.Laws.Figures.{quote-values}
 use Rattle.quoting.specs.Laws.Promises.{list-kept}
-use Rattle.quoting.specs.Laws.Values.{values-long}
+use Rattle.values.specs.Laws.Values.{values-long}
 use Rattle.quoting.proofs.list.Statement.{statement}
 use Rattle.quoting.proofs.list.Tie as tie
 

@@ -24,12 +24,12 @@ use Rattle.evaluate.specs.Evaluator.{Agree, alike, evaluateNode}
 use Rattle.evaluate.specs.Laws.Evaluator.{Evaluated, evaluated-table}
 use Rattle.quoting.specs.declared.Quote.{Quote}
 use Rattle.quoting.specs.declared.Listed.{Listed}
-use Rattle.quoting.specs.Values.{valuesRefusal}
+use Rattle.values.specs.Values.{valuesRefusal}
 use Rattle.writing.specs.Over.{over}
 use Rattle.quoting.specs.Answers.{figureAnswer, figureRefusal, listAnswer, listRefusal, listWrites, quoteQuestions}
 use Rattle.quoting.specs.Laws.Answers.{refuses, writes}
 use Rattle.quoting.specs.Laws.Figures.{figure-is, quote-fits}
-use Rattle.quoting.specs.Laws.Values.{counts-ranged, values-nine}
+use Rattle.values.specs.Laws.Values.{counts-ranged, values-nine}
 
 -- ---- the walk answers question 10
 

@@ -13,9 +13,9 @@ use Rattle.table.specs.Laws.Refusal.{check-passed, check-passes}
 use Rattle.evaluate.specs.Evaluate.{valuesOf, figure, branch, fits}
 use Rattle.evaluate.specs.Laws.Monotone.{figure-mono}
 use Rattle.quoting.specs.declared.Quote.{Quote}
-use Rattle.quoting.specs.Values.{NoneLower, question13, question9, ranged, valueQuestions, valuesRefusal}
+use Rattle.values.specs.Values.{NoneLower, question13, question9, ranged, valueQuestions, valuesRefusal}
 use Rattle.quoting.specs.Answers.{figureAnswer, figureRefusal, quoteOf, quoteQuestions, quotedBranch, quotedFigure, quotedRefusal}
-use Rattle.quoting.specs.Laws.Values.{values-nine, values-thirteen}
+use Rattle.values.specs.Laws.Values.{values-nine, values-thirteen}
 
 module _ (b vs : List ℕ) where
   -- a question about the values says no

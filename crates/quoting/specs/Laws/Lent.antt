@@ -1,4 +1,4 @@
--- A table without flag 4 is not asked 13, and its walk needs no triangular number; where a limit is under flag 4, each is behind the values.
+-- The walk of a table without flag 4 needs no triangular number; where a limit is under flag 4, each is behind the values.
 use mathlib.Core.Path.{_≡_, refl, ap, sym, subst, _∙_}
 use mathlib.Core.Bool.{cond, true}
 use mathlib.Core.List.{List}
@@ -19,15 +19,8 @@ use Rattle.evaluate.specs.Evaluate.{Values, allowed, valuesOf}
 use Rattle.evaluate.specs.Evaluator.{Agree, alike, evaluateNode, looked, triangleIn}
 use Rattle.evaluate.specs.Shown.{Shows}
 use Rattle.evaluate.specs.declared.Valued.{Valued}
-use Rattle.quoting.specs.Lent.{Walked, flagFree}
-use Rattle.quoting.specs.Values.{question13}
-use Rattle.quoting.specs.Laws.Values.{small-unflagged}
-
-pub free-small : (b vs : List ℕ) → flagFree b ≡ true → question13 b vs ≡ true
-unfolding flagFree question13
-free-small b vs e = each-follows _ _ (small-unflagged (valuesOf vs)) (recordCount b) b e
-
--- ---- what is lent
+use Rattle.values.specs.Flags.{flagFree}
+use Rattle.quoting.specs.Lent.{Walked}
 
 plain-alike : (v : Values) (n : ℕ) → alike v v (Most.Plain n) ≡ true
 unfolding alike looked allowed

@@ -3,7 +3,7 @@ use mathlib.Core.Path.{_≡_, refl, ap, sym, subst, _∙_}
 use mathlib.Core.List.{List}
 use Prim.Native.Nat.{ℕ, _*_, suc}
 use native.Mathlib.Omega.{arith}
-use lib.Dec.{T, eqb-refl, leb→le}
+use lib.Dec.{T, eqb-refl}
 use lib.ListN.{length, take}
 use Rattle.table.specs.Limits.{everyMost}
 use Rattle.table.specs.Trees.{Tree}
@@ -11,12 +11,11 @@ use Rattle.table.specs.Bytes.{AreBytes}
 use Rattle.table.specs.Table.{decode}
 use Rattle.table.specs.declared.Most.{Most}
 use Rattle.table.specs.Laws.Limits.{limits-follow}
-use Rattle.triangular.specs.Triangular.{mostTriangular, rule}
-use Rattle.triangular.specs.Laws.Rule.{triangular-is}
+use Rattle.triangular.specs.Triangular.{rule}
 use Rattle.table.specs.Questions.{Accepted}
 use Rattle.table.specs.Laws.Accepted.{is-table}
 use Rattle.table.specs.Laws.Asking.{by-refusals}
-use Rattle.evaluate.specs.Evaluate.{Values, allowed, valuesOf, figure}
+use Rattle.evaluate.specs.Evaluate.{Values, valuesOf, figure}
 use Rattle.lists.specs.Pairs.{Pairs, ever, numbers, run, width}
 use Rattle.evaluate.specs.ListPairs.{listPairs}
 use Rattle.evaluate.specs.Laws.ListPairs.{list-pairs}
@@ -28,18 +27,18 @@ use Rattle.writing.specs.Over.{over}
 use Rattle.quoting.specs.Answers.{figureAnswer, listAnswer, listRefusal, listWrites, listedPairs, listedRefusal, quotedFigure, quotedRefusal}
 use Rattle.quoting.specs.Branches.{BranchPromises}
 use Rattle.quoting.specs.Promises.{ListPromises, NeverLowered, Promised, Promises, byRule}
-use Rattle.quoting.specs.Values.{triangleSmall}
+use Rattle.values.specs.Values.{triangleSmall}
 use Rattle.writing.specs.Laws.Over.{take-over}
 use Rattle.quoting.specs.Laws.Branches.{branch-of}
 use Rattle.quoting.specs.Laws.Figures.{figure-monotone, figured}
-use Rattle.quoting.specs.Laws.Values.{thirteen-limits, values-thirteen}
+use Rattle.values.specs.Laws.Values.{small-rule, thirteen-limits, values-thirteen}
 use Rattle.quoting.specs.Laws.Evaluated.{Lists}
 
 small-ruled : (v : Values) (m : Most) → T (triangleSmall v m) → T (byRule v m)
-unfolding triangleSmall byRule allowed
+unfolding byRule
 small-ruled v (Most.Plain n) h = tt
 small-ruled v (Most.Symbol s) h = tt
-small-ruled v (Most.Triangular s) h = rw (triangular-is (v s) (leb→le (v s) mostTriangular h)) (eqb-refl (rule (v s)))
+small-ruled v (Most.Triangular s) h = rw (small-rule v s h) (eqb-refl (rule (v s)))
 
 figure-promised : (v : Values) (t : Tree) → Accepted t → T (everyMost (triangleSmall v) t) → Promised v t (figure v t)
 figure-promised v t a h = record {

@@ -26,7 +26,7 @@ use Rattle.simplify.specs.Laws.Stepwise.{steps-kept, steps-made, steps-within, 
 use Rattle.quoting.specs.declared.Checked.{Checked}
 use Rattle.quoting.specs.declared.Quote.{Quote}
 use Rattle.simplifying.specs.declared.Simplified.{Simplified}
-use Rattle.quoting.specs.Values.{valuesRefusal}
+use Rattle.values.specs.Values.{valuesRefusal}
 use Rattle.writing.specs.Over.{over}
 use Rattle.quoting.specs.Answers.{checkAnswer, checkedRefusal, figureAnswer, quoteOf, quotedFigure, quotedRefusal}
 use Rattle.simplifying.specs.Answers.{endingOf, finishedNumber, made, madeAnswer, simplifiedFinished, simplifiedLength, simplifiedRefusal, simplifiedSteps, simplifyAnswer, simplifyRefusal, simplifyWrites}
@@ -34,7 +34,7 @@ use Rattle.quoting.specs.Promises.{Promises}
 use Rattle.simplifying.specs.Demand.{Asked, Demand3, FigureNumbers, SimplifyNumbers, Sold, quotedNumbers, simplifiedNumbers, soldBytes}
 use Rattle.writing.specs.Laws.Over.{long-over, take-over}
 use Rattle.quoting.specs.Laws.Figures.{figure-is, figured}
-use Rattle.quoting.specs.Laws.Values.{values-carry}
+use Rattle.values.specs.Laws.Values.{values-carry}
 
 spent-not : (finished : Bool) → finishedNumber (endingOf finished) ≡ 0 → finished ≡ false
 unfolding endingOf finishedNumber

@@ -3,11 +3,11 @@ use mathlib.Core.Path.{sym, _∙_}
 use Prim.Native.Nat.{_-_}
 use native.Mathlib.Omega.{arith}
 use Rattle.evaluate.specs.Evaluate.{valuesOf}
-use Rattle.quoting.specs.Values.{question13, recordSmall}
+use Rattle.values.specs.Values.{question13, recordSmall}
 use Rattle.table.specs.Laws.Reading.{Passed, none-passed, one-passed, one-failed, all-passed, part-long}
-use Rattle.quoting.specs.Laws.Lent.{free-small}
-use Rattle.quoting.proofs.triangles_small.Statement.{statement}
-use Rattle.quoting.proofs.triangles_small.Tie as tie
+use Rattle.values.specs.Laws.Values.{free-small}
+use Rattle.values.proofs.triangles_small.Statement.{statement}
+use Rattle.values.proofs.triangles_small.Tie as tie
 
 abbrev Inv-loop : tie.InvT-loop
 Inv-loop table values free n i₀ i = Passed (recordSmall (valuesOf values)) table i

@@ -1,8 +1,8 @@
 use mathlib.Core.Path.{refl}
 use borrow.Author.Tests.{lt-ltb, le-ltb}
-use Rattle.quoting.specs.Values.{ceiling}
-use Rattle.quoting.proofs.ceiling_of.Statement.{statement}
-use Rattle.quoting.proofs.ceiling_of.Tie as tie
+use Rattle.values.specs.Values.{ceiling}
+use Rattle.values.proofs.ceiling_of.Statement.{statement}
+use Rattle.values.proofs.ceiling_of.Tie as tie
 
 returns : tie.Need-returns
 unfolding ceiling

@@ -2,9 +2,9 @@ use mathlib.Core.Path.{refl, sym, _∙_}
 use borrow.Author.Needs.{needs}
 use borrow.Author.Tests.{not-false, not-true}
 use Rattle.table.specs.Asking.{firstNo}
-use Rattle.quoting.specs.Values.{valueQuestions, valuesRefusal}
-use Rattle.quoting.proofs.values_refusal.Statement.{statement}
-use Rattle.quoting.proofs.values_refusal.Tie as tie
+use Rattle.values.specs.Values.{valueQuestions, valuesRefusal}
+use Rattle.values.proofs.values_refusal.Statement.{statement}
+use Rattle.values.proofs.values_refusal.Tie as tie
 
 values-allowed-requires : tie.Need-values-allowed-requires
 values-allowed-requires c κs = search needs

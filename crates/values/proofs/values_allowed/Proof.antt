@@ -6,9 +6,9 @@ use native.Mathlib.Omega.{arith}
 use borrow.Author.Needs.{needs}
 use lib.ListN.{length}
 use Rattle.table.specs.Numbers.{howManyValues}
-use Rattle.quoting.specs.Laws.Values.{Asked, none-asked, one-asked, one-over, all-asked, other-length}
-use Rattle.quoting.proofs.values_allowed.Statement.{statement}
-use Rattle.quoting.proofs.values_allowed.Tie as tie
+use Rattle.values.specs.Laws.Values.{Asked, none-asked, one-asked, one-over, all-asked, other-length}
+use Rattle.values.proofs.values_allowed.Statement.{statement}
+use Rattle.values.proofs.values_allowed.Tie as tie
 
 abbrev Inv-loop : tie.InvT-loop
 Inv-loop values i₀ i = (length values ≡ howManyValues) × (i ≤ howManyValues) × Asked values i

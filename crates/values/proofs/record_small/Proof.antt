@@ -2,10 +2,10 @@
 use mathlib.Core.Path.{refl, sym, _∙_}
 use borrow.Author.Needs.{needs}
 use Rattle.table.specs.Limits.{limitHolds}
-use Rattle.quoting.specs.Values.{recordSmall}
-use Rattle.quoting.specs.Laws.Values.{small-unflagged}
-use Rattle.quoting.proofs.record_small.Statement.{statement}
-use Rattle.quoting.proofs.record_small.Tie as tie
+use Rattle.values.specs.Values.{recordSmall}
+use Rattle.values.specs.Laws.Values.{small-unflagged}
+use Rattle.values.proofs.record_small.Statement.{statement}
+use Rattle.values.proofs.record_small.Tie as tie
 
 without-four-requires : tie.Need-without-four-requires
 without-four-requires c κs = search needs

@@ -14,12 +14,15 @@ use Rattle.booleans.specs.Laws.{both}
 use Rattle.table.specs.Numbers.{howManyValues, firstTimeSymbol, mostCount}
 use Rattle.table.specs.Checking.{IsTable}
 use Rattle.table.specs.Limits.{everyMost}
-use Rattle.table.specs.Table.{decode, withoutFour}
+use Rattle.table.specs.Table.{decode, recordCount, withoutFour}
 use Rattle.table.specs.declared.Most.{Most}
-use Rattle.table.specs.Laws.Limits.{no-flag, table-limits}
-use Rattle.evaluate.specs.Evaluate.{Values, valuesOf}
+use Rattle.table.specs.Laws.Limits.{each-follows, no-flag, table-limits}
+use Rattle.triangular.specs.Triangular.{mostTriangular, rule}
+use Rattle.evaluate.specs.Evaluate.{Values, allowed, valuesOf}
+use Rattle.evaluate.specs.Laws.Settled.{allowed-rule}
 use Rattle.table.specs.Laws.Asking.{Yes, all-yes, numbered, yes-all}
-use Rattle.quoting.specs.Values.{ceiling, question13, question9, ranged, recordSmall, triangleSmall, valueQuestions, valuesRefusal}
+use Rattle.values.specs.Flags.{flagFree}
+use Rattle.values.specs.Values.{ceiling, question13, question9, ranged, recordSmall, triangleSmall, valueQuestions, valuesRefusal}
 
 pub values-nine : (b vs : List ℕ) → valuesRefusal b vs ≡ 0 → T (question9 vs)
 unfolding valuesRefusal valueQuestions numbered Yes
@@ -46,10 +49,20 @@ values-carry b c vs i j limits e =
     let small : T (question13 c vs) = subst T (sym (thirteen-limits c vs j)) (limits _ (subst T (thirteen-limits b vs i) (values-thirteen b vs e))) in
     yes-all (valueQuestions c vs) (values-nine b vs e, (small, tt))
 
+-- where 13 lets a symbol pass under flag 4, the limit is the rule's number itself, and not that of a smaller value
+pub small-rule : (v : Values) (s : ℕ) → T (triangleSmall v (Most.Triangular s)) → allowed v (Most.Triangular s) ≡ rule (v s)
+unfolding triangleSmall
+small-rule v s h = allowed-rule v s (leb→le (v s) mostTriangular h)
+
 -- a record without flag 4 is not asked 13
 pub small-unflagged : (v : Values) (b : List ℕ) → withoutFour b ≡ true → recordSmall v b ≡ true
 unfolding recordSmall triangleSmall
 small-unflagged v b e = no-flag (triangleSmall v) (λ n. refl) (λ s. refl) b e
+
+-- nor a table without it
+pub free-small : (b vs : List ℕ) → flagFree b ≡ true → question13 b vs ≡ true
+unfolding flagFree question13
+free-small b vs e = each-follows _ _ (small-unflagged (valuesOf vs)) (recordCount b) b e
 
 -- ---- question 9, value by value
 

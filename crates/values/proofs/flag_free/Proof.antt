@@ -3,10 +3,10 @@ use mathlib.Core.Path.{sym}
 use Prim.Native.Nat.{_-_}
 use native.Mathlib.Omega.{arith}
 use Rattle.table.specs.Table.{withoutFour}
-use Rattle.quoting.specs.Lent.{flagFree}
+use Rattle.values.specs.Flags.{flagFree}
 use Rattle.table.specs.Laws.Reading.{Passed, none-passed, one-passed, one-failed, all-passed, part-long}
-use Rattle.quoting.proofs.flag_free.Statement.{statement}
-use Rattle.quoting.proofs.flag_free.Tie as tie
+use Rattle.values.proofs.flag_free.Statement.{statement}
+use Rattle.values.proofs.flag_free.Tie as tie
 
 abbrev Inv-loop : tie.InvT-loop
 Inv-loop table n i₀ i = Passed withoutFour table i

@@ -3,9 +3,9 @@ use mathlib.Core.Path.{ap}
 use borrow.Author.Needs.{needs}
 use lib.Dec.{leb}
 use Rattle.triangular.specs.Triangular.{mostTriangular}
-use Rattle.quoting.specs.Values.{triangleSmall}
-use Rattle.quoting.proofs.triangle_small.Statement.{statement}
-use Rattle.quoting.proofs.triangle_small.Tie as tie
+use Rattle.values.specs.Values.{triangleSmall}
+use Rattle.values.proofs.triangle_small.Statement.{statement}
+use Rattle.values.proofs.triangle_small.Tie as tie
 
 enum-told : tie.Need-enum-told
 enum-told c = search needs
