@@ -1,4 +1,1 @@
--- Laws, in the order in which they lean on each other.
-pub mod Whole
-pub mod Edited
 pub mod Budget

@@ -1,22 +1,10 @@
 -- Steps up to an allowance on a table's bytes.
 use mathlib.Core.Path.{_≡_}
 use mathlib.Core.Bool.{Bool}
-use mathlib.Core.List.{List, _++_}
-use mathlib.Core.Option.{Option}
+use mathlib.Core.List.{List}
 use Prim.Native.Nat.{ℕ}
 use Rattle.table.specs.Table.{decode, encode}
-use Rattle.table.specs.Trees.{Forest, Tree, nil, _▸_}
-use Rattle.writing.specs.Records.{front}
-use Rattle.simplify.specs.Steps.{also, step, steps}
-use Rattle.searching.specs.declared.Spot.{Spot}
-
--- a step of a table's tree, as a row of trees
-unfoldable pub stepped : Tree → Option Forest
-stepped t = also (λ u. u ▸ nil) (step t)
-
--- the table's bytes after the step at a spot, from whose record on it is written at the front of a buffer
-abbrev pub edited : List ℕ → Spot → List ℕ → List ℕ
-edited b spot out = front (spot .at) b ++ front (spot .len) out
+use Rattle.simplify.specs.Steps.{steps}
 
 -- the steps that an allowance of n makes of the table b₀ end at the table b, after k of them, finished or not
 pub record Ends (b₀ : List ℕ) (n : ℕ) (b : List ℕ) (k : ℕ) (finished : Bool) : Type 0 where

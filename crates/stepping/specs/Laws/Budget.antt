@@ -28,7 +28,8 @@ use Rattle.subtrees.specs.Laws.Parts.{extent-some}
 use Rattle.writing.specs.Records.{front}
 use Rattle.searching.specs.Found.{Found, Placed, Settled}
 use Rattle.searching.specs.Rewritten.{Rewritten}
-use Rattle.stepping.specs.Steps.{Ends, stepped}
+use Rattle.onestep.specs.Step.{stepped}
+use Rattle.stepping.specs.Steps.{Ends}
 
 -- after k steps, what is made of the rest
 abbrev pub added : ℕ → Made → Made

@@ -1,9 +1,9 @@
 -- The table is edited in its buffer; what is known of the old one tells what is known of the new.
 use native.Mathlib.Omega.{arith}
 use borrow.Author.Needs.{needs}
-use Rattle.stepping.specs.Laws.Edited.{edited-is, end-within, part-outdated, part-settled}
-use Rattle.stepping.proofs.make_step.Statement.{statement}
-use Rattle.stepping.proofs.make_step.Tie as tie
+use Rattle.onestep.specs.Laws.Edited.{edited-is, end-within, part-outdated, part-settled}
+use Rattle.onestep.proofs.make_step.Statement.{statement}
+use Rattle.onestep.proofs.make_step.Tie as tie
 
 mul-end : tie.Need-mul-end
 mul-end c = search needs

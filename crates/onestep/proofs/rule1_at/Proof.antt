@@ -3,10 +3,10 @@ use mathlib.Core.Path.{_∙_}
 use native.Mathlib.Omega.{arith}
 use Rattle.lists.specs.Reading.{valueAt}
 use Rattle.table.specs.Laws.Tables.{length-is, not-long}
-use Rattle.stepping.specs.Laws.Whole.{block-written, first-is, has-symbol, some-record, that-already}
+use Rattle.onestep.specs.Laws.Whole.{block-written, first-is, has-symbol, some-record, that-already}
 use borrow.Author.Needs.{needs}
-use Rattle.stepping.proofs.rule1_at.Statement.{statement}
-use Rattle.stepping.proofs.rule1_at.Tie as tie
+use Rattle.onestep.proofs.rule1_at.Statement.{statement}
+use Rattle.onestep.proofs.rule1_at.Tie as tie
 
 shared-slice-read-if1 : tie.Need-shared-slice-read-if1
 shared-slice-read-if1 c = search needs

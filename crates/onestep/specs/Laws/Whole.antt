@@ -33,7 +33,7 @@ use Rattle.writing.specs.Records.{front, nodeOf}
 use Rattle.rewrite.specs.Wrote.{Wrote}
 use Rattle.searching.specs.Found.{Placed}
 use Rattle.searching.specs.Rewritten.{Rewritten}
-use Rattle.stepping.specs.Steps.{stepped}
+use Rattle.onestep.specs.Step.{stepped}
 use Rattle.table.specs.declared.Number.the-variants.{Plain}
 use Rattle.table.specs.declared.Limit.the-variants.{Unlimited}
 use Rattle.table.specs.declared.Kind.the-variants.{Block}

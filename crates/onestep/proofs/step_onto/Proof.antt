@@ -1,9 +1,9 @@
 -- Rule 1, or else the search.
 use native.Mathlib.Omega.{arith}
-use Rattle.stepping.specs.Laws.Whole.{by-rule1, by-search, placed-whole, some-record}
+use Rattle.onestep.specs.Laws.Whole.{by-rule1, by-search, placed-whole, some-record}
 use borrow.Author.Needs.{needs}
-use Rattle.stepping.proofs.step_onto.Statement.{statement}
-use Rattle.stepping.proofs.step_onto.Tie as tie
+use Rattle.onestep.proofs.step_onto.Statement.{statement}
+use Rattle.onestep.proofs.step_onto.Tie as tie
 
 rule1-at-requires : tie.Need-rule1-at-requires
 rule1-at-requires c κs =

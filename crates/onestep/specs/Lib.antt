@@ -1,0 +1,4 @@
+-- Definitions.
+pub mod Step
+-- What is proved of them.
+pub mod Laws
