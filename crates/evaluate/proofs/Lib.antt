@@ -1,4 +1,3 @@
 -- Laws that the functions' proofs share.
 pub mod Others
 pub mod Steps
-pub mod Walk

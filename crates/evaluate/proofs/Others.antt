@@ -11,7 +11,7 @@ use Rattle.table.specs.declared.Kind.the-variants.{Block, Sequence, Choice, Loo
 use Rattle.lists.specs.Operations.{addPairs}
 use Rattle.lists.specs.Pairs.{Pairs}
 use Rattle.evaluate.specs.Evaluate.{Values, noBranch}
-use Rattle.evaluate.specs.Evaluator.{Found, evaluateBelow, evaluateMore, goneRound, nextHolder, joinPairs, noneYet}
+use Rattle.evaluate.specs.Evaluator.{Found, goneRound, nextHolder, joinPairs}
 
 -- the kind's number is one of these: 0 a block, 1 a sequence, 2 a choice, 3 a loop
 abbrev pub Among : List ℕ → Kind → Type 0
@@ -44,11 +44,3 @@ round-other v (Block t) c h = refl
 round-other v Sequence c h = refl
 round-other v Choice c h = refl
 round-other v (Loop n) c h = absurd (miss (0 ∷ 1 ∷ 2 ∷ []) 3 tt h)
-
-pub below-other : (v : Values) (f : List ℕ → Found) (k : Kind) (n : ℕ) (b : List ℕ) → Among (1 ∷ 2 ∷ 3 ∷ []) k
-    → evaluateMore v f k 0 n b noneYet ≡ evaluateBelow v f k n b
-unfolding evaluateBelow
-below-other v f (Block t) n b h = absurd (miss (1 ∷ 2 ∷ 3 ∷ []) 0 tt h)
-below-other v f Sequence n b h = refl
-below-other v f Choice n b h = refl
-below-other v f (Loop m) n b h = refl

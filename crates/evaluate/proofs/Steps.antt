@@ -1,25 +1,15 @@
 -- The cases of the evaluator's definition, as the program meets them.
 use mathlib.Core.Path.{_≡_, refl}
-use mathlib.Core.Bool.{Bool, true, false, cond}
-use mathlib.Core.List.{List}
-use Prim.Native.Nat.{ℕ, zero, suc, _+_, _*_, _-_, min, _<_, _≤_}
-use native.Mathlib.Numerals.{sub-one}
-use native.Mathlib.Omega.{arith}
-use lib.ListN.{drop, length}
+use Prim.Native.Nat.{ℕ, suc, _+_, _*_, min, _<_, _≤_}
 use borrow.Author.Tests.{le-leb, lt-leb}
-use Rattle.table.specs.Numbers.{mostCount, mostTime, mostWeight, recordLength}
-use Rattle.table.specs.Table.{childByte, firstNode}
-use Rattle.table.specs.Trees.{rest}
+use Rattle.table.specs.Numbers.{mostCount, mostTime, mostWeight}
 use Rattle.table.specs.declared.Kind.{Kind}
 use Rattle.table.specs.declared.Limit.the-variants.{AtMost}
 use Rattle.table.specs.declared.Most.{Most}
 use Rattle.lists.specs.Operations.{capPairs, first, groupPairs}
 use Rattle.lists.specs.Pairs.{Pairs, ever, top, width}
 use Rattle.evaluate.specs.Evaluate.{Values, outward}
-use Rattle.evaluate.specs.Evaluator.{Found, andThen, checked, evaluateBelow, evaluateMore, evaluateNode, found, goneRound, nextHolder, joinPairs, joined, limited, looked, looped, unfit}
-use Rattle.evaluate.specs.Shown.{withNext}
-
--- ---- steps
+use Rattle.evaluate.specs.Evaluator.{Found, checked, found, nextHolder, joinPairs, joined, limited, looked, looped, unfit}
 
 pub checked-low : (p : Pairs) (k n c : ℕ) → top p ≤ mostTime → checked p k n c ≡ found p k n c
 checked-low p k n c l = rw (le-leb (top p) mostTime l) refl
@@ -66,39 +56,3 @@ module _ (v : Values) (k : ℕ) (m : Most) (s : Found) where
       → limited v (AtMost k m) s ≡ found (capPairs (looked v m) (s .pairs)) (min k (s .named)) (suc (s .records)) (s .branch)
   unfolding limited
   limited-room l w = rw (le-leb (looked v m) mostCount l, le-leb (suc (width (s .pairs))) mostWeight w) refl
-
--- ---- the walk
-
-pub node-deep : (v : Values) (h : ℕ) (b : List ℕ) → h ≡ 0 → evaluateNode v h b ≡ unfit
-unfolding evaluateNode
-node-deep v h b e = rw e refl
-
-pub node-short : (v : Values) (h : ℕ) (b : List ℕ) → length b < recordLength → evaluateNode v h b ≡ unfit
-unfolding evaluateNode
-node-short v zero b l = refl
-node-short v (suc h) b l = rw (lt-leb recordLength (length b) l) refl
-
-pub node-read : (v : Values) (h : ℕ) (b : List ℕ) → (h ≡ 0 → ⊥) → recordLength ≤ length b
-    → evaluateNode v h b ≡ andThen (evaluateBelow v (evaluateNode v (h - 1)) (firstNode b .kind) (childByte b) (drop recordLength b)) (limited v (firstNode b .limit))
-unfolding evaluateNode
-node-read v zero b f l = absurd (f refl)
-node-read v (suc h) b f l = rw (le-leb recordLength (length b) l, sub-one (suc h)) refl
-
-pub more-done : (v : Values) (f : List ℕ → Found) (k : Kind) (i n : ℕ) (b : List ℕ) (s : Found) → n ≡ 0 → evaluateMore v f k i n b s ≡ s
-unfolding evaluateMore
-more-done v f k i n b s e = rw e refl
-
--- one after the other, in two ways
-regrouped : (c : Found) (f g h : Found → Found) → andThen c (λ c. andThen (f c) (λ d. andThen (g d) h)) ≡ andThen (andThen c (λ c. andThen (f c) g)) h
-regrouped c f g h = go (c .fits) (f c .fits)
-  where
-    go : (t u : Bool) → cond t (cond u (andThen (g (f c)) h) unfit) unfit ≡ andThen (cond t (cond u (g (f c)) unfit) unfit) h
-    go true true = refl
-    go true false = refl
-    go false u = refl
-
-pub more-next : (v : Values) (f : List ℕ → Found) (k : Kind) (i n : ℕ) (b : List ℕ) (s : Found) → 0 < n
-    → evaluateMore v f k i n b s ≡ andThen (withNext v k i s (f (drop (recordLength * s .records) b))) (evaluateMore v f (rest k) (suc i) (n - 1) b)
-unfolding evaluateMore withNext
-more-next v f k i zero b s p = absurd (omega arith)
-more-next v f k i (suc n) b s p = rw (sub-one (suc n)) (regrouped (f (drop (recordLength * s .records) b)) (goneRound v k) (joined k i s) (evaluateMore v f (rest k) (suc i) n b))

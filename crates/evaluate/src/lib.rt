@@ -1,33 +1,30 @@
-// The evaluator (document 01, "Evaluation"): one walk of a table's tree, with lists as pairs in lent arrays.
+// The evaluator's steps (document 01, "Evaluation"), with lists as pairs in lent arrays.
 ghost use mathlib.Core.Path.{_≡_};
 ghost use mathlib.Core.Bool.{true};
-ghost use Prim.Native.Nat.{_*_, _≤_, min};
-ghost use lib.ListN.{getD, length};
-ghost use Rattle.table.specs.Numbers.{mostDepth, mostRecords, recordLength};
+ghost use Prim.Native.Nat.{min};
+ghost use lib.ListN.{getD};
 ghost use Rattle.table.specs.Trees.{rest};
 ghost use Rattle.lists.specs.Pairs.{ever};
 ghost use Rattle.lists.specs.Reading.{Addable, Is, Mergeable, Proper, listIn, pairsOf};
 ghost use Rattle.evaluate.specs.Evaluate.{amount, outward, valuesOf};
-ghost use Rattle.evaluate.specs.Evaluator.{andThen, checked, evaluateNode, goneRound, joinPairs, joined, limited, looked, looped, nextHolder, triangleIn};
-ghost use Rattle.evaluate.specs.Shown.{Ready, Roomy, Shows, evaluateChildren, foundIn, withNext};
+ghost use Rattle.evaluate.specs.Evaluator.{andThen, checked, goneRound, joinPairs, joined, limited, looked, looped, nextHolder, triangleIn};
+ghost use Rattle.evaluate.specs.Shown.{Ready, Roomy, Shows, foundIn, withNext};
 use lists::List;
 use lists::MOST_PAIRS;
 use table::HOW_MANY_SYMBOLS;
 use table::Kind;
 use table::Limit;
 use table::MOST_COUNT;
-use table::MOST_DEPTH;
 use table::MOST_TIME;
 use table::Most;
 use table::Number;
-use table::RECORD_LENGTH;
 use table::WHOLE_RUN;
 
 // The branch of a node that is no choice: a choice has at most 255 children, so that no child has this number.
-const NO_BRANCH: usize = 255;
+pub const NO_BRANCH: usize = 255;
 
 // An array with room for any list.
-type Pairs = [u64; 2 * MOST_PAIRS];
+pub type Pairs = [u64; 2 * MOST_PAIRS];
 
 // What evaluating finds of a tree, or of a node's children so far: how many pairs its list has, which stands in a lent array, the loop that it names,
 // how many records, and which child of a choice holds the largest first member. Where question 10 says no, `fits` is false and nothing else is found.
@@ -40,7 +37,7 @@ pub struct Valued {
 }
 
 impl Valued {
-    const UNFIT: Valued = Valued {
+    pub const UNFIT: Valued = Valued {
         len: 0,
         named: WHOLE_RUN,
         records: 0,
@@ -61,7 +58,7 @@ pub fn value_of(symbol: u64, values: &[u64]) -> u64
 }
 
 // What a time or bound comes to.
-fn amount_of(number: Number, values: &[u64]) -> u64
+pub fn amount_of(number: Number, values: &[u64]) -> u64
     ensures { λ r. ⌜ r ≡ amount (valuesOf (now (values .entry))) number ⌝ }
 {
     match number {
@@ -113,7 +110,7 @@ pub fn outward_of(named: u8) -> u8
 }
 
 // The kind as which the children after the first are taken: a loop's exit is added as in a sequence.
-fn rest_of(kind: Kind) -> Kind
+pub fn rest_of(kind: Kind) -> Kind
     ensures { λ r. ⌜ r ≡ rest kind ⌝ }
 {
     match kind {
@@ -143,7 +140,7 @@ fn check_top(list: &Pairs, len: usize, named: u8, records: usize, branch: usize)
 }
 
 // The list that repeats one value.
-fn repeat_in(value: u64, named: u8, records: usize, branch: usize, out: &mut Pairs) -> Valued
+pub fn repeat_in(value: u64, named: u8, records: usize, branch: usize, out: &mut Pairs) -> Valued
     requires { ⌜ Roomy (now out) ⌝ }
     ensures { λ r. ⌜ Shows r (now (out .exit)) (checked (ever value) named records branch) ⌝ }
 {
@@ -249,7 +246,7 @@ fn join_in(
 }
 
 // The children so far and the next one, child `number`, where it fits.
-fn take_child(
+pub fn take_child(
     kind: Kind,
     values: &[u64],
     number: usize,
@@ -274,7 +271,7 @@ fn take_child(
 }
 
 // A node's record, and its own limit, which may add a pair to the list below.
-fn limit_in(limit: Limit, values: &[u64], below: Valued, list: &mut Pairs) -> Valued
+pub fn limit_in(limit: Limit, values: &[u64], below: Valued, list: &mut Pairs) -> Valued
     requires { ⌜ (below .fits ≡ true → Ready below (now list)) ⌝ ∗ ⌜ Roomy (now list) ⌝ }
     ensures { λ r. ⌜ Shows r (now (list .exit)) (andThen (foundIn below (now (list .entry))) (limited (valuesOf (now (values .entry))) limit)) ⌝ }
 {
@@ -306,91 +303,4 @@ fn limit_in(limit: Limit, values: &[u64], below: Valued, list: &mut Pairs) -> Va
         branch: below.branch,
         fits: true,
     }
-}
-
-// ---- The walk
-
-// The node at the front of `table` with everything below it, at most `depth` nodes deep.
-pub fn evaluate_node(
-    table: &[u8],
-    values: &[u64],
-    depth: usize,
-    out: &mut Pairs,
-    spare: &mut Pairs,
-) -> Valued
-    requires { ⌜ length (now table) ≤ recordLength * mostRecords ⌝ ∗ ⌜ Roomy (now out) ⌝ ∗ ⌜ Roomy (now spare) ⌝ }
-    ensures { λ r. ⌜ Shows r (now (out .exit)) (evaluateNode (valuesOf (now (values .entry))) depth (now (table .entry))) ⌝ ∗ ⌜ Roomy (now (spare .exit)) ⌝ }
-{
-    if depth == 0 {
-        return Valued::UNFIT;
-    }
-    if table.len() < RECORD_LENGTH {
-        return Valued::UNFIT;
-    }
-    let kind = table::read_kind(table);
-    if let Kind::Block(time) = kind {
-        let below = repeat_in(amount_of(time, values), WHOLE_RUN, 0, NO_BRANCH, out);
-        return limit_in(table::read_limit(table), values, below, out);
-    }
-    let count = table::child_count(table);
-    let below = evaluate_children(
-        &table[RECORD_LENGTH..],
-        values,
-        depth - 1,
-        kind,
-        count,
-        out,
-        spare,
-    );
-    limit_in(table::read_limit(table), values, below, out)
-}
-
-// The `count` children at the front of `table` of a node of this kind, each at most `depth` nodes deep.
-// Their list grows in `out`, and each child's own stands in an array of this call.
-// A child that does not fit ends the walk: it tells no place for the next, and so no record is read twice.
-pub fn evaluate_children(
-    table: &[u8],
-    values: &[u64],
-    depth: usize,
-    kind: Kind,
-    count: usize,
-    out: &mut Pairs,
-    spare: &mut Pairs,
-) -> Valued
-    requires { ⌜ length (now table) ≤ recordLength * mostRecords ⌝ ∗ ⌜ Roomy (now out) ⌝ ∗ ⌜ Roomy (now spare) ⌝ }
-    ensures { λ r. ⌜ Shows r (now (out .exit)) (evaluateChildren (valuesOf (now (values .entry))) depth kind count (now (table .entry))) ⌝ ∗ ⌜ Roomy (now (spare .exit)) ⌝ }
-{
-    let mut list = List::zero();
-    let mut done = repeat_in(0, WHOLE_RUN, 0, 0, out);
-    let mut seen_as = kind;
-    let mut number = 0;
-    while number < count {
-        let at = RECORD_LENGTH * done.records;
-        let child = evaluate_node(&table[at..], values, depth, &mut list.pairs, spare);
-        done = take_child(
-            seen_as,
-            values,
-            number,
-            done,
-            out,
-            child,
-            &mut list.pairs,
-            spare,
-        );
-        if !done.fits {
-            return Valued::UNFIT;
-        }
-        seen_as = rest_of(seen_as);
-        number += 1;
-    }
-    done
-}
-
-// The tree of a table, as deep as question 5 allows.
-pub fn evaluate(table: &[u8], values: &[u64], out: &mut Pairs) -> Valued
-    requires { ⌜ length (now table) ≤ recordLength * mostRecords ⌝ ∗ ⌜ Roomy (now out) ⌝ }
-    ensures { λ r. ⌜ Shows r (now (out .exit)) (evaluateNode (valuesOf (now (values .entry))) mostDepth (now (table .entry))) ⌝ }
-{
-    let mut spare = List::zero();
-    evaluate_node(table, values, MOST_DEPTH, out, &mut spare.pairs)
 }

@@ -35,7 +35,7 @@ fn rule1_at(table: &[u8], marks: &[u8], out: &mut [u8]) -> usize
     }
     let zeros = [0; 0];
     let mut list = List::zero();
-    evaluate::evaluate(table, &zeros, &mut list.pairs);
+    walking::evaluate(table, &zeros, &mut list.pairs);
     let time = Number::Plain(lists::value_at(&list.pairs, 0));
     let block = Node {
         kind: Kind::Block(time),

@@ -57,11 +57,11 @@ fn walk(table: &[u8], values: &[u64], free: bool, out: &mut [u64; LIST_ROOM]) ->
     ensures { λ r. ⌜ Walked (now (table .entry)) (now (values .entry)) r (now (out .exit)) ⌝ }
 {
     if free {
-        return evaluate::evaluate(table, values, out);
+        return walking::evaluate(table, values, out);
     }
     let mut numbers = [0; HOW_MANY_NUMBERS];
     triangular::with_triangles(values, &mut numbers);
-    evaluate::evaluate(table, &numbers, out)
+    walking::evaluate(table, &numbers, out)
 }
 
 // Writes the first n numbers of a list over the front of a buffer.

@@ -222,7 +222,7 @@ fn settled_value(table: &[u8], i: usize) -> u64
     let zeros = [0; 0];
     let mut list = List::zero();
     let mut spare = List::zero();
-    evaluate::evaluate_children(
+    walking::evaluate_children(
         &table[next..],
         &zeros,
         MOST_DEPTH,

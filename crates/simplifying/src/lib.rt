@@ -76,7 +76,7 @@ pub fn simplify(table: &[u8], allowance: u64, out: &mut [u8]) -> Simplified
     }
     let zeros = [0; 0];
     let mut list = [0; LIST_ROOM];
-    let found = evaluate::evaluate(table, &zeros, &mut list);
+    let found = walking::evaluate(table, &zeros, &mut list);
     if found.fits {
         make_steps(table, allowance, out)
     } else {

@@ -8,28 +8,28 @@ use borrow.Fn.Kinds.{In}
 use borrow.Fn.PlainCycle.{Measures, is, falls, and}
 use Rattle.table.specs.Numbers.{recordLength}
 use Rattle.table.specs.Laws.Reading.{part-from}
 use Rattle.evaluate.specs.Evaluate.{valuesOf}
 use Rattle.evaluate.specs.Shown.{Roomy, evaluateChildren}
 use Rattle.evaluate.specs.Laws.Shown.{ready-shown, unfit-shown}
-use Rattle.evaluate.proofs.Steps.{node-deep, node-short}
-use Rattle.evaluate.proofs.Walk.{Walked, all-done, block-sane, block-shown, child-ready, children-ready, children-shown, next-ends, next-fits, none-yet}
-use Rattle.evaluate.proofs.evaluate_children.Reads as children
-use Rattle.evaluate.proofs.evaluate_children.Kinds as children-kinds
-use Rattle.evaluate.proofs.+evaluate_children+evaluate_node.Lts-evaluate_children as children-lts
-use Rattle.evaluate.proofs.evaluate_node.Reads as node
-use Rattle.evaluate.proofs.evaluate_node.Kinds as node-kinds
-use Rattle.evaluate.proofs.+evaluate_children+evaluate_node.Lts-evaluate_node as node-lts
+use Rattle.walking.proofs.Steps.{node-deep, node-short}
+use Rattle.walking.proofs.Walk.{Walked, all-done, block-sane, block-shown, child-ready, children-ready, children-shown, next-ends, next-fits, none-yet}
+use Rattle.walking.proofs.evaluate_children.Reads as children
+use Rattle.walking.proofs.evaluate_children.Kinds as children-kinds
+use Rattle.walking.proofs.+evaluate_children+evaluate_node.Lts-evaluate_children as children-lts
+use Rattle.walking.proofs.evaluate_node.Reads as node
+use Rattle.walking.proofs.evaluate_node.Kinds as node-kinds
+use Rattle.walking.proofs.+evaluate_children+evaluate_node.Lts-evaluate_node as node-lts
 use Rattle.evaluate.proofs.amount_of.Reads as amount-of-reads
 use Rattle.evaluate.proofs.limit_in.Reads as limit-in-reads
 use Rattle.evaluate.proofs.repeat_in.Reads as repeat-in-reads
 use Rattle.evaluate.proofs.rest_of.Reads as rest-of-reads
 use Rattle.evaluate.proofs.take_child.Reads as take-child-reads
 use Rattle.lists.proofs.List.zero.Reads as zero-reads
 use Rattle.table.proofs.child_count.Reads as child-count-reads
 use Rattle.table.proofs.read_kind.Reads as read-kind-reads
 use Rattle.table.proofs.read_limit.Reads as read-limit-reads
-use Rattle.evaluate.proofs.+evaluate_children+evaluate_node.{statement}
-use Rattle.evaluate.proofs.+evaluate_children+evaluate_node.Tie.{close}
+use Rattle.walking.proofs.+evaluate_children+evaluate_node.{statement}
+use Rattle.walking.proofs.+evaluate_children+evaluate_node.Tie.{close}
 
 abbrev μ-children : Measures 4 children-kinds.ps ℕ
 μ-children κs a = a .1 .1 .0 * 2 + 1

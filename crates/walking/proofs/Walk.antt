@@ -13,14 +13,15 @@ use Rattle.table.specs.declared.Kind.the-variants.{Block}
 use Rattle.table.specs.declared.Number.{Number}
 use Rattle.table.specs.declared.Limit.{Limit}
 use Rattle.lists.specs.Pairs.{Canonical, ever, places, top, width}
 use Rattle.evaluate.specs.declared.Valued.{Valued}
 use Rattle.evaluate.specs.Evaluate.{Values, amount, noBranch}
 use Rattle.evaluate.specs.Evaluator.{Found, andThen, checked, evaluateBelow, evaluateMore, evaluateNode, goneRound, joined, limited, unfit}
 use Rattle.evaluate.specs.Shown.{Ready, Shows, evaluateChildren, foundIn, withNext}
 use Rattle.evaluate.specs.Laws.Sane.{Sane, sane, sane-checked, sane-more, sane-next, sane-none, sane-where}
 use Rattle.evaluate.specs.Laws.Shown.{itself-shown, ready-shown, sane-ready, shown-is, then-fits, then-shown}
-use Rattle.evaluate.proofs.Others.{Among, below-other}
-use Rattle.evaluate.proofs.Steps.{checked-low, more-done, more-next, node-read}
+use Rattle.evaluate.proofs.Others.{Among}
+use Rattle.evaluate.proofs.Steps.{checked-low}
+use Rattle.walking.proofs.Steps.{below-other, more-done, more-next, node-read}
 
 -- ---- children
 
