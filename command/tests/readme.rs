@@ -1,4 +1,4 @@
-//! The quotes on README.md's first page are what the command prints.
+//! The quotes on README.md's first page are what the command prints, and its version is the library's.
 
 use assert_cmd::Command;
 
@@ -42,4 +42,16 @@ fn a_first_quote() {
 #[test]
 fn a_choice() {
     quoted("./quote samples/entrance");
+}
+
+#[test]
+fn one_version() {
+    let library = include_str!("../../scripts/volefleece.pc.in");
+    let version = library
+        .lines()
+        .find_map(|line| line.strip_prefix("Version: "));
+    assert_eq!(version, Some(env!("CARGO_PKG_VERSION")));
+    let wrapper = include_str!("../../volefleece-rs/Cargo.toml");
+    let line = format!("version = \"{}\"", env!("CARGO_PKG_VERSION"));
+    assert!(wrapper.lines().any(|found| found == line), "{wrapper}");
 }
