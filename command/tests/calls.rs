@@ -193,8 +193,10 @@ fn graft_writes_what_the_call_writes() {
     for round in 0..300 {
         let folder = folder();
         let mut tables = [random::accepted(&mut rng), random::accepted(&mut rng)];
-        if rng.once_in(3) {
-            tables[rng.index(2)] = random::table(&mut rng);
+        match rng.index(6) {
+            0 => tables = [random::table(&mut rng), random::table(&mut rng)],
+            1 => tables[rng.index(2)] = random::table(&mut rng),
+            _ => {}
         }
         // Near the longest, so that some are too long.
         if round % 10 == 0 {
