@@ -2,6 +2,8 @@
 
 use volefleece::{ceiling, VALUES};
 
+use crate::names::Names;
+
 const VALUE_BYTES: usize = 8;
 
 /// What values are given, by symbol.
@@ -74,8 +76,26 @@ impl Counts {
         }
     }
 
-    /// The length that no file of values has, if these come from such a file.
-    pub fn wrong_length(&self) -> Option<usize> {
-        self.wrong_length
+    /// Whether these come from a file of a length that no file of values has.
+    pub fn has_wrong_length(&self) -> bool {
+        self.wrong_length.is_some()
+    }
+
+    /// What question 9 says no to, for a reader.
+    pub fn fault(&self, names: &Names) -> Option<String> {
+        if let Some(length) = self.wrong_length {
+            let length = match length {
+                length if length > Self::MOST_BYTES => format!("more than {}", Self::MOST_BYTES),
+                length => length.to_string(),
+            };
+            return Some(format!(
+                "the file of values has {length} bytes, and a value has {VALUE_BYTES}"
+            ));
+        }
+        let values = self.values();
+        let symbol = (0..VALUES).find(|&symbol| values[symbol] > ceiling(symbol))?;
+        let (name, most) = (names.symbol(symbol), ceiling(symbol));
+        let value = values[symbol];
+        Some(format!("{name} is {value}, and at most {most} is allowed"))
     }
 }

@@ -3,7 +3,7 @@
 use std::io::{self, BufRead, IsTerminal, Write};
 use std::path::Path;
 
-use volefleece::{ceiling, Quote, Refusal, MOST_TRIANGULAR, VALUES};
+use volefleece::{ceiling, Quote, Refusal, MOST_TRIANGULAR};
 
 use crate::counts::Counts;
 use crate::failure::{note, Failure, Outcome};
@@ -86,7 +86,7 @@ impl House {
 
     /// Asks for the values that the tree uses and nothing gives, on a terminal; elsewhere says that they count high.
     pub fn complete(&mut self, nodes: &[Node], ask: bool) -> Outcome {
-        if self.counts.wrong_length().is_some() {
+        if self.counts.has_wrong_length() {
             // Whatever is typed, question 9 refuses the file.
             return Ok(());
         }
@@ -118,30 +118,11 @@ impl House {
     /// A refusal of this house's tree and counts, with what a reader may look at first.
     pub fn refused(&self, refusal: Refusal) -> Failure {
         let hint = match refusal {
-            Refusal::Values => self.wrong_values(),
+            Refusal::Values => self.counts.fault(&self.tree.names),
             Refusal::TriangularNumber => self.wrong_triangular(),
             _ => return self.tree.refused(refusal),
         };
         Failure::Refused { refusal, hint }
-    }
-
-    fn wrong_values(&self) -> Option<String> {
-        if let Some(length) = self.counts.wrong_length() {
-            let most = Counts::MOST_BYTES;
-            let length = if length > most {
-                format!("more than {most}")
-            } else {
-                length.to_string()
-            };
-            return Some(format!("{TABLE} has {length} bytes, and a value has 8"));
-        }
-        let values = self.counts.values();
-        let symbol = (0..VALUES).find(|&symbol| values[symbol] > ceiling(symbol))?;
-        let (name, most) = (self.tree.names.symbol(symbol), ceiling(symbol));
-        Some(format!(
-            "{name} is {}, and at most {most} is allowed",
-            values[symbol]
-        ))
     }
 
     fn wrong_triangular(&self) -> Option<String> {

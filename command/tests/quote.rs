@@ -115,8 +115,8 @@ fn a_refusal_as_json() {
 #[test]
 fn a_refusal_has_its_reason_and_a_hint() {
     for (values, hint) in [
-        (vec![0; 9], "values.tab has 9 bytes"),
-        (vec![0; 1_000], "values.tab has more than 256 bytes"),
+        (vec![0; 9], "the file of values has 9 bytes"),
+        (vec![0; 1_000], "the file of values has more than 256 bytes"),
         (values_file(&[0, 1_000_001]), "retries is 1000001"),
     ] {
         let folder = house("house");

@@ -8,6 +8,7 @@ use crate::counts::Counts;
 use crate::failure::{note, Failure, Outcome};
 use crate::files;
 use crate::house::not_given;
+use crate::names::Names;
 use crate::table;
 use crate::text;
 use crate::tree::{read_names, Tree};
@@ -50,7 +51,7 @@ pub fn make(converted: &Converted) -> Outcome<String> {
 pub fn show_values(values: &Path, names: Option<&Path>) -> Outcome<String> {
     let names = read_names(names, folder_of(values))?;
     let counts = Counts::from_bytes(&files::read(values, Counts::MOST_BYTES)?);
-    accept(&counts)?;
+    accept(&counts, &names)?;
     Ok(text::values::print(&counts, &names))
 }
 
@@ -59,7 +60,7 @@ pub fn make_values(converted: &Converted) -> Outcome<String> {
     let text = files::read_text(&converted.text)?;
     let counts = text::values::parse(&text, &mut names);
     let counts = counts.map_err(|problems| files::wrong_text(&converted.text, &problems))?;
-    accept(&counts)?;
+    accept(&counts, &names)?;
     let bytes = counts.bytes();
     let values = bytes.len() / 8;
     for symbol in (0..values).filter(|&symbol| counts.given(symbol).is_none()) {
@@ -73,9 +74,11 @@ fn folder_of(path: &Path) -> &Path {
 }
 
 /// Puts question 9 to values, by a table that no other question refuses: a block of no time.
-fn accept(counts: &Counts) -> Outcome {
+fn accept(counts: &Counts, names: &Names) -> Outcome {
     let block = [0; volefleece::RECORD_BYTES];
-    volefleece::figure(&block, &counts.lent())
-        .map(|_| ())
-        .map_err(Failure::from)
+    let refused = volefleece::figure(&block, &counts.lent()).err();
+    refused.map_or(Ok(()), |refusal| {
+        let hint = counts.fault(names);
+        Err(Failure::Refused { refusal, hint })
+    })
 }

@@ -4,6 +4,7 @@
 pub mod random;
 
 use std::fs;
+use std::os::unix::process::CommandExt;
 use std::process::{Command, Stdio};
 
 use assert_cmd::assert::OutputAssertExt;
@@ -47,9 +48,19 @@ pub fn remove(folder: &Folder, name: &str) {
     fs::remove_file(folder.path(name)).expect("removed");
 }
 
+/// The seconds after which a command is ended, so that none keeps its test waiting for ever.
+const MOST_SECONDS: u32 = 60;
+
 /// Runs it to its end with that exit status.
 #[track_caller]
 pub fn ends(command: &mut Command, status: i32) -> Written {
+    let in_time = || {
+        // SAFETY: alarm may be called between fork and exec, and stays set.
+        unsafe { libc::alarm(MOST_SECONDS) };
+        Ok(())
+    };
+    // SAFETY: the closure makes that one call.
+    unsafe { command.pre_exec(in_time) };
     let assert = command.assert().code(status);
     let output = assert.get_output();
     let text = |bytes: &[u8]| String::from_utf8(bytes.to_vec()).expect("text");
