@@ -11,7 +11,7 @@ use crate::files;
 use crate::table::{self, Amount, Node};
 use crate::text::{self, digits};
 use crate::tree::{self, read_names, Tree};
-use crate::words::node_words;
+use crate::words::{node_words, on_one_line};
 
 const TABLE: &str = "values.tab";
 const TEXT: &str = "values.txt";
@@ -175,7 +175,8 @@ fn read_counts(folder: &Path, tree: &mut Tree) -> Outcome<Counts> {
     }
 }
 
-fn parse_counts(path: &Path, text: &str, tree: &mut Tree) -> Outcome<Counts> {
+/// The values of a text, whose names the tree takes in.
+pub fn parse_counts(path: &Path, text: &str, tree: &mut Tree) -> Outcome<Counts> {
     let parsed = text::values::parse(text, &mut tree.names);
     parsed.map_err(|problems| files::wrong_text(path, &problems))
 }
@@ -186,7 +187,7 @@ fn title(folder: &Path, tree: &Tree) -> String {
             .canonicalize()
             .unwrap_or_else(|_| folder.to_path_buf());
         let name = path.file_name().unwrap_or(path.as_os_str());
-        name.to_string_lossy().into_owned()
+        on_one_line(&name.to_string_lossy())
     };
     tree.names.house().map_or_else(name, String::from)
 }

@@ -47,3 +47,13 @@ fn amount_words(amount: Amount, names: &Names) -> String {
         Amount::Triangular(symbol) => format!("triangular {}", name(symbol)),
     }
 }
+
+/// A folder's name without line ends and other signs that move what is printed.
+pub fn on_one_line(name: &str) -> String {
+    let sign = |sign: char| match sign {
+        '\\' => "\\\\".into(),
+        sign if sign.is_control() => sign.escape_debug().to_string(),
+        sign => sign.to_string(),
+    };
+    name.chars().map(sign).collect()
+}

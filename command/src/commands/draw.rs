@@ -4,12 +4,12 @@ use std::path::Path;
 
 use crate::cli::Draw;
 use crate::counts::Counts;
+use crate::draw;
 use crate::failure::{note, Outcome};
 use crate::files;
-use crate::house::House;
+use crate::house::{parse_counts, House};
 use crate::table::Node;
 use crate::tree::Tree;
-use crate::{draw, text};
 
 pub fn run(arguments: &Draw) -> Outcome<String> {
     let mut house = house(arguments)?;
@@ -43,8 +43,7 @@ fn house(arguments: &Draw) -> Outcome<House> {
 
 fn read_values(path: &Path, tree: &mut Tree) -> Outcome<Counts> {
     if files::is_text(path) {
-        let read = text::values::parse(&files::read_text(path)?, &mut tree.names);
-        read.map_err(|problems| files::wrong_text(path, &problems))
+        parse_counts(path, &files::read_text(path)?, tree)
     } else {
         Ok(Counts::from_bytes(&files::read(path, Counts::MOST_BYTES)?))
     }

@@ -9,6 +9,7 @@ use rayon::prelude::*;
 use super::{quote, Answer};
 use crate::failure::{note, Failure, Outcome};
 use crate::house::{self, not_given, House};
+use crate::words::on_one_line;
 
 /// What is said of one house: its line, what to add on standard error, and the exit status that it alone would have.
 struct Said {
@@ -93,16 +94,6 @@ fn say(root: &Path, folder: &Path) -> Said {
         notes,
         status,
     }
-}
-
-/// A folder's name without line ends and other signs that move what is printed.
-fn on_one_line(name: &str) -> String {
-    let sign = |sign: char| match sign {
-        '\\' => "\\\\".into(),
-        sign if sign.is_control() => sign.escape_debug().to_string(),
-        sign => sign.to_string(),
-    };
-    name.chars().map(sign).collect()
 }
 
 fn quote_house(folder: &Path, name: &str, notes: &mut Vec<String>) -> Outcome<String> {
