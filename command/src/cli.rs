@@ -5,7 +5,8 @@ use std::path::PathBuf;
 use clap::{Args, Parser, Subcommand};
 use clap_complete::Shell;
 
-use crate::house::Setting;
+use crate::failure::Outcome;
+use crate::house::{House, Setting};
 
 /// Quotes the most processor cycles a battery door lock can stay awake for one opening.
 #[derive(Debug, Parser)]
@@ -50,7 +51,10 @@ pub enum Command {
     #[command(after_help = "Example:\n  volefleece make tree.txt -o tree.tab")]
     Make(Converted),
     /// Print values as text, or make them from text
-    #[command(subcommand)]
+    #[command(
+        subcommand,
+        after_help = "Example:\n  volefleece values show samples/house/values.tab >values.txt"
+    )]
     Values(Values),
     /// Draw a tree as a picture
     #[command(
@@ -85,6 +89,13 @@ pub struct Settings {
     /// Set a count or a time, by its name or its symbol's number; may be given again
     #[arg(long = "set", value_name = "NAME=NUMBER")]
     pub set: Vec<Setting>,
+}
+
+impl Settings {
+    /// Sets them, and answers the symbols.
+    pub fn apply(&self, house: &mut House) -> Outcome<Vec<usize>> {
+        self.set.iter().map(|setting| house.set(setting)).collect()
+    }
 }
 
 #[derive(Debug, Args)]
@@ -127,7 +138,7 @@ pub enum Values {
         after_help = "Example:\n  volefleece values show samples/house/values.tab >values.txt"
     )]
     Show {
-        /// A file of values
+        /// A file of values, or a text
         values: PathBuf,
         /// Take the names from this file, not from names.txt beside the values
         #[arg(long, value_name = "FILE")]
@@ -145,7 +156,7 @@ pub struct Draw {
     /// The picture to write, replaced whole or not at all
     #[arg(short, long, value_name = "FILE.svg")]
     pub output: PathBuf,
-    /// Take the counts from this file of values or text, not from the tree's folder
+    /// Take the counts from this file of values or text; those of a folder are its own otherwise
     #[arg(long, value_name = "FILE")]
     pub values: Option<PathBuf>,
     #[command(flatten)]

@@ -1,8 +1,12 @@
 //! The values that a desk gives: for each symbol a number or none. One that is not given counts as the largest.
 
+use std::path::Path;
+
 use volefleece::{ceiling, VALUES};
 
+use crate::failure::Outcome;
 use crate::names::Names;
+use crate::{files, text};
 
 const VALUE_BYTES: usize = 8;
 
@@ -39,15 +43,25 @@ impl Counts {
         counts
     }
 
+    /// What a file gives: values, or a text whose names are taken in beside those that are known.
+    pub fn read(path: &Path, names: &mut Names) -> Outcome<Self> {
+        if files::is_text(path) {
+            Self::from_text(path, &files::read_text(path)?, names)
+        } else {
+            Ok(Self::from_bytes(&files::read(path, Self::MOST_BYTES)?))
+        }
+    }
+
+    pub fn from_text(path: &Path, text: &str, names: &mut Names) -> Outcome<Self> {
+        let parsed = text::values::parse(text, names);
+        parsed.map_err(|problems| files::wrong_text(path, &problems))
+    }
+
     /// The file of values that gives these, as short as can be. A value before the last given one that is not given itself is written as
     /// what it counts.
     pub fn bytes(&self) -> Vec<u8> {
         let last = self.given.iter().rposition(Option::is_some);
-        let values = &self.values()[..last.map_or(0, |last| last + 1)];
-        values
-            .iter()
-            .flat_map(|value| value.to_le_bytes())
-            .collect()
+        bytes_of(&self.values()[..last.map_or(0, |last| last + 1)])
     }
 
     pub fn given(&self, symbol: usize) -> Option<u64> {
@@ -98,4 +112,12 @@ impl Counts {
         let value = values[symbol];
         Some(format!("{name} is {value}, and at most {most} is allowed"))
     }
+}
+
+/// Values as a file has them.
+pub fn bytes_of(values: &[u64]) -> Vec<u8> {
+    values
+        .iter()
+        .flat_map(|value| value.to_le_bytes())
+        .collect()
 }

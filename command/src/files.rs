@@ -2,6 +2,7 @@
 
 use std::fs::{self, File};
 use std::io::{self, Read, Write};
+use std::os::fd::AsFd;
 use std::os::unix::fs::MetadataExt;
 use std::path::{Path, PathBuf};
 
@@ -47,11 +48,16 @@ fn text(path: &Path, bytes: Vec<u8>) -> Outcome<String> {
         );
         return Err(Failure::Problem(message));
     }
-    String::from_utf8(bytes).map_err(|error| {
+    let text = String::from_utf8(bytes).map_err(|error| {
         let before = &error.as_bytes()[..error.utf8_error().valid_up_to()];
         let line = 1 + before.iter().filter(|&&byte| byte == b'\n').count();
         Failure::Problem(format!("{}:{line}: expected text in UTF-8", path.display()))
-    })
+    })?;
+    // Some editors begin a text with this mark.
+    Ok(text
+        .strip_prefix('\u{feff}')
+        .map(String::from)
+        .unwrap_or(text))
 }
 
 /// All that is wrong with a text, each line with its file and place.
@@ -68,13 +74,27 @@ pub fn is_text(path: &Path) -> bool {
     path.extension().is_some_and(|extension| extension == "txt")
 }
 
+/// Refuses to write bytes to a path of a text, which would be read as one.
+pub fn expect_bytes_at(path: &Path) -> Outcome {
+    if !is_text(path) {
+        return Ok(());
+    }
+    let message = "a name that ends in .txt is a text's, and this is to hold bytes";
+    Err(Failure::Problem(format!("{}: {message}", path.display())))
+}
+
+/// Writes to standard output, unlike the standard library's also where that cannot be written at all.
+pub fn write_out(bytes: &[u8]) -> io::Result<()> {
+    let output = io::stdout().as_fd().try_clone_to_owned()?;
+    File::from(output).write_all(bytes)
+}
+
 /// Puts bytes in a file's place: it has these or, where that fails or is ended before, what it had. What is no plain file, as a pipe, and
 /// what others write to as well, as standard output, is written directly. Answers what is left to say on standard output.
 pub fn replace(path: &Path, bytes: &[u8], said: String) -> Outcome<String> {
     let to_output = is_standard_output(path);
     let written = if to_output {
-        let mut output = io::stdout();
-        output.write_all(bytes).and_then(|()| output.flush())
+        write_out(bytes)
     } else {
         replace_or_write(path, bytes)
     };
@@ -121,7 +141,7 @@ fn behind_links(path: &Path) -> PathBuf {
 }
 
 /// The folder that a file is in.
-fn folder_of(path: &Path) -> &Path {
+pub fn folder_of(path: &Path) -> &Path {
     match path.parent() {
         Some(folder) if folder != Path::new("") => folder,
         _ => Path::new("."),

@@ -8,8 +8,8 @@ use volefleece::{ceiling, Quote, Refusal, MOST_TRIANGULAR};
 use crate::counts::Counts;
 use crate::failure::{note, Failure, Outcome};
 use crate::files;
-use crate::table::{self, Amount, Node};
-use crate::text::{self, digits};
+use crate::table::{self, Amount, Kind, Node};
+use crate::text::digits;
 use crate::tree::{self, read_names, Tree};
 use crate::words::{node_words, on_one_line};
 
@@ -65,13 +65,16 @@ impl House {
         })
     }
 
-    /// Sets a symbol, by its name or its number.
-    pub fn set(&mut self, setting: &Setting) -> Outcome {
+    /// Sets a symbol, by its name or its number, and answers which.
+    pub fn set(&mut self, setting: &Setting) -> Outcome<usize> {
         let Setting { name, value } = setting;
         let symbol = self.tree.names.find_or_number(name).ok_or_else(|| {
-            let names = self.tree.names.symbols().join(", ");
+            let names = match &self.tree.names.symbols()[..] {
+                [] => "none has a name here, but each its number".into(),
+                names => format!("names here: {}", names.join(", ")),
+            };
             Failure::Problem(format!(
-                "--set {name}={value}: no symbol is called {name} (names here: {names})"
+                "--set {name}={value}: no symbol is called {name} ({names})"
             ))
         })?;
         let most = ceiling(symbol);
@@ -81,7 +84,32 @@ impl House {
             ))
         })?;
         self.counts.set(symbol, number);
-        Ok(())
+        Ok(symbol)
+    }
+
+    /// Says which of these symbols, that were set, the tree has no use for.
+    pub fn note_unused(&self, nodes: &[Node], set: &[usize]) {
+        let used = table::symbols(nodes);
+        for &symbol in set.iter().filter(|symbol| !used.contains(symbol)) {
+            let name = self.tree.names.symbol(symbol);
+            note(&format!("{name} is set, and this tree does not use it"));
+        }
+    }
+
+    /// Drops the branches' names where they name a child that the root choice has not: they are another tree's. Says so.
+    pub fn drop_wrong_branches(&mut self, nodes: &[Node]) -> Option<String> {
+        let last = self.tree.names.last_branch()?;
+        let children = match nodes[0].kind {
+            Kind::Choice => usize::from(nodes[0].children),
+            _ => 0,
+        };
+        if last < children {
+            return None;
+        }
+        self.tree.names = self.tree.names.without_branches();
+        Some(format!(
+            "branch {last} has a name, and no choice at the root has such a child: branches go without names"
+        ))
     }
 
     /// Asks for the values that the tree uses and nothing gives, on a terminal; elsewhere says that they count high.
@@ -140,10 +168,13 @@ impl House {
 
     /// The branch by its child's name, or else by the child's own words.
     pub fn branch_name(&self, branch: u8) -> String {
+        let name = self.tree.names.branch(branch.into());
+        name.map_or_else(|| self.branch_words(branch), String::from)
+    }
+
+    /// The words of the root choice's child.
+    pub fn branch_words(&self, branch: u8) -> String {
         let child = usize::from(branch);
-        if let Some(name) = self.tree.names.branch(child) {
-            return name.into();
-        }
         let records = table::records(&self.tree.table);
         let (places, _) = table::places(&records);
         let at = places
@@ -163,7 +194,7 @@ fn read_counts(folder: &Path, tree: &mut Tree) -> Outcome<Counts> {
     let table = table.map(|bytes| Counts::from_bytes(&bytes));
     let from_text = files::read_text_if_there(&text)?;
     let from_text = from_text
-        .map(|read| parse_counts(&text, &read, tree))
+        .map(|read| Counts::from_text(&text, &read, &mut tree.names))
         .transpose()?;
     match (table, from_text) {
         (Some(table), Some(counts)) if table.lent() != counts.lent() => Err(Failure::Problem(format!(
@@ -173,12 +204,6 @@ fn read_counts(folder: &Path, tree: &mut Tree) -> Outcome<Counts> {
         (_, Some(counts)) | (Some(counts), None) => Ok(counts),
         (None, None) => Ok(Counts::default()),
     }
-}
-
-/// The values of a text, whose names the tree takes in.
-pub fn parse_counts(path: &Path, text: &str, tree: &mut Tree) -> Outcome<Counts> {
-    let parsed = text::values::parse(text, &mut tree.names);
-    parsed.map_err(|problems| files::wrong_text(path, &problems))
 }
 
 fn title(folder: &Path, tree: &Tree) -> String {

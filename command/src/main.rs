@@ -1,12 +1,13 @@
 //! The command `volefleece`.
 
-use std::io::{self, Write};
+use std::io;
 use std::process::ExitCode;
 
 use clap::Parser;
 use volefleece_command::cli::Cli;
 use volefleece_command::commands::{self, Answer};
 use volefleece_command::failure::{note, Failure};
+use volefleece_command::files;
 
 fn main() -> ExitCode {
     let cli = match Cli::try_parse() {
@@ -27,23 +28,23 @@ fn main() -> ExitCode {
             return problem.status().into();
         }
     };
-    let mut output = io::stdout();
-    ending(output.write_all(answer.text.as_bytes()), answer.status)
+    ending(files::write_out(answer.text.as_bytes()), answer.status)
 }
 
 /// Says how the command is used, or that it was used wrongly.
 fn explain(said: &clap::Error) -> ExitCode {
-    let printed = said.print();
+    let text = said.render().to_string();
     if said.use_stderr() {
+        note(text.trim_end());
         ExitCode::from(2)
     } else {
-        ending(printed, 0)
+        ending(files::write_out(text.as_bytes()), 0)
     }
 }
 
-/// That exit status, if standard output was written and the rest of it can be.
+/// That exit status, if standard output was written.
 fn ending(written: io::Result<()>, status: u8) -> ExitCode {
-    match written.and_then(|()| io::stdout().flush()) {
+    match written {
         Ok(()) => status.into(),
         Err(error) => {
             note(&format!(

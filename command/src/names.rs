@@ -44,19 +44,23 @@ const WORDS: [&str; 14] = [
 impl Names {
     /// Names something, if that has no other name.
     pub fn add(&mut self, named: Named, name: &str) -> Result<(), String> {
-        if let Named::Symbol(symbol) = named {
-            self.may_be_called(symbol, name)?;
+        if name.chars().any(char::is_control) {
+            return Err(format!(
+                "{name:?} is no name: it has signs that cannot be printed"
+            ));
         }
         let old = match named {
-            Named::Symbol(symbol) => self.symbols.insert(symbol, name.into()),
-            Named::Branch(child) => self.branches.insert(child, name.into()),
-            Named::House => self.house.replace(name.into()),
-        };
-        match old {
-            Some(old) if old != name => {
-                Err(format!("{} is called both {old} and {name}", shown(named)))
+            Named::Symbol(symbol) => {
+                self.may_be_called(symbol, name)?;
+                self.symbols.entry(symbol).or_insert_with(|| name.into())
             }
-            _ => Ok(()),
+            Named::Branch(child) => self.branches.entry(child).or_insert_with(|| name.into()),
+            Named::House => self.house.get_or_insert_with(|| name.into()),
+        };
+        if old == name {
+            Ok(())
+        } else {
+            Err(format!("{} is called both {old} and {name}", shown(named)))
         }
     }
 
@@ -77,21 +81,20 @@ impl Names {
         }
     }
 
-    /// Takes in the names of another text, which must not contradict these.
-    pub fn join(&mut self, other: &Names) -> Result<(), String> {
-        let symbols = other
-            .symbols
+    /// Takes in what another tree calls these symbols, which must not contradict what they are called here.
+    pub fn take(&mut self, other: &Names, symbols: &[usize]) -> Result<(), String> {
+        let named = symbols
             .iter()
-            .map(|(&symbol, name)| (Named::Symbol(symbol), name));
-        let branches = other
-            .branches
-            .iter()
-            .map(|(&child, name)| (Named::Branch(child), name));
-        let house = other.house.iter().map(|name| (Named::House, name));
-        for (named, name) in symbols.chain(branches).chain(house) {
-            self.add(named, name)?;
+            .filter_map(|symbol| other.symbols.get_key_value(symbol));
+        for (&symbol, name) in named {
+            self.add(Named::Symbol(symbol), name)?;
         }
         Ok(())
+    }
+
+    /// The last child of the root choice that has a name.
+    pub fn last_branch(&self) -> Option<usize> {
+        self.branches.keys().next_back().copied()
     }
 
     pub fn without_branches(&self) -> Names {

@@ -44,8 +44,7 @@ impl Tree {
             let names = read_names(names, path)?;
             return Self::read_from(path, names);
         }
-        let beside = path.parent().unwrap_or(Path::new(""));
-        let names = read_names(names, beside)?;
+        let names = read_names(names, files::folder_of(path))?;
         if files::is_text(path) {
             Self::from_text(path, &files::read_text(path)?, names)
         } else {
@@ -55,7 +54,7 @@ impl Tree {
 
     /// The tree of a text, whatever its file is called.
     pub fn read_text(path: &Path, names: Option<&Path>) -> Outcome<Self> {
-        let names = read_names(names, path.parent().unwrap_or(Path::new("")))?;
+        let names = read_names(names, files::folder_of(path))?;
         Self::from_text(path, &files::read_text(path)?, names)
     }
 

@@ -57,3 +57,9 @@ pub fn on_one_line(name: &str) -> String {
     };
     name.chars().map(sign).collect()
 }
+
+/// A number of things.
+pub fn counted(number: usize, thing: &str) -> String {
+    let ending = if number == 1 { "" } else { "s" };
+    format!("{number} {thing}{ending}")
+}

@@ -175,7 +175,7 @@ fn long_names_and_large_numbers_make_boxes_higher_and_not_much_wider() {
 #[test]
 fn letters_that_xml_cannot_hold_are_replaced() {
     let mut case = Case::plain(Tree::new(Kind::Choice, vec![Tree::block(7)]));
-    add(&mut case.names, Named::Branch(0), "a\u{1}b\u{ffff}c");
+    add(&mut case.names, Named::Branch(0), "a\u{fffe}b\u{ffff}c");
     let label = case.draw().nodes[1].label();
     assert_eq!(label, "branch0a\u{fffd}b\u{fffd}cblock7");
 }

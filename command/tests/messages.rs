@@ -167,7 +167,7 @@ fn indents() {
     );
     tree(
         "sequence\n    block 1\n  block 2",
-        &["3:3: expected the indent of a line above, found 2 spaces"],
+        &["3:3: expected the indent of a line above, found one of 2"],
     );
     tree(
         "block 1\nblock 2\nblock 3",
@@ -318,6 +318,21 @@ fn headers() {
     names(
         "symbol 3 x\nsymbol 4 x",
         &["2:10: symbol 3 is called x already"],
+    );
+    names(
+        "branch 3 a\u{7}b\nhouse \u{1b}[2J",
+        &[
+            "1:10: \"a\\u{7}b\" is no name: it has signs that cannot be printed",
+            "2:7: \"\\u{1b}[2J\" is no name: it has signs that cannot be printed",
+        ],
+    );
+    // What is contradicted keeps its first name, so that the lines after it are judged by that.
+    names(
+        "symbol 0 x\nsymbol 0 y\nsymbol 1 x",
+        &[
+            "2:10: symbol 0 is called both x and y",
+            "3:10: symbol 0 is called x already",
+        ],
     );
     names(
         "symbol 3 time-16",

@@ -23,7 +23,7 @@ const ENTRANCE_VALUES: &str = "cards 40\nretries 3\nradio 90000\n";
 const ENTRANCE_LINES: &str = "\
 house Lakeside, the side entrance
 figure 91200 cycles
-branch radio (child 1 of the choice at the root)
+branch radio (child 1 of the choice at the root: sequence)
 count cards 40
 time radio 90000 cycles
 ";
@@ -85,7 +85,7 @@ fn the_same_as_json() {
     let entrance = json!({
         "house": "Lakeside, the side entrance",
         "figure": 91_200,
-        "branch": {"child": 1, "name": "radio"},
+        "branch": {"child": 1, "name": "radio", "node": "sequence"},
         "counts": counts,
     });
     assert_eq!(json_of(&house("entrance"), 0), entrance);
@@ -189,13 +189,16 @@ fn settings_override_by_name_and_by_number() {
         (&["cards=269", "radio=100000"], 101_200, "radio"),
         (&["cards=1", "0=269"], 91_520, "card"),
         (&["cards=1000000"], 340_000_060, "card"),
-        (&["retries=9", "31=0"], 91_200, "radio"),
     ] {
         let said = ends(folder.command().args(with_set(settings)), 0);
         let start = format!("figure {figure} cycles\nbranch {branch} ");
         assert!(said.output.contains(&start), "{settings:?} {}", said.output);
         assert_eq!(said.error, "");
     }
+    let said = ends(folder.command().args(with_set(&["retries=9", "31=0"])), 0);
+    assert_eq!(said.output, ENTRANCE_LINES);
+    let unused = "is set, and this tree does not use it\n";
+    assert_eq!(said.error, format!("retries {unused}time-31 {unused}"));
 }
 
 #[test]

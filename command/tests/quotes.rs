@@ -2,6 +2,7 @@
 
 mod common;
 
+use std::ffi::CString;
 use std::fs;
 use std::os::unix::fs::{symlink, MetadataExt, PermissionsExt};
 use std::os::unix::process::CommandExt;
@@ -260,12 +261,51 @@ fn a_house_without_a_tree_is_refused() {
     assert_eq!(said.error, hint);
 }
 
+/// A pipe that nobody writes to would keep the other houses waiting.
+#[test]
+fn a_pipe_is_no_house_file() {
+    let folder = folder();
+    put(&folder, &format!("good/{TREE}"), block(7));
+    folder.put_folder("pipe");
+    let path = folder.path(&format!("pipe/{TREE}"));
+    let path = CString::new(path.into_os_string().into_encoded_bytes()).expect("a path");
+    // SAFETY: the path ends with a zero and is only read.
+    assert_eq!(unsafe { libc::mkfifo(path.as_ptr(), 0o600) }, 0);
+    let said = quotes(&folder, 2);
+    let lines = "good: figure 7 branch 255\npipe: cannot be read\n";
+    assert_eq!(said.output, lines);
+    assert_eq!(said.error, "./pipe/tree.tab: no plain file\n");
+}
+
 // The page.
 
 #[track_caller]
 fn page(folder: &Folder, arguments: &[&str]) -> String {
     let mut command: Command = folder.command();
     ends(command.args(["contract", "."]).args(arguments), 0).output
+}
+
+const ENTRANCE_PAGE: &str = "\
+Waking figure for one opening
+
+house Lakeside, the side entrance
+figure 91200 cycles
+branch radio (child 1 of the choice at the root: sequence)
+count cards 40
+time radio 90000 cycles
+
+No opening that this tree admits with these counts keeps the lock's processor awake for more cycles than the figure.
+The figure is exactly what the published method gives for this tree and these counts, no lower and no higher.
+
+tree sha256 01faf270b2ba44b5df7f94350411713c48e5b97bd37321ebf8bc6ae5cd8d5e67
+counts sha256 6c69caec53ebd845e63bb3a989fc45b4c794043b24e6b355f8c8920b44c73052
+";
+
+#[test]
+fn the_page_word_by_word() {
+    let version = env!("CARGO_PKG_VERSION");
+    let expected = format!("{ENTRANCE_PAGE}volefleece {version}\n");
+    answers(&house("entrance"), &["contract", "."], &expected);
 }
 
 #[test]

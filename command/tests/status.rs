@@ -276,15 +276,20 @@ fn a_file_that_cannot_be_written_ends_with_2() {
 fn standard_output_that_cannot_be_written_ends_with_2() {
     let help: [&[&str]; 3] = [&["--help"], &["quote", "--help"], &["--version"]];
     for arguments in ANSWERED.into_iter().chain(help) {
-        let folder = with_files();
-        let mut command = folder.command_in_shell("", ">/dev/full");
-        let written = ends(command.args(arguments), 2);
-        let told = "volefleece: standard output cannot be written: No space left on device";
-        assert!(
-            written.error.starts_with(told),
-            "{arguments:?} {}",
-            written.error
-        );
+        for (behind, why) in [
+            (">/dev/full", "No space left on device"),
+            ("1</dev/null", "Bad file descriptor"),
+        ] {
+            let folder = with_files();
+            let mut command = folder.command_in_shell("", behind);
+            let written = ends(command.args(arguments), 2);
+            let told = format!("volefleece: standard output cannot be written: {why}");
+            assert!(
+                written.error.contains(&told),
+                "{arguments:?} {}",
+                written.error
+            );
+        }
     }
 }
 

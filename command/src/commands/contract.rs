@@ -4,6 +4,7 @@ use sha2::{Digest, Sha256};
 
 use super::quote;
 use crate::cli::Counted;
+use crate::counts::bytes_of;
 use crate::failure::Outcome;
 
 /// What the figure promises, as proved of the library's call: that no admitted run costs more, and that it is the method's.
@@ -15,12 +16,7 @@ The figure is exactly what the published method gives for this tree and these co
 pub fn run(counted: &Counted) -> Outcome<String> {
     let quoted = quote::quote(counted, true)?;
     let house = &quoted.house;
-    let values: Vec<u8> = house
-        .counts
-        .values()
-        .iter()
-        .flat_map(|value| value.to_le_bytes())
-        .collect();
+    let values = bytes_of(&house.counts.values());
     Ok(format!(
         "Waking figure for one opening\n\n{}\n{PROMISE}\ntree sha256 {}\ncounts sha256 {}\nvolefleece {}\n",
         quoted.lines(),

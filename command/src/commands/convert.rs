@@ -12,6 +12,7 @@ use crate::names::Names;
 use crate::table;
 use crate::text;
 use crate::tree::{read_names, Tree};
+use crate::words::counted;
 
 pub fn check(source: &Source) -> Outcome<String> {
     let tree = Tree::read(&source.tree, source.names.as_deref())?;
@@ -42,35 +43,32 @@ pub fn show(source: &Source) -> Outcome<Answer> {
 }
 
 pub fn make(converted: &Converted) -> Outcome<String> {
+    files::expect_bytes_at(&converted.output)?;
     let tree = Tree::read_text(&converted.text, converted.names.as_deref())?;
-    let records = tree.check()?.len();
-    let said = format!("made {records} records");
+    let said = format!("made {}", counted(tree.check()?.len(), "record"));
     files::replace(&converted.output, &tree.table, said)
 }
 
 pub fn show_values(values: &Path, names: Option<&Path>) -> Outcome<String> {
-    let names = read_names(names, folder_of(values))?;
-    let counts = Counts::from_bytes(&files::read(values, Counts::MOST_BYTES)?);
+    let mut names = read_names(names, files::folder_of(values))?;
+    let counts = Counts::read(values, &mut names)?;
     accept(&counts, &names)?;
     Ok(text::values::print(&counts, &names))
 }
 
 pub fn make_values(converted: &Converted) -> Outcome<String> {
-    let mut names = read_names(converted.names.as_deref(), folder_of(&converted.text))?;
-    let text = files::read_text(&converted.text)?;
-    let counts = text::values::parse(&text, &mut names);
-    let counts = counts.map_err(|problems| files::wrong_text(&converted.text, &problems))?;
+    files::expect_bytes_at(&converted.output)?;
+    let path = &converted.text;
+    let mut names = read_names(converted.names.as_deref(), files::folder_of(path))?;
+    let counts = Counts::from_text(path, &files::read_text(path)?, &mut names)?;
     accept(&counts, &names)?;
     let bytes = counts.bytes();
     let values = bytes.len() / 8;
     for symbol in (0..values).filter(|&symbol| counts.given(symbol).is_none()) {
         note(&not_given(&names.symbol(symbol), symbol));
     }
-    files::replace(&converted.output, &bytes, format!("made {values} values"))
-}
-
-fn folder_of(path: &Path) -> &Path {
-    path.parent().unwrap_or(Path::new(""))
+    let said = format!("made {}", counted(values, "value"));
+    files::replace(&converted.output, &bytes, said)
 }
 
 /// Puts question 9 to values, by a table that no other question refuses: a block of no time.

@@ -1,25 +1,27 @@
 //! `volefleece draw`.
 
-use std::path::Path;
-
 use crate::cli::Draw;
 use crate::counts::Counts;
 use crate::draw;
 use crate::failure::{note, Outcome};
 use crate::files;
-use crate::house::{parse_counts, House};
+use crate::house::House;
 use crate::table::Node;
 use crate::tree::Tree;
+use crate::words::counted;
 
 pub fn run(arguments: &Draw) -> Outcome<String> {
     let mut house = house(arguments)?;
-    for setting in &arguments.settings.set {
-        house.set(setting)?;
-    }
+    let set = arguments.settings.apply(&mut house)?;
     let nodes = house.tree.check()?;
+    house.note_unused(&nodes, &set);
+    house
+        .drop_wrong_branches(&nodes)
+        .iter()
+        .for_each(|line| note(line));
     let branch = branch(&mut house, &nodes)?;
     let picture = draw::svg(&house.tree.table, &house.tree.names, branch);
-    let said = format!("drew {} records", nodes.len());
+    let said = format!("drew {}", counted(nodes.len(), "record"));
     files::replace(&arguments.output, picture.as_bytes(), said)
 }
 
@@ -36,22 +38,14 @@ fn house(arguments: &Draw) -> Outcome<House> {
         }
     };
     if let Some(values) = &arguments.values {
-        house.counts = read_values(values, &mut house.tree)?;
+        house.counts = Counts::read(values, &mut house.tree.names)?;
     }
     Ok(house)
 }
 
-fn read_values(path: &Path, tree: &mut Tree) -> Outcome<Counts> {
-    if files::is_text(path) {
-        parse_counts(path, &files::read_text(path)?, tree)
-    } else {
-        Ok(Counts::from_bytes(&files::read(path, Counts::MOST_BYTES)?))
-    }
-}
-
 /// The child of the root choice that sets the quote, where counts are given and the library quotes the tree with them.
 fn branch(house: &mut House, nodes: &[Node]) -> Outcome<Option<usize>> {
-    if !house.counts.any() {
+    if !house.counts.any() && !house.counts.has_wrong_length() {
         return Ok(None);
     }
     house.complete(nodes, false)?;

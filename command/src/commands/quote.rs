@@ -5,7 +5,7 @@ use volefleece::{Quote, FIRST_TIME};
 
 use super::Answer;
 use crate::cli;
-use crate::failure::{Failure, Outcome};
+use crate::failure::{note, Failure, Outcome};
 use crate::house::House;
 use crate::table::{self, Node};
 
@@ -54,10 +54,13 @@ pub fn quote(counted: &cli::Counted, ask: bool) -> Outcome<Quoted> {
 /// The house with all the counts that its tree uses, and the nodes of that tree.
 pub fn complete(counted: &cli::Counted, ask: bool) -> Outcome<(House, Vec<Node>)> {
     let mut house = House::read(&counted.house, None)?;
-    for setting in &counted.settings.set {
-        house.set(setting)?;
-    }
+    let set = counted.settings.apply(&mut house)?;
     let nodes = house.tree.check()?;
+    house.note_unused(&nodes, &set);
+    house
+        .drop_wrong_branches(&nodes)
+        .iter()
+        .for_each(|line| note(line));
     house.complete(&nodes, ask)?;
     Ok((house, nodes))
 }
@@ -71,13 +74,7 @@ pub fn line(quote: &Quote) -> String {
 impl Quoted {
     /// House, figure, branch and counts, a line each.
     pub fn lines(&self) -> String {
-        let branch = match self.quote.branch {
-            Some(branch) => format!(
-                "{} (child {branch} of the choice at the root)",
-                self.house.branch_name(branch)
-            ),
-            None => "none (no choice at the root)".into(),
-        };
+        let branch = self.branch_line();
         let mut lines = format!(
             "house {}\nfigure {} cycles\nbranch {branch}\n",
             self.house.title, self.quote.figure
@@ -97,11 +94,31 @@ impl Quoted {
         lines
     }
 
+    /// The branch by its name and, since names may be of another tree, by its child's words.
+    fn branch_line(&self) -> String {
+        let Some(branch) = self.quote.branch else {
+            return "none (no choice at the root)".into();
+        };
+        let (name, words) = (
+            self.house.branch_name(branch),
+            self.house.branch_words(branch),
+        );
+        let words = if name == words {
+            String::new()
+        } else {
+            format!(": {words}")
+        };
+        format!("{name} (child {branch} of the choice at the root{words})")
+    }
+
     fn json(&self) -> Value {
-        let branch = self
-            .quote
-            .branch
-            .map(|branch| json!({"child": branch, "name": self.house.branch_name(branch)}));
+        let branch = self.quote.branch.map(|branch| {
+            let (name, node) = (
+                self.house.branch_name(branch),
+                self.house.branch_words(branch),
+            );
+            json!({"child": branch, "name": name, "node": node})
+        });
         let counts: Vec<Value> = table::symbols(&self.nodes)
             .into_iter()
             .map(|symbol| self.count(symbol))

@@ -9,6 +9,7 @@ use rayon::prelude::*;
 use super::{quote, Answer};
 use crate::failure::{note, Failure, Outcome};
 use crate::house::{self, not_given, House};
+use crate::tree;
 use crate::words::on_one_line;
 
 /// What is said of one house: its line, what to add on standard error, and the exit status that it alone would have.
@@ -96,9 +97,29 @@ fn say(root: &Path, folder: &Path) -> Said {
     }
 }
 
+/// A pipe or a device could keep the whole run waiting.
+fn expect_files(folder: &Path) -> Outcome {
+    for name in house::FILES.into_iter().chain([tree::NAMES]) {
+        let path = folder.join(name);
+        if fs::metadata(&path).is_ok_and(|found| !found.is_file()) {
+            return Err(Failure::Problem(format!(
+                "{}: no plain file",
+                path.display()
+            )));
+        }
+    }
+    Ok(())
+}
+
 fn quote_house(folder: &Path, name: &str, notes: &mut Vec<String>) -> Outcome<String> {
-    let house = House::read(folder, None)?;
+    expect_files(folder)?;
+    let mut house = House::read(folder, None)?;
     let nodes = house.tree.check()?;
+    notes.extend(
+        house
+            .drop_wrong_branches(&nodes)
+            .map(|line| format!("{name}: {line}")),
+    );
     let quote = house.quote()?;
     for symbol in house.absent(&nodes) {
         notes.push(format!(

@@ -1,7 +1,8 @@
 //! `volefleece simplify` and `graft`: the calls that write a tree.
 
 use crate::cli::{Graft, Simplify};
-use crate::failure::{Failure, Outcome};
+use crate::failure::{note, Failure, Outcome};
+use crate::table;
 use crate::tree::Tree;
 
 pub fn simplify(arguments: &Simplify) -> Outcome<String> {
@@ -17,6 +18,9 @@ pub fn simplify(arguments: &Simplify) -> Outcome<String> {
     };
     // Children move, so that the branches' names would be wrong.
     let names = tree.names.without_branches();
+    if tree.names.last_branch().is_some() {
+        note("the branches' names are not those of the simplified tree's children");
+    }
     let said = format!("simplified {length} steps {} {ending}", simplified.steps);
     Tree::from_answer(simplified.table, names).write(&arguments.output, said)
 }
@@ -32,9 +36,14 @@ pub fn graft(arguments: &Graft) -> Outcome<String> {
     })?;
     // The host's questions come first, then the sent table's, and a hint is of the one that is refused.
     host.check()?;
-    sent.check()?;
+    let used = table::symbols(&sent.check()?);
+    let mut names = host.names.clone();
+    names.take(&sent.names, &used).map_err(|why| {
+        let advice = "host and sent tree must mean the same by a symbol that the sent tree uses";
+        Failure::Problem(format!("{}: {why}: {advice}", arguments.sent.display()))
+    })?;
     let table = volefleece::graft(&host.table, &sent.table, symbol as u64)?;
     let length = table.len();
     let said = format!("grafted {length}");
-    Tree::from_answer(table, host.names).write(&arguments.output, said)
+    Tree::from_answer(table, names).write(&arguments.output, said)
 }

@@ -96,7 +96,7 @@ impl<'t> Outline<'t> {
         }
         match (sibling, self.open.last()) {
             (Some((_, within)), _) if within != indent => {
-                let message = format!("expected the indent of a line above, found {indent} spaces");
+                let message = format!("expected the indent of a line above, found one of {indent}");
                 self.problems.push(first.problem(message));
             }
             (Some(_), None) => self

@@ -1,6 +1,6 @@
 //! A table as text.
 
-use volefleece::RECORD_BYTES;
+use volefleece::{MOST_TABLE, RECORD_BYTES};
 
 use crate::failure::Failure;
 use crate::names::Names;
@@ -54,7 +54,9 @@ pub fn print_refused(table: &[u8], names: &Names, failure: &Failure) -> String {
         lines.push(format!("{before}{words} # record {at}"));
     }
     let left = &table[records.len() * RECORD_BYTES..];
-    if !left.is_empty() {
+    if table.len() > MOST_TABLE {
+        lines.push("# More follows.".into());
+    } else if !left.is_empty() {
         lines.push(format!("{} # no whole record", hexadecimal(left)));
     }
     whole(&lines)
