@@ -534,19 +534,15 @@ fn the_command_gets_the_arguments_unchanged() {
             "<-><--a b><><*><$HOME><\\c><two\nlines><-->",
         ),
         (&["-h"], "<-h>"),
+        (&["--help"], "<--help>"),
+        (&["--", "x"], "<--><x>"),
+        (&["--x y", "", "h"], "<--x y><><h>"),
     ] {
         quote(&copy, arguments).expect(0, &format!("<quote>{last}"));
     }
     let house = copy.path(".").canonicalize().expect("a folder");
     let house = house.join("samples/house").display().to_string();
-    for (arguments, last) in [
-        (&[][..], ""),
-        (&["--help"], "<--help>"),
-        (&["--", "x"], "<--><x>"),
-        (&["--x y", "", "h"], "<--x y><><h>"),
-    ] {
-        quote(&copy, arguments).expect(0, &format!("<quote><{house}>{last}"));
-    }
+    quote(&copy, &[]).expect(0, &format!("<quote><{house}>"));
 }
 
 #[test]
@@ -713,7 +709,7 @@ fn where_nothing_is_missing_setup_does_nothing() {
 
 #[test]
 fn root_installs_what_is_missing_alone() {
-    for missing in [&PACKAGES[..1], &PACKAGES[3..5], &PACKAGES[9..], &PACKAGES] {
+    for missing in [&PACKAGES[..1], &PACKAGES[3..5], &PACKAGES[8..], &PACKAGES] {
         let copy = Repository::new(PROGRAM);
         let there = PACKAGES.iter().filter(|package| !missing.contains(package));
         copy.put_packages(&there.copied().collect::<Vec<_>>());
