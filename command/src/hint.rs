@@ -4,7 +4,10 @@ use std::ops::Range;
 
 use volefleece::{ceiling, Refusal, FIRST_TIME, VALUES};
 
-use crate::table::{places, records, Amount, Ending, Kind, Node, Place, Record, Scope, MOST_LOOPS};
+use crate::table::{
+    places, records, Amount, Ending, Kind, Node, Place, Record, Scope, BLOCK, LOOP, MOST_LOOPS,
+};
+use crate::words::KINDS;
 
 /// A record that shows what was refused, the first of them.
 #[derive(Clone, Debug, PartialEq, Eq)]
@@ -14,11 +17,6 @@ pub struct Hint {
     /// What is wrong with it.
     pub what: String,
 }
-
-/// The kinds by their numbers.
-const KINDS: [&str; 4] = ["block", "sequence", "choice", "loop"];
-const BLOCK: u8 = 0;
-const LOOP: u8 = 3;
 
 const MOST_DEPTH: usize = 32;
 const MOST_WEIGHT: u64 = 255;

@@ -3,6 +3,11 @@
 
 use volefleece::RECORD_BYTES;
 
+pub const BLOCK: u8 = 0;
+pub const SEQUENCE: u8 = 1;
+pub const CHOICE: u8 = 2;
+pub const LOOP: u8 = 3;
+
 const VALUE_IS_SYMBOL: u8 = 1;
 const LIMIT_IS_SYMBOL: u8 = 2;
 const LIMIT_IS_TRIANGULAR: u8 = 4;
@@ -39,6 +44,18 @@ pub enum Kind {
     Sequence,
     Choice,
     Loop(Amount),
+}
+
+impl Kind {
+    /// Byte 0 of its record.
+    pub fn number(self) -> u8 {
+        match self {
+            Kind::Block(_) => BLOCK,
+            Kind::Sequence => SEQUENCE,
+            Kind::Choice => CHOICE,
+            Kind::Loop(_) => LOOP,
+        }
+    }
 }
 
 /// In what a limit counts passes.
@@ -104,10 +121,10 @@ impl Record {
             _ => Amount::Symbol(self.value),
         };
         let kind = match self.kind {
-            0 => Kind::Block(value),
-            1 => Kind::Sequence,
-            2 => Kind::Choice,
-            3 => Kind::Loop(value),
+            BLOCK => Kind::Block(value),
+            SEQUENCE => Kind::Sequence,
+            CHOICE => Kind::Choice,
+            LOOP => Kind::Loop(value),
             _ => return None,
         };
         let node = Node {
@@ -155,12 +172,6 @@ impl Node {
 
     /// The record of this node. A limit does not exceed its field.
     pub fn record(self) -> Record {
-        let kind = match self.kind {
-            Kind::Block(_) => 0,
-            Kind::Sequence => 1,
-            Kind::Choice => 2,
-            Kind::Loop(_) => 3,
-        };
         let (value, value_flags) = self.value().map_or((0, 0), |amount| match amount {
             Amount::Plain(number) => (number, 0),
             Amount::Symbol(symbol) | Amount::Triangular(symbol) => (symbol, VALUE_IS_SYMBOL),
@@ -171,7 +182,7 @@ impl Node {
             Amount::Triangular(symbol) => (symbol, LIMIT_IS_SYMBOL | LIMIT_IS_TRIANGULAR),
         });
         Record {
-            kind,
+            kind: self.kind.number(),
             flags: value_flags | limit_flags,
             children: self.children,
             names: match self.limit.map(|limit| limit.scope) {
@@ -232,7 +243,7 @@ pub fn places(records: &[Record]) -> (Vec<Place>, Ending) {
                 loops: 0,
             },
             Some((parent, children)) => {
-                let is_body = records[*parent].kind == 3 && *children == 0;
+                let is_body = records[*parent].kind == LOOP && *children == 0;
                 let around = &places[*parent];
                 let place = Place {
                     parent: Some((*parent, *children)),

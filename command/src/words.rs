@@ -21,13 +21,11 @@ pub fn kind_words(kind: Kind, names: &Names) -> String {
     }
 }
 
+/// The kinds by their numbers.
+pub const KINDS: [&str; 4] = ["block", "sequence", "choice", "loop"];
+
 pub fn kind_word(kind: Kind) -> &'static str {
-    match kind {
-        Kind::Block(_) => "block",
-        Kind::Sequence => "sequence",
-        Kind::Choice => "choice",
-        Kind::Loop(_) => "loop",
-    }
+    KINDS[usize::from(kind.number())]
 }
 
 pub fn limit_words(limit: Limit, names: &Names) -> String {

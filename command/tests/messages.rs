@@ -134,6 +134,10 @@ fn limits() {
         "block 7 at most 3 per pass",
         &["1:23: expected \"run\" or \"loop\" and its number, found \"pass\""],
     );
+}
+
+#[test]
+fn what_limits_name() {
     for wrong in ["0", "9", "x", "255"] {
         tree(
             &format!("block 7 at most 3 per loop {wrong}"),
@@ -285,6 +289,10 @@ fn headers() {
         "symbol 3 card count",
         &["1:15: expected the end of the line, found \"count\""],
     );
+}
+
+#[test]
+fn names_that_are_none() {
     let letters = "is no name: a letter comes first, then letters, digits, - and _";
     for wrong in ["3", "-x", "a.b", "a/b", "_x", "a=b", "\"x\""] {
         names(
@@ -316,15 +324,19 @@ fn headers() {
         );
     }
     names(
-        "symbol 3 x\nsymbol 4 x",
-        &["2:10: symbol 3 is called x already"],
-    );
-    names(
         "branch 3 a\u{7}b\nhouse \u{1b}[2J",
         &[
             "1:10: \"a\\u{7}b\" is no name: it has signs that cannot be printed",
             "2:7: \"\\u{1b}[2J\" is no name: it has signs that cannot be printed",
         ],
+    );
+}
+
+#[test]
+fn names_that_contradict() {
+    names(
+        "symbol 3 x\nsymbol 4 x",
+        &["2:10: symbol 3 is called x already"],
     );
     // What is contradicted keeps its first name, so that the lines after it are judged by that.
     names(
