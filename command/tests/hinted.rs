@@ -1,0 +1,311 @@
+//! Hints as the command prints them: the file, the record or the line, and the words of the very table that was refused. Which record and
+//! words these are is tested by hints.rs. The seeds are fixed: every run makes the same tables.
+
+mod common;
+
+use common::*;
+use volefleece::Refusal;
+use volefleece_command::hint;
+use volefleece_command::names::Names;
+use volefleece_command::text::tree::print;
+use volefleece_tests::faults;
+use volefleece_tests::programs::{values_file, Folder, TREE, VALUES};
+use volefleece_tests::rng::Rng;
+use volefleece_tests::tables::*;
+
+const BAD: &str = "bad.tab";
+const BAD_TEXT: &str = "bad.txt";
+const GOOD: &str = "good.tab";
+const OUT: &str = "out.tab";
+
+/// A table that is refused by exactly that number, with its hint's record and words.
+struct Refused {
+    table: Vec<u8>,
+    refusal: Refusal,
+    record: usize,
+    what: String,
+}
+
+impl Refused {
+    fn random(rng: &mut Rng, number: u64) -> Self {
+        let tree = faults::tree(rng, &[number]);
+        let table = faults::table(rng, &tree, &[number]);
+        let refusal = volefleece::check(&table).expect_err("a fault");
+        assert_eq!(refusal.number(), number);
+        let hint = hint::find(&table, refusal).expect("a hint");
+        Refused {
+            table,
+            refusal,
+            record: hint.record,
+            what: hint.what,
+        }
+    }
+
+    /// What is said of it as that file.
+    fn said(&self, file: &str) -> String {
+        let (record, byte) = (self.record, self.record * 16);
+        let place = format!("{file}: record {record} (byte {byte})");
+        self.said_at(&place)
+    }
+
+    fn said_at(&self, place: &str) -> String {
+        format!("{}\nhint: {place}: {}\n", self.refusal, self.what)
+    }
+
+    /// Its text with other lines before and between those of its records, and the line of its hint's.
+    fn text(&self, rng: &mut Rng) -> (String, usize) {
+        let printed = print(&self.table, &Names::default());
+        let mut lines = Vec::new();
+        let mut at = Vec::new();
+        for line in printed.lines().filter(|line| !line.starts_with("symbol ")) {
+            for _ in 0..rng.index(3) {
+                lines.push(rng.pick(&["", "# Words.", "  # Words."]));
+            }
+            lines.push(line);
+            if !line.is_empty() && !line.starts_with('#') {
+                at.push(lines.len());
+            }
+        }
+        assert_eq!(at.len() * 16, self.table.len());
+        (lines.join("\n"), at[self.record])
+    }
+}
+
+/// It is refused, says exactly this and writes no file.
+#[track_caller]
+fn says(folder: &Folder, arguments: &[&str], said: &str) {
+    let written = ends(folder.command().args(arguments), 1);
+    assert_eq!(written.output, said, "{arguments:?}");
+    assert_eq!(written.error, "");
+    assert_eq!(folder.read(OUT), None);
+}
+
+/// The lines of a refused table: what is said of it, and then its records.
+#[track_caller]
+fn shows(folder: &Folder, file: &str, said: &str, records: usize) {
+    let written = ends(folder.command().args(["show", file]), 1);
+    let commented: String = said.lines().map(|line| format!("# {line}\n")).collect();
+    let lines = written.output.strip_prefix(&commented);
+    let lines = lines.unwrap_or_else(|| panic!("{said}{}", written.output));
+    let numbers = lines.lines().map(|line| line.rsplit_once(" # record "));
+    let numbers = numbers.map(|parts| parts.expect("a record's number").1.to_owned());
+    let expected = (0..records).map(|record| record.to_string());
+    assert!(numbers.eq(expected), "{lines}");
+}
+
+fn graft<'a>(host: &'a str, sent: &'a str) -> [&'a str; 7] {
+    ["graft", host, sent, "--symbol", "16", "-o", OUT]
+}
+
+#[test]
+fn of_a_table_its_record_and_byte() {
+    let mut rng = Rng::new(1);
+    let folder = folder();
+    folder.write(GOOD, &symbol_block(16));
+    let mut records = Vec::new();
+    for round in 0..18 {
+        let refused = Refused::random(&mut rng, 2 + round % 6);
+        let said = refused.said(BAD);
+        folder.write(BAD, &refused.table);
+        folder.write(TREE, &refused.table);
+        says(&folder, &["check", BAD], &said);
+        says(&folder, &["simplify", BAD, "-o", OUT], &said);
+        says(&folder, &graft(BAD, GOOD), &said);
+        says(&folder, &graft(GOOD, BAD), &said);
+        for command in ["quote", "list", "contract"] {
+            says(&folder, &[command, "."], &refused.said("./tree.tab"));
+        }
+        says(&folder, &["draw", BAD, "-o", OUT], &said);
+        shows(&folder, BAD, &said, refused.table.len() / 16);
+        records.push(refused.record);
+    }
+    records.sort_unstable();
+    records.dedup();
+    assert!(records.len() >= 15, "{records:?}");
+}
+
+/// Of two refused trees the host is named, and the hint is of its table.
+#[test]
+fn of_a_graft_the_refused_tree() {
+    let mut rng = Rng::new(2);
+    let folder = folder();
+    for number in 2..=7 {
+        let [host, sent] = [number, 9 - number].map(|number| Refused::random(&mut rng, number));
+        folder.write("host.tab", &host.table);
+        folder.write("sent.tab", &sent.table);
+        says(
+            &folder,
+            &graft("host.tab", "sent.tab"),
+            &host.said("host.tab"),
+        );
+        says(
+            &folder,
+            &graft("sent.tab", "host.tab"),
+            &sent.said("sent.tab"),
+        );
+    }
+}
+
+/// Texts are refused 5, 6 and 7 alone, beside 1: the other questions' faults have no text.
+#[test]
+fn of_a_text_its_line() {
+    let mut rng = Rng::new(3);
+    let folder = folder();
+    folder.write(GOOD, &symbol_block(16));
+    for round in 0..15 {
+        let refused = Refused::random(&mut rng, 5 + round % 3);
+        let (text, line) = refused.text(&mut rng);
+        let said = refused.said_at(&format!("{BAD_TEXT}:{line}"));
+        folder.write(BAD_TEXT, text.as_bytes());
+        folder.write(TREE_TEXT, text.as_bytes());
+        says(&folder, &["make", BAD_TEXT, "-o", OUT], &said);
+        says(&folder, &["check", BAD_TEXT], &said);
+        says(&folder, &["simplify", BAD_TEXT, "-o", OUT], &said);
+        says(&folder, &graft(BAD_TEXT, GOOD), &said);
+        says(&folder, &graft(GOOD, BAD_TEXT), &said);
+        let of_house = refused.said_at(&format!("./{TREE_TEXT}:{line}"));
+        says(&folder, &["quote", "."], &of_house);
+        shows(&folder, BAD_TEXT, &said, refused.table.len() / 16);
+    }
+}
+
+// Lengths.
+
+fn of_length(hint: &str) -> String {
+    format!("{}\nhint: {hint}\n", Refusal::Length)
+}
+
+#[test]
+fn of_a_length_its_bytes() {
+    let folder = folder();
+    let more = "more than 8192 bytes";
+    for (bytes, has) in [
+        (0, "0 bytes"),
+        (15, "15 bytes"),
+        (17, "17 bytes"),
+        (8_191, "8191 bytes"),
+        (8_193, more),
+        (8_208, more),
+        (20_000, more),
+    ] {
+        folder.write(BAD, &vec![0; bytes]);
+        folder.write(TREE, &vec![0; bytes]);
+        let said = of_length(&format!("{BAD} has {has}"));
+        says(&folder, &["check", BAD], &said);
+        says(&folder, &["simplify", BAD, "-o", OUT], &said);
+        says(&folder, &graft(BAD, BAD), &said);
+        let of_house = of_length(&format!("./{TREE} has {has}"));
+        says(&folder, &["quote", "."], &of_house);
+        says(&folder, &["check", "."], &of_house);
+    }
+}
+
+#[test]
+fn the_longest_table_is_read_whole() {
+    let folder = folder();
+    folder.write(TREE, &long(512));
+    let accepted = "accepted\nrecords 512\ndepth 3\nsymbol 16 time-16\n";
+    answers(&folder, &["check", TREE], accepted);
+    answers(&folder, &["check", "."], accepted);
+}
+
+#[test]
+fn of_no_tree_the_folder() {
+    let folder = folder();
+    folder.put_folder("house");
+    let said = of_length("house has no tree.tab and no tree.txt");
+    says(&folder, &["quote", "house"], &said);
+    says(&folder, &["check", "house"], &said);
+}
+
+/// The line is that of the first node past the most.
+#[test]
+fn of_a_long_text_the_line_of_its_513th_node() {
+    let folder = folder();
+    for nodes in [513, 514] {
+        let printed = print(&long(nodes), &Names::default());
+        let header = printed
+            .lines()
+            .take_while(|line| !line.starts_with("sequence"));
+        let header = header.count();
+        // Three lines more before the nodes, and two between the first two of them.
+        let text = format!("# One.\n# Two.\n# Three.\n{printed}");
+        let text = text.replacen("sequence\n", "sequence\n\n# Words.\n", 1);
+        let line = 3 + header + 2 + 513;
+        folder.write(BAD_TEXT, text.as_bytes());
+        let said =
+            format!("{BAD_TEXT}:{line}: the text has {nodes} nodes, and a table has at most 512");
+        says(&folder, &["check", BAD_TEXT], &of_length(&said));
+        says(&folder, &["make", BAD_TEXT, "-o", OUT], &of_length(&said));
+    }
+}
+
+// Values.
+
+/// Each count is used, one of them as a triangular number, and all are larger than that one may be.
+#[test]
+fn of_question_13_the_triangular_symbol() {
+    let folder = folder();
+    for symbol in 0..16 {
+        let plain = (0..16).filter(|&other| other != symbol);
+        let mut children: Vec<_> = plain
+            .map(|other| match other % 2 {
+                0 => symbol_limited(block(0), other, 255),
+                _ => symbol_repeat(other.into(), block(0), block(0)),
+            })
+            .collect();
+        children.insert(7, triangular_limited(symbol_block(16), symbol, 255));
+        folder.write(TREE, &sequence(&children));
+        let values = (0..17).map(|symbol| 1_001 + symbol);
+        folder.write(VALUES, &values_file(&values.collect::<Vec<_>>()));
+        let said = format!(
+            "{}\nhint: count-{symbol} is {}, and its triangular number is a limit\n",
+            Refusal::TriangularNumber,
+            1_001 + symbol
+        );
+        for command in ["quote", "list"] {
+            says(&folder, &[command, "."], &said);
+        }
+        let set = format!("{symbol}=1000");
+        ends(folder.command().args(["quote", ".", "--set", &set]), 0);
+    }
+}
+
+// The records of a refused table.
+
+#[test]
+fn a_refused_table_has_its_records_numbers_and_names() {
+    let folder = house("house");
+    let body = triangular_limited(symbol_block(16), 1, 1);
+    let mut bad = block(7);
+    bad[0] = 9;
+    let children = [symbol_repeat(0, body, symbol_block(17)), bad];
+    let table = sequence(&children);
+    folder.write(BAD, &table);
+    let hint = hint::find(&table, Refusal::Fields).expect("a hint");
+    let expected = format!(
+        "# {}\n# hint: {BAD}: record 4 (byte 64): {}\n\
+         sequence # record 0\n\
+         \x20 loop cards # record 1\n\
+         \x20   body block radio at most triangular retries per loop 1 # record 2\n\
+         \x20   exit block time-17 # record 3\n\
+         \x20 bytes 09 00 00 00 00 00 00 00 07 00 00 00 00 00 00 00 # record 4\n",
+        Refusal::Fields,
+        hint.what
+    );
+    let written = ends(folder.command().args(["show", BAD]), 1);
+    assert_eq!(written.output, expected);
+    folder.write(
+        "other.txt",
+        b"symbol 0 doors\nsymbol 1 tries\nsymbol 16 antenna\nsymbol 17 bolt\n",
+    );
+    let named = ["cards", "retries", "radio", "time-17"];
+    let others = ["doors", "tries", "antenna", "bolt"];
+    let renamed = named.iter().zip(others);
+    let expected = renamed.fold(expected, |text, (name, other)| text.replace(name, other));
+    let written = ends(
+        folder.command().args(["show", BAD, "--names", "other.txt"]),
+        1,
+    );
+    assert_eq!(written.output, expected);
+}
