@@ -124,6 +124,29 @@ fn of_a_table_its_record_and_byte() {
     assert!(records.len() >= 15, "{records:?}");
 }
 
+/// Among others, after the house's name; and as JSON.
+#[test]
+fn of_a_house_beside_its_line() {
+    let mut rng = Rng::new(4);
+    let folder = folder();
+    put(&folder, "all/a/tree.tab", block(7));
+    for number in 2..=7 {
+        let refused = Refused::random(&mut rng, number);
+        put(&folder, "all/b/tree.tab", &refused.table);
+        let said = refused.said("all/b/tree.tab");
+        let (line, hint) = said.trim_end().split_once('\n').expect("two lines");
+        let written = ends(folder.command().args(["quotes", "all"]), 1);
+        assert_eq!(
+            written.output,
+            format!("a: figure 7 branch 255\nb: {line}\n")
+        );
+        assert_eq!(written.error, format!("b: {hint}\n"));
+        let written = ends(folder.command().args(["quote", "all/b", "--json"]), 1);
+        let json: serde_json::Value = serde_json::from_str(&written.output).expect("JSON");
+        assert_eq!(json["hint"], hint.trim_start_matches("hint: "));
+    }
+}
+
 /// Of two refused trees the host is named, and the hint is of its table.
 #[test]
 fn of_a_graft_the_refused_tree() {
