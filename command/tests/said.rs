@@ -478,3 +478,41 @@ fn values_make_names_each_that_is_not_given() {
         );
     }
 }
+
+// The page, and houses far below.
+
+/// Every word of it down to the digests, which quotes.rs tests.
+#[test]
+fn the_page_says_what_the_figure_promises() {
+    let page = output(&house("entrance"), &["contract", "."]);
+    let expected = "\
+Waking figure for one opening
+
+house Lakeside, the side entrance
+figure 91200 cycles
+branch radio (child 1 of the choice at the root)
+count cards 40
+time radio 90000 cycles
+
+No opening that this tree admits with these counts keeps the lock's processor awake for more cycles than the figure.
+The figure is exactly what the published method gives for this tree and these counts, no lower and no higher.
+
+tree sha256 ";
+    assert!(page.starts_with(expected), "{page}");
+}
+
+#[test]
+fn quotes_finds_houses_at_every_depth() {
+    let folder = folder();
+    let mut said = String::new();
+    for depth in 1..=12 {
+        let house = vec!["in"; depth].join("/");
+        put(
+            &folder,
+            &format!("all/{house}/tree.tab"),
+            block(depth as u64),
+        );
+        said += &format!("{house}: figure {depth} branch 255\n");
+    }
+    answers(&folder, &["quotes", "all"], &said);
+}
