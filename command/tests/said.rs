@@ -479,6 +479,24 @@ fn values_make_names_each_that_is_not_given() {
     }
 }
 
+/// Its table has a number for each, whereas the text still tells which were left out.
+#[test]
+fn a_text_beside_its_table_tells_what_is_not_given() {
+    let folder = folder();
+    folder.write(TREE, &symbol_repeat(0, symbol_block(16), block(0)));
+    folder.write(VALUES_TEXT, b"time-16 5\n");
+    ends(
+        folder
+            .command()
+            .args(["values", "make", VALUES_TEXT, "-o", VALUES]),
+        0,
+    );
+    let written = ends(folder.command().args(["quote", "."]), 0);
+    let lines = "\ncount count-0 1000000 (not given)\ntime time-16 5 cycles\n";
+    assert!(written.output.ends_with(lines), "{}", written.output);
+    assert_eq!(written.error, "count-0 is not given and counts 1000000\n");
+}
+
 // The page, and houses far below.
 
 /// Every word of it down to the digests, which quotes.rs tests.
