@@ -41,10 +41,11 @@ fn made(folder: &Folder, arguments: &[&str]) -> Vec<u8> {
         0,
     );
     let table = folder.read("made.tab").expect("a table");
-    assert_eq!(
-        written.output,
-        format!("made {} records\n", table.len() / 16)
-    );
+    let said = match table.len() / 16 {
+        1 => "made 1 record\n".into(),
+        records => format!("made {records} records\n"),
+    };
+    assert_eq!(written.output, said);
     table
 }
 
@@ -160,13 +161,14 @@ fn each_branch_has_its_name() {
         folder.write(TREE, &choice(&children));
         let set = ["quote", ".", "--set", "16=9"];
         let said = format!(
-            "house H\nfigure 9 cycles\nbranch way {child} (child {child} of the choice at the root)\n\
+            "house H\nfigure 9 cycles\nbranch way {child} (child {child} of the choice at the root: block time-16)\n\
              time time-16 9 cycles\n"
         );
         answers(&folder, &set, &said);
         let json = output(&folder, &[&set[..], &["--json"]].concat());
         let json: serde_json::Value = serde_json::from_str(&json).expect("JSON");
-        let branch = serde_json::json!({"child": child, "name": format!("way {child}")});
+        let name = format!("way {child}");
+        let branch = serde_json::json!({"child": child, "name": name, "node": "block time-16"});
         assert_eq!(json["branch"], branch);
     }
 }
@@ -264,7 +266,7 @@ fn host_and_sent() -> Folder {
     put(
         &folder,
         "sent/names.txt",
-        "house Sent\nsymbol 2 tries\nsymbol 17 radio\n",
+        "house Sent\nsymbol 2 tries\nsymbol 17 bolt\nsymbol 16 idle\nbranch 0 sent\n",
     );
     put(
         &folder,
@@ -274,9 +276,9 @@ fn host_and_sent() -> Folder {
     folder
 }
 
-/// The names are the host's, whatever the sent tree calls its symbols.
+/// The names are the host's, and the sent tree's for the symbols that it uses and the host does not name.
 #[test]
-fn a_text_of_a_graft_makes_its_table_and_has_the_hosts_names() {
+fn a_text_of_a_graft_makes_its_table_and_has_the_names() {
     let folder = host_and_sent();
     let nodes = |tries: &str, bolt: &str| {
         format!(
@@ -288,12 +290,12 @@ fn a_text_of_a_graft_makes_its_table_and_has_the_hosts_names() {
         let arguments = ["graft", "host", "sent", "--symbol", symbol];
         writes_both(&folder, &[&arguments, names].concat())
     };
-    let header = "symbol 2 count-2\nsymbol 16 radio\nsymbol 17 bolt\nbranch 0 by radio\n";
-    let expected = header.to_owned() + &nodes("count-2", "bolt");
+    let header = "symbol 2 tries\nsymbol 16 radio\nsymbol 17 bolt\nbranch 0 by radio\n";
+    let expected = header.to_owned() + &nodes("tries", "bolt");
     assert_eq!(graft("radio", &[]), expected);
     assert_eq!(graft("16", &[]), expected);
-    let header = "house Other\nsymbol 2 tries\nsymbol 16 antenna\nsymbol 17 time-17\n";
-    let expected = header.to_owned() + &nodes("tries", "time-17");
+    let header = "house Other\nsymbol 2 tries\nsymbol 16 antenna\nsymbol 17 bolt\n";
+    let expected = header.to_owned() + &nodes("tries", "bolt");
     assert_eq!(graft("antenna", &["--names", OTHER]), expected);
 }
 
@@ -497,27 +499,7 @@ fn a_text_beside_its_table_tells_what_is_not_given() {
     assert_eq!(written.error, "count-0 is not given and counts 1000000\n");
 }
 
-// The page, and houses far below.
-
-/// Every word of it down to the digests, which quotes.rs tests.
-#[test]
-fn the_page_says_what_the_figure_promises() {
-    let page = output(&house("entrance"), &["contract", "."]);
-    let expected = "\
-Waking figure for one opening
-
-house Lakeside, the side entrance
-figure 91200 cycles
-branch radio (child 1 of the choice at the root)
-count cards 40
-time radio 90000 cycles
-
-No opening that this tree admits with these counts keeps the lock's processor awake for more cycles than the figure.
-The figure is exactly what the published method gives for this tree and these counts, no lower and no higher.
-
-tree sha256 ";
-    assert!(page.starts_with(expected), "{page}");
-}
+// Houses far below.
 
 #[test]
 fn quotes_finds_houses_at_every_depth() {
