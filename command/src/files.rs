@@ -48,16 +48,10 @@ fn text(path: &Path, bytes: Vec<u8>) -> Outcome<String> {
         );
         return Err(Failure::Problem(message));
     }
-    let text = String::from_utf8(bytes).map_err(|error| {
-        let before = &error.as_bytes()[..error.utf8_error().valid_up_to()];
-        let line = 1 + before.iter().filter(|&&byte| byte == b'\n').count();
-        Failure::Problem(format!("{}:{line}: expected text in UTF-8", path.display()))
-    })?;
+    // What is no UTF-8 is told where it stands, with the other wrong lines.
+    let text = String::from_utf8_lossy(&bytes);
     // Some editors begin a text with this mark.
-    Ok(text
-        .strip_prefix('\u{feff}')
-        .map(String::from)
-        .unwrap_or(text))
+    Ok(text.strip_prefix('\u{feff}').unwrap_or(&text).into())
 }
 
 /// All that is wrong with a text, each line with its file and place.

@@ -49,6 +49,9 @@ impl Names {
                 "{name:?} is no name: it has signs that cannot be printed"
             ));
         }
+        if name.contains(char::REPLACEMENT_CHARACTER) {
+            return Err(format!("expected text in UTF-8, found \"{name}\""));
+        }
         let old = match named {
             Named::Symbol(symbol) => {
                 self.may_be_called(symbol, name)?;

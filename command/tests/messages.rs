@@ -187,8 +187,8 @@ fn children() {
     tree(
         "block 1\n  block 2\n  block 3",
         &[
-            "2:3: a block has nothing below it",
-            "3:3: a block has nothing below it",
+            "2:3: expected an indent of at most 0: a block has nothing below it",
+            "3:3: expected an indent of at most 0: a block has nothing below it",
         ],
     );
     for kind in ["sequence", "choice"] {
@@ -201,17 +201,17 @@ fn children() {
         tree(
             &text,
             &[
-                "257:3: a node has at most 255 children",
-                "258:3: a node has at most 255 children",
+                "257:3: expected at most 255 children, and this is one more",
+                "258:3: expected at most 255 children, and this is one more",
             ],
         );
         let text = format!("{kind}\n  body block 1\n  exit block 2");
-        let alone = "\"body\" and \"exit\" stand in loops alone";
+        let alone = "expected a kind: \"body\" and \"exit\" stand in loops alone";
         tree(&text, &[&format!("2:3: {alone}"), &format!("3:3: {alone}")]);
     }
     tree(
         "exit block 1",
-        &["1:1: \"body\" and \"exit\" stand in loops alone"],
+        &["1:1: expected a kind: \"body\" and \"exit\" stand in loops alone"],
     );
 }
 
@@ -235,7 +235,7 @@ fn loops() {
         "loop 3\n  exit block 1\n  body block 2",
         &[&format!("2:3: {body}"), &format!("3:3: {exit}")],
     );
-    let more = "a loop has a body and an exit and nothing more";
+    let more = "expected nothing more: a loop has a body and an exit";
     tree(
         "loop 3\n  body block 1\n  exit block 2\n  block 3\n  exit block 4",
         &[&format!("4:3: {more}"), &format!("5:3: {more}")],
@@ -254,7 +254,7 @@ fn every_line_is_told() {
             "4:5: expected \"body\": a loop's body comes first",
             &format!("5:10: {KIND}, found \"blok\""),
             &format!("6:18: {COUNT}, and the line ends"),
-            "7:1: names stand before the first node",
+            "7:1: expected a node: names stand before the first one",
             "8:1: expected one root, and this is a second",
             "8:9: expected \"at most\" and a limit, or the end of the line, found \"9\"",
         ],

@@ -168,7 +168,7 @@ fn a_refused_text_ends_with_1() {
             0 => complains(
                 &folder,
                 &make,
-                &["tree.text:512:3: a node has at most 255 children"],
+                &["tree.text:512:3: expected at most 255 children"],
             ),
             _ => drop(refuses(&folder, &make, number)),
         }

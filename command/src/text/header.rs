@@ -33,7 +33,7 @@ fn index(line: &mut Line, most: u64, what: &str) -> Result<usize, Problem> {
     number.map(|number| number as usize).ok_or_else(expected)
 }
 
-/// A symbol's name is one word, another name the rest of the line.
+/// A symbol's name is one word, another name the rest of the line, `#` included.
 fn name(line: &mut Line, named: Named, names: &mut Names) -> Result<(), Problem> {
     let word = match named {
         Named::Symbol(_) => line.next(),

@@ -14,6 +14,10 @@ impl Problem {
     pub fn expected(word: &Word, expected: &str) -> Self {
         let message = match word.text {
             "" => format!("expected {expected}, and the line ends"),
+            // What is no UTF-8 has been read as this sign.
+            found if found.contains(char::REPLACEMENT_CHARACTER) => {
+                format!("expected text in UTF-8, found \"{found}\"")
+            }
             found => format!("expected {expected}, found \"{found}\""),
         };
         word.problem(message)
@@ -51,17 +55,20 @@ impl Word<'_> {
 #[derive(Clone, Debug)]
 pub struct Line<'t> {
     text: &'t str,
+    /// The same with its comment.
+    whole: &'t str,
     number: usize,
     /// The bytes that have been read.
     read: usize,
 }
 
-/// The lines of a text that have words, without their comments.
+/// The lines of a text that have words.
 pub fn lines(text: &str) -> impl Iterator<Item = Line<'_>> {
     let lines = text.lines().enumerate();
     lines
         .map(|(before, line)| Line {
             text: line.split('#').next().unwrap_or_default().trim_end(),
+            whole: line.trim_end(),
             number: before + 1,
             read: 0,
         })
@@ -85,15 +92,18 @@ impl<'t> Line<'t> {
 
     /// The next word.
     pub fn next(&mut self) -> Word<'t> {
-        let left = &self.text[self.read..];
-        let start = self.read + left.len() - left.trim_start().len();
-        let after = &self.text[start..];
-        let length = after.find(char::is_whitespace).unwrap_or(after.len());
-        self.read = start + length;
+        let left = self.text[self.read..].trim_start();
+        let word = left.split(char::is_whitespace).next().unwrap_or_default();
+        let start = self.text.len() - left.len();
+        self.read = start + word.len();
+        self.word(start, word)
+    }
+
+    fn word(&self, start: usize, text: &'t str) -> Word<'t> {
         Word {
-            text: &self.text[start..self.read],
+            text,
             line: self.number,
-            column: self.text[..start].chars().count() + 1,
+            column: self.whole[..start].chars().count() + 1,
         }
     }
 
@@ -117,12 +127,11 @@ impl<'t> Line<'t> {
         Ok(())
     }
 
-    /// The words that are left, as one, with the spaces between them.
+    /// The words that are left, as one, with the spaces between them and whatever else stands there: `#` begins no comment here.
     pub fn rest(&mut self) -> Word<'t> {
-        let first = self.peek();
-        let text = self.text[self.read..].trim_start();
+        let text = self.whole[self.read..].trim_start();
         self.read = self.text.len();
-        Word { text, ..first }
+        self.word(self.whole.len() - text.len(), text)
     }
 
     pub fn want_end(&mut self) -> Result<(), Problem> {

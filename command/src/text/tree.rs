@@ -13,7 +13,7 @@ pub use print::{print, print_refused};
 /// The most children that a record can have.
 const MOST_CHILDREN: usize = 255;
 
-const IN_LOOPS_ALONE: &str = "\"body\" and \"exit\" stand in loops alone";
+const IN_LOOPS_ALONE: &str = "expected a kind: \"body\" and \"exit\" stand in loops alone";
 
 /// A text's table, which the library has yet to accept, and the line of each of its records.
 #[derive(Clone, Debug, PartialEq, Eq)]
@@ -50,7 +50,7 @@ pub fn parse(text: &str, names: &mut Names) -> Result<Parsed, Problems> {
                 .problems
                 .extend(header::read(&mut line, names).err());
         } else {
-            let problem = first.problem("names stand before the first node");
+            let problem = first.problem("expected a node: names stand before the first one");
             outline.problems.push(problem);
         }
     }
@@ -104,25 +104,31 @@ impl<'t> Outline<'t> {
                 .push(first.problem("expected one root, and this is a second")),
             _ => {}
         }
-        if let Some(&(parent, _)) = self.open.last() {
-            self.add_child(parent, first, role);
+        if let Some(&(parent, within)) = self.open.last() {
+            self.add_child(parent, within, first, role);
         }
         self.open.push((self.entries.len(), indent));
     }
 
-    fn add_child(&mut self, parent: usize, first: &Word, role: Option<Role>) {
+    /// Takes in a child of a node, whose line has that indent.
+    fn add_child(&mut self, parent: usize, indent: usize, first: &Word, role: Option<Role>) {
         let parent = &mut self.entries[parent];
         let before = parent.children;
         parent.children += 1;
         let Some(node) = parent.node else { return };
         let problem = match (node.kind, before, role) {
-            (Kind::Block(_), ..) => "a block has nothing below it",
+            (Kind::Block(_), ..) => {
+                let message =
+                    format!("expected an indent of at most {indent}: a block has nothing below it");
+                self.problems.push(first.problem(message));
+                return;
+            }
             (Kind::Loop(_), 0, Some(Role::Body)) | (Kind::Loop(_), 1, Some(Role::Exit)) => return,
             (Kind::Loop(_), 0, _) => "expected \"body\": a loop's body comes first",
             (Kind::Loop(_), 1, _) => "expected \"exit\": a loop's exit comes after its body",
-            (Kind::Loop(_), ..) => "a loop has a body and an exit and nothing more",
+            (Kind::Loop(_), ..) => "expected nothing more: a loop has a body and an exit",
             (Kind::Sequence | Kind::Choice, MOST_CHILDREN.., _) => {
-                "a node has at most 255 children"
+                "expected at most 255 children, and this is one more"
             }
             (Kind::Sequence | Kind::Choice, _, Some(_)) => IN_LOOPS_ALONE,
             _ => return,
