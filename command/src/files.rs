@@ -3,7 +3,7 @@
 use std::fs::{self, File};
 use std::io::{self, Read, Write};
 use std::os::fd::AsFd;
-use std::os::unix::fs::MetadataExt;
+use std::os::unix::fs::{fchown, MetadataExt};
 use std::path::{Path, PathBuf};
 
 use crate::failure::{note, Failure, Outcome};
@@ -77,6 +77,15 @@ pub fn expect_bytes_at(path: &Path) -> Outcome {
     Err(Failure::Problem(format!("{}: {message}", path.display())))
 }
 
+/// Refuses to write a picture to a path of a tree, which would be lost.
+pub fn expect_picture_at(path: &Path) -> Outcome {
+    if !is_text(path) && path.extension().is_none_or(|extension| extension != "tab") {
+        return Ok(());
+    }
+    let message = "a name that ends in .tab or .txt is a tree's, and this is to hold a picture";
+    Err(Failure::Problem(format!("{}: {message}", path.display())))
+}
+
 /// Writes to standard output, unlike the standard library's also where that cannot be written at all.
 pub fn write_out(bytes: &[u8]) -> io::Result<()> {
     let output = io::stdout().as_fd().try_clone_to_owned()?;
@@ -121,7 +130,7 @@ fn replace_or_write(path: &Path, bytes: &[u8]) -> io::Result<()> {
             let mut file = File::options().write(true).open(path)?;
             file.write_all(bytes)
         }
-        _ => replace_file(&behind_links(path), bytes, old.map(|old| old.permissions())),
+        _ => replace_file(&behind_links(path), bytes, old.as_ref()),
     }
 }
 
@@ -142,20 +151,24 @@ pub fn folder_of(path: &Path) -> &Path {
     }
 }
 
+/// How the name of a folder begins in which a file is made. A kill may leave one.
+const MAKING: &str = ".volefleece-";
+
+/// Whether this is such a folder.
+pub fn is_making(entry: &fs::DirEntry) -> bool {
+    entry.file_name().to_string_lossy().starts_with(MAKING)
+}
+
 /// The new file is made in a folder beside the old one, so that it has the permissions of any new file there, or the old one's.
-fn replace_file(
-    place: &Path,
-    bytes: &[u8],
-    permissions: Option<fs::Permissions>,
-) -> io::Result<()> {
+fn replace_file(place: &Path, bytes: &[u8], old: Option<&fs::Metadata>) -> io::Result<()> {
     let folder = folder_of(place);
-    let making = tempfile::Builder::new()
-        .prefix(".volefleece-")
-        .tempdir_in(folder)?;
+    let making = tempfile::Builder::new().prefix(MAKING).tempdir_in(folder)?;
     let new: PathBuf = making.path().join("new");
     let mut file = File::create_new(&new)?;
-    if let Some(permissions) = permissions {
-        file.set_permissions(permissions)?;
+    if let Some(old) = old {
+        // Only root may give a file away, and it should: another's file stays theirs.
+        let _ = fchown(&file, Some(old.uid()), Some(old.gid()));
+        file.set_permissions(old.permissions())?;
     }
     file.write_all(bytes)?;
     file.sync_all()?;

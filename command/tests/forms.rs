@@ -24,6 +24,19 @@ fn bytes_are_not_written_to_a_text() {
     }
 }
 
+/// The tree, where it stands, would be lost.
+#[test]
+fn a_picture_is_not_written_to_a_tree() {
+    let folder = house("house");
+    let before = folder.read(TREE);
+    for out in [TREE, TREE_TEXT] {
+        let message = format!("{out}: a name that ends in .tab or .txt is a tree's");
+        complains(&folder, &["draw", ".", "-o", out], &[&message]);
+    }
+    assert_eq!(folder.read(TREE), before);
+    assert_eq!(folder.read(TREE_TEXT), None);
+}
+
 #[test]
 fn a_text_of_values_is_shown_too() {
     let folder = folder();

@@ -115,7 +115,7 @@ fn of_a_table_its_record_and_byte() {
         for command in ["quote", "list", "contract"] {
             says(&folder, &[command, "."], &refused.said("./tree.tab"));
         }
-        says(&folder, &["draw", BAD, "-o", OUT], &said);
+        says(&folder, &["draw", BAD, "-o", "out.svg"], &said);
         shows(&folder, BAD, &said, refused.table.len() / 16);
         records.push(refused.record);
     }

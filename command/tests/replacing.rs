@@ -4,7 +4,7 @@
 mod common;
 
 use std::fs::{self, Permissions};
-use std::os::unix::fs::{symlink, PermissionsExt};
+use std::os::unix::fs::{chown, symlink, MetadataExt, PermissionsExt};
 use std::os::unix::process::ExitStatusExt;
 use std::process::{Command, Stdio};
 
@@ -117,6 +117,20 @@ fn an_old_files_mode_is_kept() {
             );
             assert_eq!(mode_of(&folder, OUT), mode);
         }
+    }
+}
+
+/// Only root may give a file to its owner, so for others there is nothing to see.
+#[test]
+fn an_old_files_owner_is_kept() {
+    for way in WAYS {
+        let folder = with_files(Some(OLD));
+        if chown(folder.path(OUT), Some(65_534), Some(65_533)).is_err() {
+            return;
+        }
+        ends(folder.command().args(way).arg(OUT), 0);
+        let found = fs::metadata(folder.path(OUT)).expect("a file");
+        assert_eq!((found.uid(), found.gid()), (65_534, 65_533));
     }
 }
 

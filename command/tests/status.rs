@@ -262,11 +262,11 @@ fn names_that_cannot_be_read_end_with_2() {
 fn a_file_that_cannot_be_written_ends_with_2() {
     for arguments in ANSWERED {
         if let Some((_, before)) = arguments.split_last().filter(|_| arguments.contains(&"-o")) {
-            let arguments = [before, &["none/out.tab"]].concat();
+            let arguments = [before, &["none/out.new"]].concat();
             complains(
                 &with_files(),
                 &arguments,
-                &["none/out.tab: cannot be written: No such file"],
+                &["none/out.new: cannot be written: No such file"],
             );
         }
     }

@@ -11,6 +11,7 @@ use crate::tree::Tree;
 use crate::words::counted;
 
 pub fn run(arguments: &Draw) -> Outcome<String> {
+    files::expect_picture_at(&arguments.output)?;
     let mut house = house(arguments)?;
     let set = arguments.settings.apply(&mut house)?;
     let nodes = house.tree.check()?;
