@@ -68,15 +68,9 @@ impl House {
     /// Sets a symbol, by its name or its number, and answers which.
     pub fn set(&mut self, setting: &Setting) -> Outcome<usize> {
         let Setting { name, value } = setting;
-        let symbol = self.tree.names.find_or_number(name).ok_or_else(|| {
-            let names = match &self.tree.names.symbols()[..] {
-                [] => "none has a name here, but each its number".into(),
-                names => format!("names here: {}", names.join(", ")),
-            };
-            Failure::Problem(format!(
-                "--set {name}={value}: no symbol is called {name} ({names})"
-            ))
-        })?;
+        let symbol = self.tree.names.find_or_number(name);
+        let symbol =
+            symbol.map_err(|why| Failure::Problem(format!("--set {name}={value}: {why}")))?;
         let most = ceiling(symbol);
         let number = digits(value, most).ok_or_else(|| {
             Failure::Problem(format!(

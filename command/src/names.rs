@@ -114,11 +114,6 @@ impl Names {
             .unwrap_or_else(|| plain_name(symbol))
     }
 
-    /// The names that symbols are given.
-    pub fn symbols(&self) -> Vec<&str> {
-        self.symbols.values().map(String::as_str).collect()
-    }
-
     pub fn branch(&self, child: usize) -> Option<&str> {
         self.branches.get(&child).map(String::as_str)
     }
@@ -135,10 +130,18 @@ impl Names {
             .or_else(|| by_plain_name(name))
     }
 
-    /// The symbol of that number or name.
-    pub fn find_or_number(&self, symbol: &str) -> Option<usize> {
+    /// The symbol of that number or name, or which names there are.
+    pub fn find_or_number(&self, symbol: &str) -> Result<usize, String> {
         let number = digits(symbol, VALUES as u64 - 1).map(|number| number as usize);
-        number.or_else(|| self.find(symbol))
+        let found = number.or_else(|| self.find(symbol));
+        found.ok_or_else(|| {
+            let names: Vec<&str> = self.symbols.values().map(String::as_str).collect();
+            let names = match &names[..] {
+                [] => "none has a name here, but each its number".into(),
+                names => format!("names here: {}", names.join(", ")),
+            };
+            format!("no symbol is called {symbol} ({names})")
+        })
     }
 
     /// The lines of a text's header: the house, these symbols and all others that have names, and the branches.

@@ -36,7 +36,7 @@ fn names_of_another_tree_are_dropped() {
     let branch = "branch by radio (child 2 of the choice at the root: block radio)";
     assert_eq!(quoted(&folder, 0), (branch.into(), String::new()));
     let said = ends(folder.command().args(["simplify", ".", "-o", TREE]), 0);
-    let note = "the branches' names are not those of the simplified tree's children\n";
+    let note = "the branches' names are not those of the simplified tree's children: beside it, names.txt must not have them\n";
     assert_eq!(said.error, note);
     folder.write(NAMES, TEXT.split("\n\n").next().expect("names").as_bytes());
     remove(&folder, TREE_TEXT);
@@ -71,6 +71,34 @@ fn what_is_simplified_has_no_branches_names() {
     );
 }
 
+/// Where no step is taken, no child has moved.
+#[test]
+fn what_no_step_changed_keeps_its_branches_names() {
+    let folder = folder();
+    folder.write(TREE_TEXT, TEXT.as_bytes());
+    let simplify = ["simplify", ".", "-o", "out.txt", "--steps", "0"];
+    let said = ends(folder.command().args(simplify), 0);
+    assert_eq!(said.error, "");
+    assert_eq!(folder.read("out.txt"), folder.read(TREE_TEXT));
+}
+
+/// A name of more than one word goes to the end of its line, whatever stands there.
+#[test]
+fn names_may_have_a_number_sign() {
+    let folder = folder();
+    let text = "house Unit #5\nbranch 0 #1, the door\n\nchoice\n  block 7\n";
+    folder.write(TREE_TEXT, text.as_bytes());
+    answers(&folder, &["show", "."], text);
+    folder.write(
+        TREE_TEXT,
+        text.replace("block 7", "block 7 # a note").as_bytes(),
+    );
+    answers(&folder, &["show", "."], text);
+    let said = ends(folder.command().args(["quote", "."]), 0).output;
+    let lines = "house Unit #5\nfigure 7 cycles\nbranch #1, the door (child 0 ";
+    assert!(said.starts_with(lines), "{said}");
+}
+
 const GRAFT: [&str; 6] = ["graft", "host.txt", "sent.txt", "--symbol", "radio", "-o"];
 
 /// Two makers that mean different things by one symbol would swap them unseen.
@@ -89,6 +117,9 @@ fn a_graft_does_not_mix_meanings() {
         &["sent.txt: symbol 0 is called both cards and retries: "],
     );
     assert_eq!(folder.read("out.tab"), None);
+    // What the library refuses is refused, whatever the names.
+    folder.write("sent.txt", b"symbol 16 antenna\nblock antenna\n");
+    refuses(&folder, &out, 11);
     // A name of a symbol that the sent tree does not use says nothing of the whole.
     folder.write("sent.txt", b"symbol 0 retries\nblock 3\n");
     ends(folder.command().args(&out), 0);

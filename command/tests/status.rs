@@ -210,7 +210,7 @@ fn wrong_use_ends_with_2() {
     complains(
         &folder,
         &graft,
-        &["--symbol door: no symbol of the host is called so"],
+        &["--symbol door: no symbol is called door (names here: "],
     );
 }
 

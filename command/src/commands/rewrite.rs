@@ -16,10 +16,11 @@ pub fn simplify(arguments: &Simplify) -> Outcome<String> {
     } else {
         "spent"
     };
-    // Children move, so that the branches' names would be wrong.
-    let names = tree.names.without_branches();
-    if tree.names.last_branch().is_some() {
-        note("the branches' names are not those of the simplified tree's children");
+    let mut names = tree.names.clone();
+    if simplified.steps > 0 && names.last_branch().is_some() {
+        // Children move, so that the branches' names would be wrong.
+        names = names.without_branches();
+        note("the branches' names are not those of the simplified tree's children: beside it, names.txt must not have them");
     }
     let said = format!("simplified {length} steps {} {ending}", simplified.steps);
     Tree::from_answer(simplified.table, names).write(&arguments.output, said)
@@ -29,20 +30,17 @@ pub fn graft(arguments: &Graft) -> Outcome<String> {
     let host = Tree::read(&arguments.host, arguments.names.as_deref())?;
     let sent = Tree::read(&arguments.sent, None)?;
     let name = &arguments.symbol;
-    let symbol = host.names.find_or_number(name).ok_or_else(|| {
-        Failure::Problem(format!(
-            "--symbol {name}: no symbol of the host is called so"
-        ))
-    })?;
+    let symbol = host.names.find_or_number(name);
+    let symbol = symbol.map_err(|why| Failure::Problem(format!("--symbol {name}: {why}")))?;
     // The host's questions come first, then the sent table's, and a hint is of the one that is refused.
     host.check()?;
     let used = table::symbols(&sent.check()?);
+    let table = volefleece::graft(&host.table, &sent.table, symbol as u64)?;
     let mut names = host.names.clone();
     names.take(&sent.names, &used).map_err(|why| {
         let advice = "host and sent tree must mean the same by a symbol that the sent tree uses";
         Failure::Problem(format!("{}: {why}: {advice}", arguments.sent.display()))
     })?;
-    let table = volefleece::graft(&host.table, &sent.table, symbol as u64)?;
     let length = table.len();
     let said = format!("grafted {length}");
     Tree::from_answer(table, names).write(&arguments.output, said)
