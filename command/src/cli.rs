@@ -30,7 +30,7 @@ pub enum Command {
     )]
     Quote(Quote),
     /// Quote every house below a folder, a line each
-    #[command(after_help = "Example:\n  volefleece quotes houses")]
+    #[command(after_help = "Example:\n  volefleece quotes samples")]
     Quotes {
         /// A folder with houses below it
         folder: PathBuf,
@@ -48,7 +48,7 @@ pub enum Command {
     #[command(after_help = "Example:\n  volefleece show samples/house/tree.tab >tree.txt")]
     Show(Source),
     /// Make a table from a tree's text
-    #[command(after_help = "Example:\n  volefleece make tree.txt -o tree.tab")]
+    #[command(after_help = "Example:\n  volefleece make samples/supplier/tree.txt -o tree.tab")]
     Make(Converted),
     /// Print values as text, or make them from text
     #[command(
@@ -68,7 +68,7 @@ pub enum Command {
     Simplify(Simplify),
     /// Put a supplier's tree in place of a symbol
     #[command(
-        after_help = "Example:\n  volefleece graft samples/house supplier/tree.tab --symbol radio -o grafted.tab"
+        after_help = "Example:\n  volefleece graft samples/house samples/supplier --symbol radio -o grafted.tab"
     )]
     Graft(Graft),
     /// Print a shell's completions

@@ -36,7 +36,7 @@ pub fn run(command: &Command) -> Outcome<Answer> {
         Command::Show(source) => convert::show(source),
         Command::Make(converted) => convert::make(converted).map(Answer::from),
         Command::Values(Values::Show { values, names }) => {
-            convert::show_values(values, names.as_deref()).map(Answer::from)
+            convert::show_values(values, names.as_deref())
         }
         Command::Values(Values::Make(converted)) => {
             convert::make_values(converted).map(Answer::from)

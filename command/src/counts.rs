@@ -2,7 +2,7 @@
 
 use std::path::Path;
 
-use volefleece::{ceiling, VALUES};
+use volefleece::{ceiling, Refusal, RECORD_BYTES, VALUES};
 
 use crate::failure::Outcome;
 use crate::names::Names;
@@ -90,9 +90,10 @@ impl Counts {
         }
     }
 
-    /// Whether these come from a file of a length that no file of values has.
-    pub fn has_wrong_length(&self) -> bool {
-        self.wrong_length.is_some()
+    /// The library's refusal of these values whatever the tree: by a block of no time, which no other question refuses.
+    pub fn refusal(&self) -> Option<Refusal> {
+        let block = [0; RECORD_BYTES];
+        volefleece::figure(&block, &self.lent()).err()
     }
 
     /// What question 9 says no to, for a reader.
@@ -103,7 +104,7 @@ impl Counts {
                 length => length.to_string(),
             };
             return Some(format!(
-                "the file of values has {length} bytes, and a value has {VALUE_BYTES}"
+                "the file of values has {length} bytes, and it can have {VALUE_BYTES} for each of {VALUES} values at most"
             ));
         }
         let values = self.values();

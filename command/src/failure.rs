@@ -30,6 +30,12 @@ impl Failure {
         Failure::Problem(format!("{}: {error}", path.display()))
     }
 
+    /// Its lines as comments of a text.
+    pub fn commented(&self) -> String {
+        let lines = self.to_string();
+        lines.lines().map(|line| format!("# {line}\n")).collect()
+    }
+
     /// The exit status: 1 for a refusal, 2 for a problem.
     pub fn status(&self) -> u8 {
         match self {

@@ -188,12 +188,14 @@ fn scopes(records: &[Record]) -> Vec<(Place, Option<Scope>)> {
 fn naming_fault(place: Place, scope: Scope) -> Option<String> {
     let loops = place.loops;
     match scope {
-        Scope::Loop(number) if usize::from(number) > loops => {
-            let outward = counted(number, "loop", "loops");
-            Some(format!(
-                "byte 3 counts {outward} outward, more than the {loops} around it (a loop is around its body alone)"
-            ))
-        }
+        Scope::Loop(number) if usize::from(number) > loops => Some(format!(
+            "its limit names loop {number}, counted outward, and {} (a loop is around its body, not its exit)",
+            match loops {
+                0 => "no loop is around it".into(),
+                1 => "1 loop is around it".into(),
+                loops => format!("{loops} loops are around it"),
+            }
+        )),
         _ => None,
     }
 }

@@ -3,7 +3,7 @@
 use std::io::{self, BufRead, IsTerminal, Write};
 use std::path::Path;
 
-use volefleece::{ceiling, Quote, Refusal, MOST_TRIANGULAR};
+use volefleece::{ceiling, Quote, Refusal, FIRST_TIME, MOST_TIME, MOST_TRIANGULAR};
 
 use crate::counts::Counts;
 use crate::failure::{note, Failure, Outcome};
@@ -52,6 +52,13 @@ impl std::str::FromStr for Setting {
 impl House {
     /// The house of a folder. Its names come from the file that is named, or else from names.txt there.
     pub fn read(folder: &Path, names: Option<&Path>) -> Outcome<Self> {
+        if folder.is_file() {
+            let expected = "expected a house, which is a folder with its tree, values and names";
+            return Err(Failure::Problem(format!(
+                "{}: {expected}",
+                folder.display()
+            )));
+        }
         if let Err(error) = std::fs::read_dir(folder) {
             return Err(Failure::file(folder, &error));
         }
@@ -108,15 +115,11 @@ impl House {
 
     /// Asks for the values that the tree uses and nothing gives, on a terminal; elsewhere says that they count high.
     pub fn complete(&mut self, nodes: &[Node], ask: bool) -> Outcome {
-        if self.counts.has_wrong_length() {
-            // Whatever is typed, question 9 refuses the file.
-            return Ok(());
-        }
         for symbol in self.absent(nodes) {
             let name = self.tree.names.symbol(symbol);
             if ask && io::stdin().is_terminal() && io::stderr().is_terminal() {
-                self.counts
-                    .set(symbol, ask_for(&name, most(symbol, nodes))?);
+                let value = ask_for(&name, symbol, most(symbol, nodes))?;
+                self.counts.set(symbol, value);
             } else {
                 note(&not_given(&name, symbol));
             }
@@ -124,8 +127,11 @@ impl House {
         Ok(())
     }
 
-    /// The symbols that the tree uses and nothing gives.
+    /// The symbols that the tree uses and nothing gives; none where question 9 refuses the values whatever these are given.
     pub fn absent(&self, nodes: &[Node]) -> Vec<usize> {
+        if self.counts.refusal().is_some() {
+            return Vec::new();
+        }
         let mut symbols = table::symbols(nodes);
         symbols.retain(|&symbol| self.counts.given(symbol).is_none());
         symbols
@@ -142,9 +148,26 @@ impl House {
         let hint = match refusal {
             Refusal::Values => self.counts.fault(&self.tree.names),
             Refusal::TriangularNumber => self.wrong_triangular(),
+            Refusal::Ceiling => Some(self.too_large()),
             _ => return self.tree.refused(refusal),
         };
         Failure::Refused { refusal, hint }
+    }
+
+    fn too_large(&self) -> String {
+        let absent = self.absent(&table::nodes(&self.tree.table)).into_iter();
+        let names: Vec<String> = absent
+            .map(|symbol| self.tree.names.symbol(symbol))
+            .collect();
+        if names.is_empty() {
+            return format!(
+                "with these values a part of the tree takes more than {MOST_TIME} cycles"
+            );
+        }
+        format!(
+            "what is not given counts high; give a value to {}",
+            names.join(", ")
+        )
     }
 
     fn wrong_triangular(&self) -> Option<String> {
@@ -160,14 +183,8 @@ impl House {
         ))
     }
 
-    /// The branch by its child's name, or else by the child's own words.
-    pub fn branch_name(&self, branch: u8) -> String {
-        let name = self.tree.names.branch(branch.into());
-        name.map_or_else(|| self.branch_words(branch), String::from)
-    }
-
-    /// The words of the root choice's child.
-    pub fn branch_words(&self, branch: u8) -> String {
+    /// The branch by its child's name, if it has one, and by the child's own words: names may be of another tree.
+    pub fn branch_said(&self, branch: u8) -> (Option<&str>, String) {
         let child = usize::from(branch);
         let records = table::records(&self.tree.table);
         let (places, _) = table::places(&records);
@@ -177,7 +194,8 @@ impl House {
         let node = at
             .and_then(|at| records[at].node())
             .expect("a child of the root");
-        node_words(&node, &self.tree.names)
+        let names = &self.tree.names;
+        (names.branch(child), node_words(&node, names))
     }
 }
 
@@ -224,16 +242,26 @@ fn most(symbol: usize, nodes: &[Node]) -> u64 {
     }
 }
 
+/// What stands behind a symbol's value.
+pub fn unit(symbol: usize) -> &'static str {
+    if symbol < FIRST_TIME {
+        ""
+    } else {
+        " cycles"
+    }
+}
+
 /// What is said of a value that is not given.
 pub fn not_given(name: &str, symbol: usize) -> String {
     format!("{name} is not given and counts {}", ceiling(symbol))
 }
 
 /// Asks until a number in range is typed. Whole lines are read, so that the terminal itself tells the end of input and an interrupt.
-fn ask_for(name: &str, most: u64) -> Outcome<u64> {
+fn ask_for(name: &str, symbol: usize, most: u64) -> Outcome<u64> {
     let mut input = io::stdin().lock();
+    let unit = unit(symbol);
     loop {
-        let _ = write!(io::stderr(), "{name} (0 to {most}): ");
+        let _ = write!(io::stderr(), "{name} (0 to {most}{unit}): ");
         let mut line = Vec::new();
         let read = input.read_until(b'\n', &mut line);
         if read.is_err() || line.is_empty() {

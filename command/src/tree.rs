@@ -2,7 +2,7 @@
 
 use std::path::{Path, PathBuf};
 
-use volefleece::{Refusal, MOST_TABLE, RECORD_BYTES};
+use volefleece::{Refusal, MOST_TABLE, MOST_TIME, RECORD_BYTES};
 
 use crate::failure::{Failure, Outcome};
 use crate::files;
@@ -125,8 +125,15 @@ impl Tree {
     }
 
     fn hint(&self, refusal: Refusal) -> Option<String> {
-        if refusal == Refusal::Length {
-            return Some(self.wrong_length());
+        match refusal {
+            Refusal::Length => return Some(self.wrong_length()),
+            // Of simplifying, which asks it so. A house has more to say.
+            Refusal::Ceiling => {
+                return Some(format!(
+                    "with every symbol 0 a part of the tree takes more than {MOST_TIME} cycles"
+                ))
+            }
+            _ => {}
         }
         let hint = hint::find(&self.table, refusal)?;
         let (record, byte) = (hint.record, hint.record * RECORD_BYTES);

@@ -295,30 +295,33 @@ fn a_refused_figure_is_told_and_nothing_is_marked() {
     let limited = triangular_limited(block(1), 0, 255);
     let triangular = "count-0 is 1001, and its triangular number is a limit";
     let above = "count-1 is 1000001, and at most 1000000 is allowed";
-    let length = "the file of values has 9 bytes, and a value has 8";
+    let length = "the file of values has 9 bytes, and it can have 8 for each of 32 values at most";
+    let large = "with these values a part of the tree takes more than 1000000000000 cycles";
     for (child, values, refusal, hint) in [
-        (&two, values_file(&dear), Refusal::Ceiling, None),
+        (&two, values_file(&dear), Refusal::Ceiling, large),
         (
             &limited,
             values_file(&[1_001]),
             Refusal::TriangularNumber,
-            Some(triangular),
+            triangular,
         ),
         (
             &two,
             values_file(&[&[0, 1_000_001], &[0; 15][..]].concat()),
             Refusal::Values,
-            Some(above),
+            above,
         ),
-        (&two, vec![1; 9], Refusal::Values, Some(length)),
+        (&two, vec![1; 9], Refusal::Values, length),
     ] {
         let table = choice(&[block(1), child.clone()]);
         put(&folder, ALONE, &table);
         put(&folder, "counts.tab", &values);
         let (picture, error) = draw(&folder, &[ALONE, "--values", "counts.tab"]);
         assert!(picture == svg(&table, &Names::default(), None), "{refusal}");
-        let hint = hint.map_or(String::new(), |hint| format!("\nhint: {hint}"));
-        assert_eq!(error, format!("no branch is marked: {refusal}{hint}\n"));
+        assert_eq!(
+            error,
+            format!("no branch is marked: {refusal}\nhint: {hint}\n")
+        );
     }
 }
 

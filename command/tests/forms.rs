@@ -49,26 +49,31 @@ fn a_text_of_values_is_shown_too() {
 }
 
 #[test]
-fn values_that_are_refused_have_a_hint() {
+fn values_that_are_refused_have_a_hint_and_are_shown() {
     let folder = house("house");
     let show = ["values", "show", VALUES];
-    for (bytes, hint) in [
+    for (bytes, hint, last) in [
         (
             vec![0; 9],
-            "the file of values has 9 bytes, and a value has 8",
+            "the file of values has 9 bytes, and it can have 8 for each of 32 values at most",
+            "cards 0\n",
         ),
         (
             vec![0; 264],
-            "the file of values has more than 256 bytes, and a value has 8",
+            "the file of values has more than 256 bytes, and it can have 8 for each of 32 values at most",
+            "time-31 0\n",
         ),
         (
             values_file(&[0, 1_000_001]),
             "retries is 1000001, and at most 1000000 is allowed",
+            "cards 0\nretries 1000001\n",
         ),
     ] {
         folder.write(VALUES, &bytes);
-        let said = refuses(&folder, &show, 9);
-        assert!(said.ends_with(&format!("\nhint: {hint}\n")), "{said}");
+        let said = ends(folder.command().args(show), 1).output;
+        assert!(said.starts_with("# refused 9: "), "{said}");
+        assert!(said.contains(&format!("\n# hint: {hint}\n")), "{said}");
+        assert!(said.ends_with(last), "{said}");
     }
     // A picture is drawn all the same, and says why no branch is marked.
     folder.write(VALUES, &[0; 3]);

@@ -117,17 +117,20 @@ fn words_for_depth() {
 
 #[test]
 fn words_for_named_loops() {
-    let hints = |records: &[Record], record, outward: &str| {
-        let what = format!("byte 3 counts {outward} around it (a loop is around its body alone)");
+    let hints = |records: &[Record], record, named: u8, around: &str| {
+        let body = "a loop is around its body, not its exit";
+        let what = format!(
+            "its limit names loop {named}, counted outward, and {around} around it ({body})"
+        );
         hints(Refusal::NamedLoop, records, record, &what);
     };
-    hints(&[limited(1)], 0, "1 loop outward, more than the 0");
+    hints(&[limited(1)], 0, 1, "no loop is");
     let exit = [LOOP, limited(1), limited(1)];
-    hints(&exit, 2, "1 loop outward, more than the 0");
+    hints(&exit, 2, 1, "no loop is");
     let body = [LOOP, limited(3), limited(1)];
-    hints(&body, 1, "3 loops outward, more than the 1");
+    hints(&body, 1, 3, "1 loop is");
     let loops = [vec![LOOP; 7], vec![limited(8)], vec![BLOCK; 7]].concat();
-    hints(&loops, 7, "8 loops outward, more than the 7");
+    hints(&loops, 7, 8, "7 loops are");
 }
 
 #[test]
@@ -214,7 +217,8 @@ fn agrees(table: &[u8], refusal: Refusal, hint: &Hint) -> bool {
         Refusal::Depth => is_first_too_deep(table, record, what),
         Refusal::NamedLoop => {
             let names = u64::from(table[record * 16 + 3]);
-            let words = [3, names, loops_around(table)[record]];
+            let mut words = vec![names, loops_around(table)[record]];
+            words.retain(|&number| number > 0);
             is_first(table, refusal, record, without_limits_from) && numbers(what) == words
         }
         Refusal::Weight => {

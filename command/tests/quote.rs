@@ -303,6 +303,8 @@ fn files_that_cannot_be_read_are_told() {
         folder.put_folder(file);
         complains(&folder, &QUOTE, &[&format!("volefleece: ./{file}: ")]);
     }
+    let file = format!("{TREE}: expected a house, which is a folder ");
+    complains(&house("house"), &["quote", TREE], &[&file]);
     for (file, line) in [(TREE_TEXT, 2), (VALUES_TEXT, 1), (NAMES, 3)] {
         let folder = folder();
         let lines = "\n".repeat(line - 1);
@@ -313,6 +315,23 @@ fn files_that_cannot_be_read_are_told() {
             &[&format!("./{file}:{line}:1: expected text in UTF-8, found")],
         );
     }
+}
+
+/// Bytes that are no UTF-8 hide no other wrong line, and in a comment they are nobody's business.
+#[test]
+fn lines_that_are_no_text_are_told_with_the_others() {
+    let folder = folder();
+    let text = b"house T\xfcr # 1\nsymbol 1 T\xfcr\nsequence # T\xfcr\n  blok 1\n  block \xfc\n";
+    folder.write(TREE_TEXT, text);
+    let written = ends(folder.command().args(QUOTE), 2);
+    let lines = [
+        "1:7: expected text in UTF-8, found \"T\u{fffd}r # 1\"",
+        "2:10: expected text in UTF-8, found \"T\u{fffd}r\"",
+        "4:3: expected \"block\", \"sequence\", \"choice\" or \"loop\", found \"blok\"",
+        "5:9: expected text in UTF-8, found \"\u{fffd}\"",
+    ];
+    let told = lines.map(|line| format!("volefleece: ./{TREE_TEXT}:{line}\n"));
+    assert_eq!(written.error, told.concat());
 }
 
 #[test]

@@ -7,6 +7,8 @@ use std::fs;
 use std::os::unix::fs::{symlink, MetadataExt, PermissionsExt};
 use std::os::unix::process::CommandExt;
 use std::process::Command;
+use std::sync::atomic::{AtomicBool, Ordering};
+use std::thread;
 
 use common::*;
 use volefleece_tests::programs::{
@@ -17,13 +19,13 @@ use volefleece_tests::tables::*;
 
 const QUOTES: [&str; 2] = ["quotes", "."];
 
-/// What a house's line is compared with: `quote --line`, its status, and the branch's name.
+/// What a house's line is compared with: `quote --line`, its status, and the branch's name and words.
 struct Single {
     line: String,
     status: i32,
 }
 
-/// The house's own line. A refusal has its reason behind the number, an answer the branch's name.
+/// The house's own line. A refusal has its reason behind the number, an answer the branch's name and the child's words.
 fn single(folder: &Folder, house: &str) -> Single {
     let quote = |way: &str| {
         let mut command = folder.command();
@@ -39,9 +41,10 @@ fn single(folder: &Folder, house: &str) -> Single {
     let facts: serde_json::Value = facts.unwrap_or_default();
     let line = text(line.stdout).trim_end().to_owned();
     let line = match status {
-        0 => match facts["branch"]["name"].as_str() {
-            Some(name) => format!("{line} {name}"),
-            None => line,
+        0 => match ["name", "node"].map(|key| facts["branch"][key].as_str()) {
+            [Some(name), Some(node)] if name != node => format!("{line} {name} ({node})"),
+            [Some(name), _] => format!("{line} {name}"),
+            _ => line,
         },
         1 => format!("{line}: {}", facts["reason"].as_str().expect("a reason")),
         _ => "cannot be read".into(),
@@ -193,7 +196,11 @@ fn links_to_folders_are_no_houses() {
     put(&folder, &format!("house/{TREE}"), block(7));
     symlink("..", folder.path("house/up")).expect("a link");
     symlink("house", folder.path("other")).expect("a link");
-    answers(&folder, &QUOTES, "house: figure 7 branch 255\n");
+    let said = quotes(&folder, 0);
+    assert_eq!(said.output, "house: figure 7 branch 255\n");
+    let told = ["./house/up", "./other"]
+        .map(|link| format!("{link}: a link to a folder, which is not followed\n"));
+    assert_eq!(said.error, told.concat());
 }
 
 #[test]
@@ -208,6 +215,70 @@ fn absent_counts_are_named() {
     let said = quotes(&folder, 0);
     assert_eq!(said.output, "house: figure 7000000 branch 255\n");
     assert_eq!(said.error, "house: cards is not given and counts 1000000\n");
+}
+
+/// A blank that counts too high is named beside the refusal.
+#[test]
+fn absent_counts_of_a_refused_house_are_named() {
+    let folder = folder();
+    put(
+        &folder,
+        &format!("house/{TREE}"),
+        sequence(&[symbol_block(16), block(1)]),
+    );
+    put(&folder, &format!("house/{NAMES}"), "symbol 16 radio\n");
+    let said = quotes(&folder, 1);
+    assert!(
+        said.output.starts_with("house: refused 10: "),
+        "{}",
+        said.output
+    );
+    let told = "\
+house: radio is not given and counts 1000000000000
+house: hint: what is not given counts high; give a value to radio
+";
+    assert_eq!(said.error, told);
+}
+
+/// A replacement makes its file there, and a kill may leave it.
+#[test]
+fn a_file_in_the_making_is_no_house() {
+    let folder = folder();
+    put(&folder, &format!("house/{TREE}"), block(7));
+    put(
+        &folder,
+        &format!("house/.volefleece-AbCdEf/{TREE}"),
+        block(8),
+    );
+    answers(&folder, &QUOTES, "house: figure 7 branch 255\n");
+}
+
+#[test]
+fn a_folder_that_is_removed_meanwhile_is_no_house() {
+    let folder = folder();
+    put(&folder, &format!("house/{TREE}"), block(7));
+    let passing: Vec<_> = (0..50)
+        .map(|number| folder.path(&format!("house/{number}")))
+        .collect();
+    let done = AtomicBool::new(false);
+    thread::scope(|scope| {
+        scope.spawn(|| {
+            while !done.load(Ordering::Relaxed) {
+                for below in &passing {
+                    fs::create_dir(below).expect("made");
+                }
+                for below in &passing {
+                    fs::remove_dir(below).expect("removed");
+                }
+            }
+        });
+        let all = (0..100).all(|_| {
+            let said = folder.command().args(QUOTES).output().expect("it runs");
+            said.stdout == b"house: figure 7 branch 255\n" && said.stderr.is_empty()
+        });
+        done.store(true, Ordering::Relaxed);
+        assert!(all);
+    });
 }
 
 /// Root may read everywhere, so for root the command runs as another user, from a copy that this user can reach.
@@ -297,8 +368,8 @@ time radio 90000 cycles
 No opening that this tree admits with these counts keeps the lock's processor awake for more cycles than the figure.
 The figure is exactly what the published method gives for this tree and these counts, no lower and no higher.
 
-tree sha256 01faf270b2ba44b5df7f94350411713c48e5b97bd37321ebf8bc6ae5cd8d5e67
-counts sha256 6c69caec53ebd845e63bb3a989fc45b4c794043b24e6b355f8c8920b44c73052
+tree sha256 01faf270b2ba44b5df7f94350411713c48e5b97bd37321ebf8bc6ae5cd8d5e67 (the table's bytes)
+counts sha256 6c69caec53ebd845e63bb3a989fc45b4c794043b24e6b355f8c8920b44c73052 (all 32 values, 8 bytes each)
 ";
 
 #[test]
@@ -320,7 +391,7 @@ fn a_page_says_all_that_was_quoted() {
         String::from_utf8(output).expect("text")[..64].to_owned()
     };
     assert!(
-        page.contains(&format!("\ntree sha256 {}\n", sum(TREE))),
+        page.contains(&format!("\ntree sha256 {} (", sum(TREE))),
         "{page}"
     );
     // Of all 32 values, also those that the file leaves out.
@@ -329,7 +400,7 @@ fn a_page_says_all_that_was_quoted() {
     (values[0], values[1], values[16]) = (40, 3, 90_000);
     folder.write("all", &values_file(&values));
     assert!(
-        page.contains(&format!("\ncounts sha256 {}\n", sum("all"))),
+        page.contains(&format!("\ncounts sha256 {} (", sum("all"))),
         "{page}"
     );
     assert!(

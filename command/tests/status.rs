@@ -109,7 +109,12 @@ fn refused_counts_end_with_1() {
             refuses(&folder, arguments, number);
         }
         if number == 9 {
-            refuses(&folder, &["values", "show", VALUES], 9);
+            let shown = ends(folder.command().args(["values", "show", VALUES]), 1);
+            assert!(
+                shown.output.starts_with("# refused 9: "),
+                "{}",
+                shown.output
+            );
         }
     }
     let folder = with_files();
@@ -372,9 +377,6 @@ fn every_example_runs_as_printed() {
             .arg(folder.path(""))
             .status();
         assert!(copy.expect("it runs").success());
-        put(&folder, &format!("houses/one/{TREE}"), block(7));
-        put(&folder, "supplier/tree.tab", block(7));
-        folder.write(TREE_TEXT, b"block 7\n");
         folder.write(VALUES_TEXT, b"cards 4\n");
         let mut paths = vec![Path::new(VOLEFLEECE)
             .parent()

@@ -20,7 +20,7 @@ const CTRL_D: &[u8] = b"\x04";
 
 const CARDS: &str = "cards (0 to 1000000): ";
 const RETRIES: &str = "retries (0 to 1000000): ";
-const RADIO: &str = "radio (0 to 1000000000000): ";
+const RADIO: &str = "radio (0 to 1000000000000 cycles): ";
 const HOUSE: &str = "\
 house Lakeside
 figure 210910 cycles
@@ -232,6 +232,18 @@ fn a_triangular_limits_range_is_lower() {
     let (status, seen) = terminal.finish();
     assert_eq!(status.code(), Some(0));
     assert!(seen.contains("figure 7 cycles\n"), "{seen}");
+}
+
+/// Whatever was typed, these values would be refused.
+#[test]
+fn nothing_is_asked_for_beside_values_that_are_refused() {
+    let folder = house("house");
+    for values in [values_file(&[40, 1_000_001]), vec![0; 9]] {
+        folder.write(VALUES, &values);
+        let (status, seen) = quote(&folder).finish();
+        assert_eq!(status.code(), Some(1));
+        assert!(seen.starts_with("refused 9: "), "{seen}");
+    }
 }
 
 #[test]

@@ -1,6 +1,7 @@
 //! `volefleece contract`: the page that the renting house reads. The same tree, counts and names give the same page.
 
 use sha2::{Digest, Sha256};
+use volefleece::VALUES;
 
 use super::quote;
 use crate::cli::Counted;
@@ -18,7 +19,7 @@ pub fn run(counted: &Counted) -> Outcome<String> {
     let house = &quoted.house;
     let values = bytes_of(&house.counts.values());
     Ok(format!(
-        "Waking figure for one opening\n\n{}\n{PROMISE}\ntree sha256 {}\ncounts sha256 {}\nvolefleece {}\n",
+        "Waking figure for one opening\n\n{}\n{PROMISE}\ntree sha256 {} (the table's bytes)\ncounts sha256 {} (all {VALUES} values, 8 bytes each)\nvolefleece {}\n",
         quoted.lines(),
         digest(&house.tree.table),
         digest(&values),

@@ -49,11 +49,17 @@ pub fn make(converted: &Converted) -> Outcome<String> {
     files::replace(&converted.output, &tree.table, said)
 }
 
-pub fn show_values(values: &Path, names: Option<&Path>) -> Outcome<String> {
+/// Values as text, or, where they are refused, as far as they can be read.
+pub fn show_values(values: &Path, names: Option<&Path>) -> Outcome<Answer> {
     let mut names = read_names(names, files::folder_of(values))?;
     let counts = Counts::read(values, &mut names)?;
-    accept(&counts, &names)?;
-    Ok(text::values::print(&counts, &names))
+    Ok(match accept(&counts, &names) {
+        Ok(()) => text::values::print(&counts, &names).into(),
+        Err(refused) => Answer {
+            text: text::values::print_refused(&counts, &names, &refused),
+            status: refused.status(),
+        },
+    })
 }
 
 pub fn make_values(converted: &Converted) -> Outcome<String> {
@@ -71,11 +77,8 @@ pub fn make_values(converted: &Converted) -> Outcome<String> {
     files::replace(&converted.output, &bytes, said)
 }
 
-/// Puts question 9 to values, by a table that no other question refuses: a block of no time.
 fn accept(counts: &Counts, names: &Names) -> Outcome {
-    let block = [0; volefleece::RECORD_BYTES];
-    let refused = volefleece::figure(&block, &counts.lent()).err();
-    refused.map_or(Ok(()), |refusal| {
+    counts.refusal().map_or(Ok(()), |refusal| {
         let hint = counts.fault(names);
         Err(Failure::Refused { refusal, hint })
     })

@@ -46,7 +46,7 @@ fn house(arguments: &Draw) -> Outcome<House> {
 
 /// The child of the root choice that sets the quote, where counts are given and the library quotes the tree with them.
 fn branch(house: &mut House, nodes: &[Node]) -> Outcome<Option<usize>> {
-    if !house.counts.any() && !house.counts.has_wrong_length() {
+    if !house.counts.any() && house.counts.refusal().is_none() {
         return Ok(None);
     }
     house.complete(nodes, false)?;

@@ -6,7 +6,7 @@ use volefleece::{Quote, FIRST_TIME};
 use super::Answer;
 use crate::cli;
 use crate::failure::{note, Failure, Outcome};
-use crate::house::House;
+use crate::house::{unit, House};
 use crate::table::{self, Node};
 
 pub fn run(arguments: &cli::Quote) -> Outcome<Answer> {
@@ -83,7 +83,7 @@ impl Quoted {
             let class = if symbol < FIRST_TIME { "count" } else { "time" };
             let name = self.house.tree.names.symbol(symbol);
             let value = self.house.counts.values()[symbol];
-            let unit = if symbol < FIRST_TIME { "" } else { " cycles" };
+            let unit = unit(symbol);
             let given = if self.house.counts.given(symbol).is_some() {
                 ""
             } else {
@@ -94,30 +94,22 @@ impl Quoted {
         lines
     }
 
-    /// The branch by its name and, since names may be of another tree, by its child's words.
+    /// The branch by its name and its child's words.
     fn branch_line(&self) -> String {
         let Some(branch) = self.quote.branch else {
             return "none (no choice at the root)".into();
         };
-        let (name, words) = (
-            self.house.branch_name(branch),
-            self.house.branch_words(branch),
-        );
-        let words = if name == words {
-            String::new()
-        } else {
-            format!(": {words}")
-        };
-        format!("{name} (child {branch} of the choice at the root{words})")
+        let child = format!("child {branch} of the choice at the root");
+        match self.house.branch_said(branch) {
+            (Some(name), words) => format!("{name} ({child}: {words})"),
+            (None, words) => format!("{words} ({child})"),
+        }
     }
 
     fn json(&self) -> Value {
         let branch = self.quote.branch.map(|branch| {
-            let (name, node) = (
-                self.house.branch_name(branch),
-                self.house.branch_words(branch),
-            );
-            json!({"child": branch, "name": name, "node": node})
+            let (name, node) = self.house.branch_said(branch);
+            json!({"child": branch, "name": name.unwrap_or(&node), "node": node})
         });
         let counts: Vec<Value> = table::symbols(&self.nodes)
             .into_iter()

@@ -1,6 +1,7 @@
 //! `volefleece quotes`: every house below a folder.
 
 use std::fs;
+use std::io;
 use std::path::{Path, PathBuf};
 
 use indicatif::{ParallelProgressIterator, ProgressBar};
@@ -8,6 +9,7 @@ use rayon::prelude::*;
 
 use super::{quote, Answer};
 use crate::failure::{note, Failure, Outcome};
+use crate::files;
 use crate::house::{self, not_given, House};
 use crate::tree;
 use crate::words::on_one_line;
@@ -40,29 +42,59 @@ pub fn run(folder: &Path) -> Outcome<Answer> {
 
 /// The houses at or below a folder, in order. What cannot be read may be one, and is told in its place.
 fn houses(folder: &Path) -> Outcome<Vec<PathBuf>> {
-    if let Err(error) = fs::read_dir(folder) {
-        return Err(Failure::file(folder, &error));
-    }
-    let mut houses = Vec::new();
+    let mut found = Found::default();
     let mut left = vec![folder.to_path_buf()];
-    while let Some(folder) = left.pop() {
-        let entries = fs::read_dir(&folder).and_then(Iterator::collect::<Result<Vec<_>, _>>);
-        let is_house = entries.as_ref().map_or(true, |entries| has_house(entries));
-        for entry in entries.iter().flatten() {
-            if entry.file_type().is_ok_and(|kind| kind.is_dir()) {
-                left.push(entry.path());
-            }
-        }
-        if is_house {
-            houses.push(folder);
+    while let Some(below) = left.pop() {
+        match fs::read_dir(&below).and_then(Iterator::collect::<Result<Vec<_>, _>>) {
+            Err(error) if below == folder => return Err(Failure::file(folder, &error)),
+            // It was removed meanwhile.
+            Err(error) if error.kind() == io::ErrorKind::NotFound => {}
+            Err(_) => found.houses.push(below),
+            Ok(entries) => left.extend(found.add(below, &entries)),
         }
     }
-    if houses.is_empty() {
+    found.links.sort();
+    for link in &found.links {
+        let link = on_one_line(&link.to_string_lossy());
+        note(&format!(
+            "{link}: a link to a folder, which is not followed"
+        ));
+    }
+    if found.houses.is_empty() {
         let message = format!("{}: there is no house in it or below it", folder.display());
         return Err(Failure::Problem(message));
     }
-    houses.sort();
-    Ok(houses)
+    found.houses.sort();
+    Ok(found.houses)
+}
+
+/// What was found below a folder.
+#[derive(Default)]
+struct Found {
+    houses: Vec<PathBuf>,
+    /// Links to folders, which could lead round in a circle.
+    links: Vec<PathBuf>,
+}
+
+impl Found {
+    /// Takes in a folder with what is in it, and answers the folders below.
+    fn add(&mut self, folder: PathBuf, entries: &[fs::DirEntry]) -> Vec<PathBuf> {
+        let mut below = Vec::new();
+        for entry in entries.iter().filter(|entry| !files::is_making(entry)) {
+            let Ok(kind) = entry.file_type() else {
+                continue;
+            };
+            if kind.is_dir() {
+                below.push(entry.path());
+            } else if kind.is_symlink() && entry.path().is_dir() {
+                self.links.push(entry.path());
+            }
+        }
+        if has_house(entries) {
+            self.houses.push(folder);
+        }
+        below
+    }
 }
 
 fn has_house(entries: &[fs::DirEntry]) -> bool {
@@ -120,16 +152,17 @@ fn quote_house(folder: &Path, name: &str, notes: &mut Vec<String>) -> Outcome<St
             .drop_wrong_branches(&nodes)
             .map(|line| format!("{name}: {line}")),
     );
-    let quote = house.quote()?;
     for symbol in house.absent(&nodes) {
         notes.push(format!(
             "{name}: {}",
             not_given(&house.tree.names.symbol(symbol), symbol)
         ));
     }
-    let branch = quote
-        .branch
-        .map(|branch| format!(" {}", house.branch_name(branch)))
-        .unwrap_or_default();
-    Ok(format!("{}{branch}", quote::line(&quote).trim_end()))
+    let quote = house.quote()?;
+    let branch = quote.branch.map(|branch| match house.branch_said(branch) {
+        (Some(name), words) => format!(" {name} ({words})"),
+        (None, words) => format!(" {words}"),
+    });
+    let line = quote::line(&quote);
+    Ok(format!("{}{}", line.trim_end(), branch.unwrap_or_default()))
 }

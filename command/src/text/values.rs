@@ -5,6 +5,7 @@ use volefleece::{ceiling, VALUES};
 use super::header;
 use super::lines::{lines, number, Line, Problem, Problems};
 use crate::counts::Counts;
+use crate::failure::Failure;
 use crate::names::Names;
 
 /// The values that a text gives. Its names are taken in beside those that are known.
@@ -48,7 +49,12 @@ fn value(line: &mut Line, names: &Names, counts: &mut Counts) -> Result<(), Prob
     line.want_end()
 }
 
-/// The text of these values, which gives them back. Each is in range.
+/// Values that the library refuses, as far as they can be read: the refusal, then each value.
+pub fn print_refused(counts: &Counts, names: &Names, failure: &Failure) -> String {
+    failure.commented() + &print(counts, names)
+}
+
+/// The text of these values, which gives them back if each is in range.
 pub fn print(counts: &Counts, names: &Names) -> String {
     let given: Vec<usize> = (0..VALUES)
         .filter(|&symbol| counts.given(symbol).is_some())

@@ -39,11 +39,7 @@ pub fn print(table: &[u8], names: &Names) -> String {
 pub fn print_refused(table: &[u8], names: &Names, failure: &Failure) -> String {
     let records = table::records(table);
     let (places, _) = table::places(&records);
-    let mut lines: Vec<String> = failure
-        .to_string()
-        .lines()
-        .map(|line| format!("# {line}"))
-        .collect();
+    let mut lines = Vec::new();
     for (at, record) in records.iter().enumerate() {
         let place = places.get(at);
         let before = place.map_or(String::new(), |place| indent(place) + role(&records, place));
@@ -59,7 +55,7 @@ pub fn print_refused(table: &[u8], names: &Names, failure: &Failure) -> String {
     } else if !left.is_empty() {
         lines.push(format!("{} # no whole record", hexadecimal(left)));
     }
-    whole(&lines)
+    failure.commented() + &whole(&lines)
 }
 
 fn whole(lines: &[String]) -> String {
