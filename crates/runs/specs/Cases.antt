@@ -5,6 +5,7 @@ use mathlib.Core.Path.{refl}
 use mathlib.Core.List.{List, [], _∷_, map}
 use mathlib.Core.Logic.{_⊎_, inl, inr}
 use Prim.Native.Nat.{ℕ}
+use lib.Dec.{T}
 use native.Mathlib.Omega.{arith}
 use Rattle.booleans.specs.Tests.{_and_}
 use Rattle.table.specs.Notation.{_/T_at_, _/_at_, block, both, either, loop, sequence}
@@ -12,7 +13,8 @@ use Rattle.triangular.specs.Triangular.{rule, triangular}
 use Rattle.table.specs.Trees.{Tree, nil, _▸_, rest}
 use Rattle.runs.specs.Nodes.{AtMost, Most}
 use Rattle.evaluate.specs.Evaluate.{Values, amount, outward, allowed}
-use Rattle.runs.specs.Runs.{Costs, Pass, Run, cost, count, here, limitAt, out, seenLimit, total}
+use Rattle.evaluate.specs.Closed.{isUnlimited}
+use Rattle.runs.specs.Runs.{Costs, Pass, Run, cost, count, here, limitAt, limitFree, out, seenLimit, total}
 use Rattle.runs.specs.Laws.Admits.{admits, every, everyNode, isRun, keepsHere, keepsLimit, run-costs}
 
 -- ---- the trees
@@ -145,3 +147,15 @@ module _ (v : Values) where
 pub run-shrinking : Costs (λ k. 2) shrinking 21
 unfolding computed
 run-shrinking = run-costs (λ k. 2) shrinking (goingRound (goingRound (tt ∷ tt ∷ []) ∷ goingRound (tt ∷ []) ∷ [])) 21 tt refl
+
+-- ---- which trees have no limit
+
+-- one with every kind of node, and no limit on any
+pub none-limited : T (limitFree (loop 3 (sequence (either (block 10) (block 5) ▸ nil)) (block 4)))
+unfolding computed limitFree isUnlimited
+none-limited = tt
+
+-- not one with a limit on an exit within a body
+pub exit-limited : T (limitFree limitedExit) → ⊥
+unfolding computed limitFree isUnlimited
+exit-limited h = h
