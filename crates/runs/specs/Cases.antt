@@ -1,5 +1,5 @@
 -- Trees of document 01's cases C, D, E, F, H and I, and admitted runs of them. Each costs the figure, except that case I's figure is 66: Laws/CaseI shows that
--- 46 is the most that is admitted there. Three more trees show what these cases do not. No tree but the last has a symbol, so all of it but that tree's run
+-- 46 is the most that is admitted there. Four more trees show what these cases do not. No tree but the last has a symbol, so all of it but that tree's run
 -- holds at all values.
 use mathlib.Core.Path.{refl}
 use mathlib.Core.List.{List, [], _∷_, map}
@@ -51,13 +51,17 @@ limitedExit = loop 2 (loop 1 (block 0) (block 10 / 1 at 1)) (block 0)
 unfoldable pub limitedLoop : Tree
 limitedLoop = loop 2 (loop 3 (block 5) (block 0) / 1 at 1) (block 4 / 1 at 255)
 
+-- no case of document 01: a limit of two passes in the whole run, within two loops
+unfoldable pub limitedRun : Tree
+limitedRun = loop 3 (loop 2 (block 5 / 2 at 255) (block 1)) (block 0)
+
 -- document 02's triangular loop: at most the triangular number of symbol 0 passes of the block in the outer loop's pass
 unfoldable pub shrinking : Tree
 shrinking = loop 2 (loop 2 (block 7 /T 0 at 2) (block 0)) (block 0)
 
 -- to unfold this is to unfold all that the trees, and a run's test and cost, compute with
 unfoldable pub computed : ℕ
-unfolding caseC caseE term caseH caseI limitedZero limitedExit limitedLoop shrinking block _/_at_ _/T_at_ triangular rule sequence both either loop _and_ rest allowed amount outward out seenLimit limitAt count total cost keepsLimit keepsHere everyNode every admits isRun
+unfolding caseC caseE term caseH caseI limitedZero limitedExit limitedLoop limitedRun shrinking block _/_at_ _/T_at_ triangular rule sequence both either loop _and_ rest allowed amount outward out seenLimit limitAt count total cost keepsLimit keepsHere everyNode every admits isRun
 computed = 0
 
 -- ---- their passes
@@ -135,6 +139,11 @@ module _ (v : Values) where
   pub run-limitedLoop : Costs v limitedLoop 19
   unfolding computed
   run-limitedLoop = run-costs v limitedLoop (goingRound (goingRound (tt ∷ tt ∷ tt ∷ []) ∷ [])) 19 tt refl
+
+  -- 5, 5 and 1, then 1: the inner loop's second pass goes round not at all, and the run makes both passes that the limit allows
+  pub run-limitedRun : Costs v limitedRun 12
+  unfolding computed
+  run-limitedRun = run-costs v limitedRun (goingRound (goingRound (tt ∷ tt ∷ []) ∷ goingRound [] ∷ [])) 12 tt refl
 
   -- the outer loop's pass may not pass the limited exit twice
   pub exit-outside : Run v limitedExit exitTwice → ⊥
