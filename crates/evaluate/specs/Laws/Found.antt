@@ -20,7 +20,7 @@ use Rattle.evaluate.specs.Nodes.{Kind, Block, Sequence, Choice, Loop, Li
 use Rattle.evaluate.specs.Evaluate.{join, outward, rounds, Values, amount, inner, seen, limit, turns, allowed}
 use Rattle.evaluate.specs.Evaluator.{Agree, Found, alike, nextHolder, joinPairs, unfit, found, checked, joined, looped, goneRound, limited}
 use Rattle.evaluate.specs.Laws.PairCount.{own}
-use Rattle.evaluate.specs.Laws.Settled.{allowed-most, amount-most}
+use Rattle.evaluate.specs.Laws.Amounts.{allowed-most, amount-most}
 use Rattle.evaluate.specs.Laws.Kinds.{grouped}
 use Rattle.evaluate.specs.Laws.Alike.{count-alike, limit-alike}
 use Rattle.table.specs.Limits.{mostHolds}

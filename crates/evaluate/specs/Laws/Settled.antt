@@ -1,21 +1,19 @@
 -- From where a tree's list is constant, and how far that is at most.
-use mathlib.Core.Path.{_≡_}
 use mathlib.Core.Bool.{cond}
 use Prim.Native.Nat.{ℕ, _+_, _*_, _≤_, _<_}
 use native.Mathlib.Omega.{arith}
-use lib.Dec.{leb, T, ltb→lt, leb→le}
-use Rattle.evaluate.specs.Nodes.{Kind, Limit, Unlimited, AtMost, Number, Plain, Symbol, Most}
+use lib.Dec.{leb, T}
+use Rattle.evaluate.specs.Nodes.{Kind, Limit, Unlimited, AtMost}
 use Rattle.booleans.specs.Laws.{by-conds, both}
 use Rattle.table.specs.Numbers.{mostCount, firstTimeSymbol}
 use Rattle.table.specs.Trees.{Tree, node, Forest, nil, _▸_, rest}
-use Rattle.table.specs.Questions.{countInRange, limitInRange, listed, listedIn, mostInRange}
+use Rattle.table.specs.Questions.{limitInRange, listed, listedIn}
 use Rattle.lists.specs.Streams.{Stream}
 use Rattle.lists.specs.Laws.Sums.{Falls}
 use Rattle.lists.specs.Laws.Settled.{Settled, add-settled, merge-settled, const-settled, group-settled, cap-settled}
-use Rattle.triangular.specs.Triangular.{mostTriangular, rule}
-use Rattle.triangular.specs.Laws.Rule.{triangular-is, triangular-most}
 use Rattle.evaluate.specs.Evaluate.{join, rounds, Values, amount, limit, turns, name, list, before, allowed}
 use Rattle.evaluate.specs.ListPairs.{placeOf, turned, place, placeIn}
+use Rattle.evaluate.specs.Laws.Amounts.{allowed-most}
 use Rattle.evaluate.specs.Laws.Monotone.{list-falls, before-falls, turns-falls}
 use Rattle.evaluate.specs.Laws.PairCount.{own, bound, boundIn}
 use Rattle.evaluate.specs.Laws.Kinds.{grouped, by-join, by-start, by-first}
@@ -51,29 +49,13 @@ mutual
       join-settled k _ _ _ _ (turns-falls v k (name t) _ (list-falls v t)) (before-falls v (rest k) f)
       (turns-settled v k (name t) _ _ (list-settled v t)) (before-settled v (rest k) f)
 
--- a limit under flag 4 is the rule's number itself, as far as the constant table goes
-pub allowed-rule : (v : Values) (s : ℕ) → v s ≤ mostTriangular → allowed v (Most.Triangular s) ≡ rule (v s)
-unfolding allowed
-allowed-rule v s l = triangular-is (v s) l
-
 -- ---- with limits at most their ceiling, no place is past that many for each fall that `bound` counts
 
 module _ (v : Values) (ranged : (k : ℕ) → k < firstTimeSymbol → v k ≤ mostCount) where
-  pub amount-most : (m : Number) → T (countInRange m) → amount v m ≤ mostCount
-  unfolding countInRange amount
-  amount-most (Plain n) h = leb→le n mostCount h
-  amount-most (Symbol s) h = ranged s (ltb→lt s firstTimeSymbol h)
-
-  pub allowed-most : (m : Most) → T (mostInRange m) → allowed v m ≤ mostCount
-  unfolding mostInRange allowed
-  allowed-most (Most.Plain n) h = leb→le n mostCount h
-  allowed-most (Most.Symbol s) h = ranged s (ltb→lt s firstTimeSymbol h)
-  allowed-most (Most.Triangular s) h = omega (arith, triangular-most (v s))
-
   own-most : (l : Limit) (w p : ℕ) → T (limitInRange l) → p ≤ w * mostCount → placeOf v l p ≤ own l w * mostCount
   unfolding own placeOf limitInRange
   own-most Unlimited w p h l = l
-  own-most (AtMost k m) w p h l = omega (arith, allowed-most m (both _ _ h .1))
+  own-most (AtMost k m) w p h l = omega (arith, allowed-most v ranged m (both _ _ h .1))
 
   turned-most : (k : Kind) (n w p : ℕ) → p ≤ w * mostCount → turned k n p ≤ grouped k n w * mostCount
   unfolding turned grouped

@@ -19,7 +19,7 @@ use Rattle.table.specs.declared.Most.{Most}
 use Rattle.table.specs.Laws.Limits.{each-follows, no-flag, table-limits}
 use Rattle.triangular.specs.Triangular.{mostTriangular, rule}
 use Rattle.evaluate.specs.Evaluate.{Values, allowed, valuesOf}
-use Rattle.evaluate.specs.Laws.Settled.{allowed-rule}
+use Rattle.evaluate.specs.Laws.Amounts.{allowed-rule}
 use Rattle.table.specs.Laws.Asking.{Yes, all-yes, numbered, yes-all}
 use Rattle.values.specs.Flags.{flagFree}
 use Rattle.values.specs.Values.{ceiling, question13, question9, ranged, recordSmall, triangleSmall, valueQuestions, valuesRefusal}
