@@ -1,5 +1,4 @@
 // Steps of document 01's simplification on a table's bytes, up to an allowance.
-ghost use mathlib.Core.Path.{_≡_};
 ghost use Prim.Native.Nat.{_*_, _≤_};
 ghost use lib.ListN.{length, take};
 ghost use Rattle.table.specs.Numbers.{recordLength};
