@@ -15,7 +15,7 @@ use table::RECORD_LENGTH;
 use table::WHOLE_RUN;
 
 // The node at the front of `table` with everything below it, at most `depth` nodes deep.
-pub fn evaluate_node(
+fn evaluate_node(
     table: &[u8],
     values: &[u64],
     depth: usize,
