@@ -831,8 +831,11 @@ fn the_gate_ends_with_the_count() {
     assert_eq!(ended.status, Some(0), "{ended:?}");
     let ran = "tests ran\n".repeat(3);
     assert_eq!(ended.output, format!("proved\n{ran}3 passed, 0 failed\n"));
+    // What the command is built with is made ready beside the proofs.
+    let is_beside = |call: &String| call == FITTED || call.contains("cargo build");
+    let (beside, calls): (Vec<_>, Vec<_>) = copy.calls().into_iter().partition(is_beside);
     assert_eq!(
-        copy.calls(),
+        calls,
         [
             "version",
             "fmt --check",
@@ -840,11 +843,12 @@ fn the_gate_ends_with_the_count() {
             "staticlib volefleece",
             "staticlib probes",
             "tests: cargo test --release --offline",
-            FITTED,
             "volefleece-rs: cargo test --release --offline",
             "command: cargo test --release --target-dir target"
         ]
     );
+    let built = "command: cargo build --release --keep-going --target-dir target";
+    assert_eq!(beside, [FITTED, built]);
 }
 
 #[test]
@@ -867,6 +871,7 @@ fn the_gate_keeps_the_count_back() {
     let ended = copy.run("test");
     assert_eq!(ended.status, Some(2));
     assert_eq!(ended.output, "proved\ntests ran\n");
+    assert!(ended.error.ends_with("\nno version fits\n"), "{ended:?}");
 
     for (count, ends) in [("2 passed, 1 failed", "0"), ("3 passed, 0 failed", "1")] {
         let copy = Repository::new(PROGRAM);
