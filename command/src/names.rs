@@ -12,6 +12,8 @@ pub struct Names {
     symbols: BTreeMap<usize, String>,
     branches: BTreeMap<usize, String>,
     house: Option<String>,
+    /// Names of a text whose own lines are wrong.
+    excused: BTreeSet<String>,
 }
 
 /// What a name is of.
@@ -82,6 +84,18 @@ impl Names {
             }
             _ => Ok(()),
         }
+    }
+
+    /// Remembers a name whose own line is wrong, unless it is none.
+    pub fn excuse(&mut self, name: &str) {
+        if is_word(name) && !WORDS.contains(&name) {
+            self.excused.insert(name.into());
+        }
+    }
+
+    /// Whether a name that is no symbol's would be one, were its own line not wrong.
+    pub fn is_excused(&self, name: &str) -> bool {
+        self.excused.contains(name)
     }
 
     /// Takes in what another tree calls these symbols, which must not contradict what they are called here.

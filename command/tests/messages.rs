@@ -250,7 +250,7 @@ fn every_line_is_told() {
         text,
         &[
             "1:8: expected a symbol's number, 0 to 31, found \"77\"",
-            &format!("3:8: {COUNT}, found \"x\""),
+            &format!("3:29: {LOOPS}, found \"9\""),
             "4:5: expected \"body\": a loop's body comes first",
             &format!("5:10: {KIND}, found \"blok\""),
             &format!("6:18: {COUNT}, and the line ends"),
@@ -289,6 +289,29 @@ fn headers() {
         "symbol 3 card count",
         &["1:15: expected the end of the line, found \"count\""],
     );
+}
+
+/// A wrong line of a name is told there, and not wherever the name is used.
+#[test]
+fn a_wrong_name_is_told_once() {
+    let symbol = "1:8: expected a symbol's number, 0 to 31, found \"32\"";
+    let nodes = "sequence\n  block x at most x per run\n  loop x at most triangular x per run\n    body block y\n    exit block 1";
+    let other = format!("5:16: {TIME}, found \"y\"");
+    tree(&format!("symbol 32 x\n{nodes}"), &[symbol, &other]);
+    values(
+        "symbol 32 x\nx 7\ncount-0 1000001",
+        &[
+            symbol,
+            "3:9: expected a number from 0 to 1000000, found \"1000001\"",
+        ],
+    );
+    // A name that there is not excuses nothing.
+    tree(
+        "symbol 32\nblock",
+        &[symbol, &format!("2:6: {TIME}, and the line ends")],
+    );
+    let found = format!("2:7: {TIME}, found \"at\"");
+    tree("symbol 32 at\nblock at most 1 per run", &[symbol, &found]);
 }
 
 #[test]

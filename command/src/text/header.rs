@@ -16,14 +16,27 @@ pub fn begins(first: &Word) -> bool {
     matches!(first.text, "symbol" | "branch" | "house")
 }
 
-/// Takes in the name of a line that is one of the header's.
+/// Takes in the name of a line that is one of the header's. A symbol's name is one word, another name the rest of the line, `#` included.
 pub fn read(line: &mut Line, names: &mut Names) -> Result<(), Problem> {
-    let named = match line.next().text {
-        "symbol" => Named::Symbol(index(line, VALUES as u64 - 1, "a symbol's number")?),
-        "branch" => Named::Branch(index(line, MOST_BRANCH, "a child's number")?),
-        _ => Named::House,
-    };
-    name(line, named, names)
+    match line.next().text {
+        "symbol" => symbol(line, names),
+        "branch" => {
+            let child = index(line, MOST_BRANCH, "a child's number")?;
+            add(&line.rest(), Named::Branch(child), names)
+        }
+        _ => add(&line.rest(), Named::House, names),
+    }
+}
+
+/// What is wrong here is told once, and not again wherever the name is used.
+fn symbol(line: &mut Line, names: &mut Names) -> Result<(), Problem> {
+    let symbol = index(line, VALUES as u64 - 1, "a symbol's number");
+    let word = line.next();
+    let added = symbol.and_then(|symbol| add(&word, Named::Symbol(symbol), names));
+    if added.is_err() {
+        names.excuse(word.text);
+    }
+    added.and_then(|()| line.want_end())
 }
 
 fn index(line: &mut Line, most: u64, what: &str) -> Result<usize, Problem> {
@@ -33,17 +46,9 @@ fn index(line: &mut Line, most: u64, what: &str) -> Result<usize, Problem> {
     number.map(|number| number as usize).ok_or_else(expected)
 }
 
-/// A symbol's name is one word, another name the rest of the line, `#` included.
-fn name(line: &mut Line, named: Named, names: &mut Names) -> Result<(), Problem> {
-    let word = match named {
-        Named::Symbol(_) => line.next(),
-        Named::Branch(_) | Named::House => line.rest(),
-    };
-    if word.text.is_empty() {
-        return Err(Problem::expected(&word, "a name"));
+fn add(name: &Word, named: Named, names: &mut Names) -> Result<(), Problem> {
+    if name.text.is_empty() {
+        return Err(Problem::expected(name, "a name"));
     }
-    names
-        .add(named, word.text)
-        .map_err(|why| word.problem(why))?;
-    line.want_end()
+    names.add(named, name.text).map_err(|why| name.problem(why))
 }

@@ -29,6 +29,9 @@ pub fn parse(text: &str, names: &mut Names) -> Result<Counts, Problems> {
 
 fn value(line: &mut Line, names: &Names, counts: &mut Counts) -> Result<(), Problem> {
     let name = line.next();
+    if names.is_excused(name.text) {
+        return Ok(());
+    }
     let symbol = names.find(name.text);
     let expected = || {
         Problem::expected(

@@ -51,7 +51,7 @@ fn time(line: &mut Line, names: &Names) -> Result<Amount, Problem> {
     let symbol = names.find(word.text).filter(|&symbol| symbol >= FIRST_TIME);
     let amount = number(&word, MOST_TIME).map(Amount::Plain);
     let amount = amount.or(symbol.map(|symbol| Amount::Symbol(symbol as u64)));
-    amount.ok_or_else(|| {
+    amount.or(excused(&word, names)).ok_or_else(|| {
         Problem::expected(
             &word,
             &format!("a time from 0 to {MOST_TIME} or the name of one (symbols 16 to 31)"),
@@ -63,12 +63,17 @@ fn count(line: &mut Line, names: &Names) -> Result<Amount, Problem> {
     let word = line.next();
     let plain = number(&word, MOST_COUNT).map(Amount::Plain);
     let amount = plain.or(count_symbol(&word, names).map(Amount::Symbol));
-    amount.ok_or_else(|| {
+    amount.or(excused(&word, names)).ok_or_else(|| {
         Problem::expected(
             &word,
             &format!("a count from 0 to {MOST_COUNT} or the name of one (symbols 0 to 15)"),
         )
     })
+}
+
+/// Any amount, for a name that is wrong where it is given: no table is made of the text.
+fn excused(word: &Word, names: &Names) -> Option<Amount> {
+    names.is_excused(word.text).then_some(Amount::Plain(0))
 }
 
 fn count_symbol(word: &Word, names: &Names) -> Option<u64> {
@@ -91,6 +96,7 @@ fn limit(line: &mut Line, names: &Names) -> Result<Option<Limit>, Problem> {
     let amount = if line.take("triangular") {
         let word = line.next();
         let symbol = count_symbol(&word, names).map(Amount::Triangular);
+        let symbol = symbol.or(excused(&word, names));
         symbol.ok_or_else(|| Problem::expected(&word, "the name of a count (symbols 0 to 15)"))?
     } else {
         count(line, names)?
