@@ -336,23 +336,6 @@ fn lines_that_are_no_text_are_told_with_the_others() {
 
 #[test]
 fn every_line_that_is_wrong_is_told() {
-/// Bytes that are no UTF-8 hide no other wrong line, and in a comment they are nobody's business.
-#[test]
-fn lines_that_are_no_text_are_told_with_the_others() {
-    let folder = folder();
-    let text = b"house T\xfcr # 1\nsymbol 1 T\xfcr\nsequence # T\xfcr\n  blok 1\n  block \xfc\n";
-    folder.write(TREE_TEXT, text);
-    let written = ends(folder.command().args(QUOTE), 2);
-    let lines = [
-        "1:7: expected text in UTF-8, found \"T\u{fffd}r # 1\"",
-        "2:10: expected text in UTF-8, found \"T\u{fffd}r\"",
-        "4:3: expected \"block\", \"sequence\", \"choice\" or \"loop\", found \"blok\"",
-        "5:9: expected text in UTF-8, found \"\u{fffd}\"",
-    ];
-    let told = lines.map(|line| format!("volefleece: ./{TREE_TEXT}:{line}\n"));
-    assert_eq!(written.error, told.concat());
-}
-
     let folder = house("entrance");
     folder.write(VALUES_TEXT, b"cards many\ndoors 4\ncards 4\ncards 5\n");
     let places = [
