@@ -1,7 +1,8 @@
 //! Safe calls of the proved volefleece library, which quotes the most processor cycles a battery door lock can stay awake for one opening.
 //!
 //! A table is 16-byte records and values are 32 numbers; docs/FORMAT.md has all of it. Each call answers what its contract in
-//! crates/volefleece promises, or the first question that says no as a [`Refusal`].
+//! crates/volefleece promises, or the first question that says no as a [`Refusal`]. A call wants less than 192 KiB of stack, as measured
+//! (docs/BENCHMARKS.md).
 //!
 //! ```
 //! // A choice of two blocks: 7 cycles, and symbol 16.
