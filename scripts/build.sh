@@ -64,8 +64,15 @@ renew() {
     unlock
 }
 
+# Has `rt` start two jobs for each processor. It starts so many and waits for all of them: so none stands idle for the slowest.
+set_jobs() {
+    RT_JOBS=${RT_JOBS:-$((2 * $(nproc)))}
+    export RT_JOBS
+}
+
 by_rt() {
     command -v rt >/dev/null || fail "$file is not built from these sources, and to build it the kit's rt must be on PATH"
+    set_jobs
     if is_spoilt; then
         # the last word
         for crate; do :; done
