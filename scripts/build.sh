@@ -79,6 +79,8 @@ by_rt() {
         rm -f "$file" "$root/target/stamp/$crate"
     fi
     rm -f "$file.built"
+    # What a static library leans on `rt` would prove one by one.
+    [ "$1" != staticlib ] || (cd "$root" && exec rt check "$2") >&2 || fail "rt check $2 failed"
     (cd "$root" && exec rt "$@") >&2 || fail "rt $* failed"
     [ -f "$file" ] || fail "rt takes $file for built, and it is missing: remove the folder target and try again"
 }

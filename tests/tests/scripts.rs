@@ -491,6 +491,7 @@ fn commands_build_one_at_a_time() {
     let built = [
         "check desk",
         "check sales",
+        "check volefleece",
         BUILT_COMMAND,
         FITTED,
         "staticlib volefleece",
@@ -584,7 +585,15 @@ fn expect_built(copy: &Repository, calls: &[&str]) {
 #[test]
 fn changes_of_the_command_are_built_once() {
     let copy = Repository::new(PROGRAM);
-    expect_built(&copy, &["staticlib volefleece", FITTED, BUILT_COMMAND]);
+    expect_built(
+        &copy,
+        &[
+            "check volefleece",
+            "staticlib volefleece",
+            FITTED,
+            BUILT_COMMAND,
+        ],
+    );
     for source in [
         "command/src/main.rs",
         "command/src/new.rs",
@@ -612,12 +621,28 @@ fn changes_of_the_command_are_built_once() {
 fn the_command_is_built_of_the_archive() {
     let copy = Repository::new(PROGRAM);
     let source = copy.path("crates/desk/src/main.rt");
-    expect_built(&copy, &["staticlib volefleece", FITTED, BUILT_COMMAND]);
+    expect_built(
+        &copy,
+        &[
+            "check volefleece",
+            "staticlib volefleece",
+            FITTED,
+            BUILT_COMMAND,
+        ],
+    );
     put(&source, "the same archive");
-    expect_built(&copy, &["staticlib volefleece"]);
+    expect_built(&copy, &["check volefleece", "staticlib volefleece"]);
     put_script(&copy.path("builds/staticlib/libvolefleece.a"), "another");
     put(&source, "another archive");
-    expect_built(&copy, &["staticlib volefleece", FITTED, BUILT_COMMAND]);
+    expect_built(
+        &copy,
+        &[
+            "check volefleece",
+            "staticlib volefleece",
+            FITTED,
+            BUILT_COMMAND,
+        ],
+    );
 }
 
 #[test]
@@ -625,7 +650,15 @@ fn a_command_that_was_not_built_is_replaced() {
     const CLEANED: &str =
         "command: cargo clean --release --package volefleece-command --target-dir target";
     let copy = Repository::new(PROGRAM);
-    expect_built(&copy, &["staticlib volefleece", FITTED, BUILT_COMMAND]);
+    expect_built(
+        &copy,
+        &[
+            "check volefleece",
+            "staticlib volefleece",
+            FITTED,
+            BUILT_COMMAND,
+        ],
+    );
     put_script(&copy.path("command/target/release/volefleece"), "spoilt");
     expect_built(&copy, &[FITTED, CLEANED, BUILT_COMMAND]);
     fs::remove_dir_all(copy.path("command/target")).expect("removed");
@@ -840,7 +873,9 @@ fn the_gate_ends_with_the_count() {
             "version",
             "fmt --check",
             "ci",
+            "check volefleece",
             "staticlib volefleece",
+            "check probes",
             "staticlib probes",
             "tests: cargo test --release --offline",
             "volefleece-rs: cargo test --release --offline",
@@ -923,7 +958,9 @@ fn the_benchmarks_are_of_what_is_built() {
     assert_eq!(
         copy.calls(),
         [
+            "check volefleece",
             "staticlib volefleece",
+            "check probes",
             "staticlib probes",
             "check desk",
             benched,
@@ -933,7 +970,7 @@ fn the_benchmarks_are_of_what_is_built() {
         ]
     );
     assert_eq!(copy.run("bench").status, Some(0));
-    assert_eq!(copy.calls()[7..], [benched, command]);
+    assert_eq!(copy.calls()[9..], [benched, command]);
 }
 
 #[test]
