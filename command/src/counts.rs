@@ -34,7 +34,7 @@ impl Counts {
     /// What a file of values gives: its last ones may be absent.
     pub fn from_bytes(bytes: &[u8]) -> Self {
         let mut counts = Counts::default();
-        if bytes.len() > Self::MOST_BYTES || !bytes.len().is_multiple_of(VALUE_BYTES) {
+        if bytes.len() > Self::MOST_BYTES || bytes.len() % VALUE_BYTES != 0 {
             counts.wrong_length = Some(bytes.len());
         }
         for (given, value) in counts.given.iter_mut().zip(bytes.chunks_exact(VALUE_BYTES)) {
@@ -96,15 +96,21 @@ impl Counts {
         volefleece::figure(&block, &self.lent()).err()
     }
 
+    /// Whether these come from a file of a length that no file of values has.
+    pub fn has_wrong_length(&self) -> bool {
+        self.wrong_length.is_some()
+    }
+
     /// What question 9 says no to, for a reader.
     pub fn fault(&self, names: &Names) -> Option<String> {
         if let Some(length) = self.wrong_length {
+            let most = Self::MOST_BYTES;
             let length = match length {
-                length if length > Self::MOST_BYTES => format!("more than {}", Self::MOST_BYTES),
+                length if length > most => format!("more than {most}"),
                 length => length.to_string(),
             };
             return Some(format!(
-                "the file of values has {length} bytes, and it can have {VALUE_BYTES} for each of {VALUES} values at most"
+                "the file of values has {length} bytes; expected a multiple of {VALUE_BYTES}, at most {most}"
             ));
         }
         let values = self.values();

@@ -48,6 +48,10 @@ fn text(path: &Path, bytes: Vec<u8>) -> Outcome<String> {
         );
         return Err(Failure::Problem(message));
     }
+    if bytes.contains(&0) {
+        let message = "expected a text, and this has bytes of 0, as a table has";
+        return Err(Failure::Problem(format!("{}: {message}", path.display())));
+    }
     // What is no UTF-8 is told where it stands, with the other wrong lines.
     let text = String::from_utf8_lossy(&bytes);
     // Some editors begin a text with this mark.
@@ -77,12 +81,14 @@ pub fn expect_bytes_at(path: &Path) -> Outcome {
     Err(Failure::Problem(format!("{}: {message}", path.display())))
 }
 
-/// Refuses to write a picture to a path of a tree, which would be lost.
-pub fn expect_picture_at(path: &Path) -> Outcome {
-    if !is_text(path) && path.extension().is_none_or(|extension| extension != "tab") {
+/// Refuses to write a picture in place of what it is drawn from, or of any tree or values by their names.
+pub fn expect_picture_at(path: &Path, from: &[&Path]) -> Outcome {
+    let is_table = path.extension().is_some_and(|extension| extension == "tab");
+    let is_read = from.iter().any(|from| is_same(path, from));
+    if !is_text(path) && !is_table && !is_read {
         return Ok(());
     }
-    let message = "a name that ends in .tab or .txt is a tree's, and this is to hold a picture";
+    let message = "a picture would take a tree's place or that of its values; call it .svg";
     Err(Failure::Problem(format!("{}: {message}", path.display())))
 }
 
@@ -113,11 +119,27 @@ pub fn replace(path: &Path, bytes: &[u8], said: String) -> Outcome<String> {
 
 /// Whether a path leads to where this process's standard output goes, as /dev/stdout does.
 fn is_standard_output(path: &Path) -> bool {
+    is_same(path, Path::new("/dev/stdout"))
+}
+
+/// Whether both paths lead to one file.
+fn is_same(path: &Path, other: &Path) -> bool {
     let file = |path: &Path| fs::metadata(path).map(|found| (found.dev(), found.ino()));
-    match (file(path), file(Path::new("/dev/stdout"))) {
-        (Ok(file), Ok(output)) => file == output,
+    match (file(path), file(other)) {
+        (Ok(file), Ok(other)) => file == other,
         _ => false,
     }
+}
+
+/// Refuses what is there and no folder.
+pub fn expect_folder(path: &Path, what: &str) -> Outcome {
+    if !path.exists() || path.is_dir() {
+        return Ok(());
+    }
+    Err(Failure::Problem(format!(
+        "{}: expected {what}",
+        path.display()
+    )))
 }
 
 fn replace_or_write(path: &Path, bytes: &[u8]) -> io::Result<()> {
@@ -166,8 +188,9 @@ fn replace_file(place: &Path, bytes: &[u8], old: Option<&fs::Metadata>) -> io::R
     let new: PathBuf = making.path().join("new");
     let mut file = File::create_new(&new)?;
     if let Some(old) = old {
-        // Only root may give a file away, and it should: another's file stays theirs.
-        let _ = fchown(&file, Some(old.uid()), Some(old.gid()));
+        // Another's file stays theirs, where root replaces it; others may give it to its group alone.
+        let _ = fchown(&file, Some(old.uid()), Some(old.gid()))
+            .or_else(|_| fchown(&file, None, Some(old.gid())));
         file.set_permissions(old.permissions())?;
     }
     file.write_all(bytes)?;

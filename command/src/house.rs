@@ -3,7 +3,7 @@
 use std::io::{self, BufRead, IsTerminal, Write};
 use std::path::Path;
 
-use volefleece::{ceiling, Quote, Refusal, FIRST_TIME, MOST_TIME, MOST_TRIANGULAR};
+use volefleece::{ceiling, Quote, Refusal, FIRST_TIME, MOST_TRIANGULAR};
 
 use crate::counts::Counts;
 use crate::failure::{note, Failure, Outcome};
@@ -52,13 +52,8 @@ impl std::str::FromStr for Setting {
 impl House {
     /// The house of a folder. Its names come from the file that is named, or else from names.txt there.
     pub fn read(folder: &Path, names: Option<&Path>) -> Outcome<Self> {
-        if folder.is_file() {
-            let expected = "expected a house, which is a folder with its tree, values and names";
-            return Err(Failure::Problem(format!(
-                "{}: {expected}",
-                folder.display()
-            )));
-        }
+        let house = "a house, which is a folder with its tree, values and names";
+        files::expect_folder(folder, house)?;
         if let Err(error) = std::fs::read_dir(folder) {
             return Err(Failure::file(folder, &error));
         }
@@ -154,16 +149,18 @@ impl House {
         Failure::Refused { refusal, hint }
     }
 
+    /// What makes a quote too large: what is not given, if the library quotes the tree without it.
     fn too_large(&self) -> String {
-        let absent = self.absent(&table::nodes(&self.tree.table)).into_iter();
-        let names: Vec<String> = absent
-            .map(|symbol| self.tree.names.symbol(symbol))
-            .collect();
-        if names.is_empty() {
-            return format!(
-                "with these values a part of the tree takes more than {MOST_TIME} cycles"
-            );
+        let absent = self.absent(&table::nodes(&self.tree.table));
+        let mut low = self.counts.clone();
+        absent.iter().for_each(|&symbol| low.set(symbol, 0));
+        if volefleece::figure(&self.tree.table, &low.lent()).is_err() {
+            return self.tree.too_large("these values");
         }
+        let names: Vec<String> = absent
+            .iter()
+            .map(|&symbol| self.tree.names.symbol(symbol))
+            .collect();
         format!(
             "what is not given counts high; give a value to {}",
             names.join(", ")

@@ -4,7 +4,7 @@ use std::collections::{BTreeMap, BTreeSet};
 
 use volefleece::{FIRST_TIME, VALUES};
 
-use crate::text::digits;
+use crate::text::{digits, quoted};
 
 /// The names of one tree. A symbol without a name has a plain one, `count-3` or `time-16`.
 #[derive(Clone, Debug, Default, PartialEq, Eq)]
@@ -52,7 +52,10 @@ impl Names {
             ));
         }
         if name.contains(char::REPLACEMENT_CHARACTER) {
-            return Err(format!("expected text in UTF-8, found \"{name}\""));
+            let found = quoted(name);
+            return Err(format!(
+                "expected text in UTF-8, without U+FFFD, found {found}"
+            ));
         }
         let old = match named {
             Named::Symbol(symbol) => {
@@ -86,9 +89,9 @@ impl Names {
         }
     }
 
-    /// Remembers a name whose own line is wrong, unless it is none.
+    /// Remembers a name whose own line is wrong, unless it is none or a symbol has it.
     pub fn excuse(&mut self, name: &str) {
-        if is_word(name) && !WORDS.contains(&name) {
+        if is_word(name) && !WORDS.contains(&name) && self.find(name).is_none() {
             self.excused.insert(name.into());
         }
     }

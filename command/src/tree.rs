@@ -128,11 +128,7 @@ impl Tree {
         match refusal {
             Refusal::Length => return Some(self.wrong_length()),
             // Of simplifying, which asks it so. A house has more to say.
-            Refusal::Ceiling => {
-                return Some(format!(
-                    "with every symbol 0 a part of the tree takes more than {MOST_TIME} cycles"
-                ))
-            }
+            Refusal::Ceiling => return Some(self.too_large("every symbol 0")),
             _ => {}
         }
         let hint = hint::find(&self.table, refusal)?;
@@ -143,6 +139,16 @@ impl Tree {
             Source::Answer | Source::Missing(_) => format!("record {record} (byte {byte})"),
         };
         Some(format!("{place}: {}", hint.what))
+    }
+
+    /// That the tree is too large with such values, if it uses any.
+    pub fn too_large(&self, values: &str) -> String {
+        let with = if table::symbols(&table::nodes(&self.table)).is_empty() {
+            String::new()
+        } else {
+            format!("with {values} ")
+        };
+        format!("{with}a part of the tree takes more than {MOST_TIME} cycles")
     }
 
     fn wrong_length(&self) -> String {

@@ -109,7 +109,7 @@ fn check_refuses_what_the_call_refuses() {
 
 /// What a file of values says to the call; of a wrong length, nothing that it takes.
 fn numbers(file: &[u8]) -> Vec<u64> {
-    if file.len() > 256 || !file.len().is_multiple_of(8) {
+    if file.len() > 256 || file.len() % 8 != 0 {
         return Vec::new();
     }
     let mut values: Vec<u64> = (0..32).map(ceiling).collect();

@@ -295,7 +295,7 @@ fn a_refused_figure_is_told_and_nothing_is_marked() {
     let limited = triangular_limited(block(1), 0, 255);
     let triangular = "count-0 is 1001, and its triangular number is a limit";
     let above = "count-1 is 1000001, and at most 1000000 is allowed";
-    let length = "the file of values has 9 bytes, and it can have 8 for each of 32 values at most";
+    let length = "the file of values has 9 bytes; expected a multiple of 8, at most 256";
     let large = "with these values a part of the tree takes more than 1000000000000 cycles";
     for (child, values, refusal, hint) in [
         (&two, values_file(&dear), Refusal::Ceiling, large),

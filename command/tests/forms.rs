@@ -30,8 +30,21 @@ fn a_picture_is_not_written_to_a_tree() {
     let folder = house("house");
     let before = folder.read(TREE);
     for out in [TREE, TREE_TEXT] {
-        let message = format!("{out}: a name that ends in .tab or .txt is a tree's");
+        let message = format!("{out}: a picture would take a tree's place ");
         complains(&folder, &["draw", ".", "-o", out], &[&message]);
+    }
+    for (way, out) in [
+        (&["draw", "tree.bin"][..], "tree.bin"),
+        (&["draw", ".", "--values", "values.bin"], "values.bin"),
+        (&["draw", ".", "--names", "names.list"], "names.list"),
+    ] {
+        folder.write("tree.bin", &block(7));
+        folder.write("values.bin", &values_file(&[4]));
+        folder.write("names.list", b"symbol 0 cards\n");
+        let before = folder.read(out);
+        let message = format!("{out}: a picture would take a tree's place ");
+        complains(&folder, &[way, &["-o", out]].concat(), &[&message]);
+        assert_eq!(folder.read(out), before);
     }
     assert_eq!(folder.read(TREE), before);
     assert_eq!(folder.read(TREE_TEXT), None);
@@ -55,13 +68,13 @@ fn values_that_are_refused_have_a_hint_and_are_shown() {
     for (bytes, hint, last) in [
         (
             vec![0; 9],
-            "the file of values has 9 bytes, and it can have 8 for each of 32 values at most",
-            "cards 0\n",
+            "the file of values has 9 bytes; expected a multiple of 8, at most 256",
+            "cards 0\nbytes # no value of its own\n",
         ),
         (
             vec![0; 264],
-            "the file of values has more than 256 bytes, and it can have 8 for each of 32 values at most",
-            "time-31 0\n",
+            "the file of values has more than 256 bytes; expected a multiple of 8, at most 256",
+            "time-31 0\nbytes # no value of its own\n",
         ),
         (
             values_file(&[0, 1_000_001]),

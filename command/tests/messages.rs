@@ -305,7 +305,22 @@ fn a_wrong_name_is_told_once() {
             "3:9: expected a number from 0 to 1000000, found \"1000001\"",
         ],
     );
-    // A name that there is not excuses nothing.
+    values(
+        "symbol 32 x\nx abc\nx 7 8",
+        &[
+            symbol,
+            "2:3: expected a number from 0 to 1000000000000, found \"abc\"",
+            "3:5: expected the end of the line, found \"8\"",
+        ],
+    );
+    // Nor does one that another symbol has, or a name that there is not, excuse anything.
+    values(
+        "symbol 0 x\nsymbol 1 x\nx 1000001",
+        &[
+            "2:10: symbol 0 is called x already",
+            "3:3: expected a number from 0 to 1000000, found \"1000001\"",
+        ],
+    );
     tree(
         "symbol 32\nblock",
         &[symbol, &format!("2:6: {TIME}, and the line ends")],

@@ -305,6 +305,8 @@ fn files_that_cannot_be_read_are_told() {
     }
     let file = format!("{TREE}: expected a house, which is a folder ");
     complains(&house("house"), &["quote", TREE], &[&file]);
+    let file = format!("{TREE}: expected a folder with houses below it");
+    complains(&house("house"), &["quotes", TREE], &[&file]);
     for (file, line) in [(TREE_TEXT, 2), (VALUES_TEXT, 1), (NAMES, 3)] {
         let folder = folder();
         let lines = "\n".repeat(line - 1);
@@ -312,8 +314,74 @@ fn files_that_cannot_be_read_are_told() {
         complains(
             &folder,
             &QUOTE,
-            &[&format!("./{file}:{line}:1: expected text in UTF-8, found")],
+            &[&format!(
+                "./{file}:{line}:1: expected text in UTF-8, without U+FFFD, found"
+            )],
         );
+    }
+}
+
+/// What is found is shown without signs that a terminal would obey, and not at any length.
+#[test]
+fn what_is_found_is_shown_in_signs() {
+    let folder = folder();
+    let long = "x".repeat(99);
+    folder.write(TREE_TEXT, format!("bl\x1b]0;ock\n{long}\n").as_bytes());
+    let written = ends(folder.command().args(QUOTE), 2);
+    assert!(
+        written.error.contains("found \"bl\\u{1b}]0;ock\""),
+        "{}",
+        written.error
+    );
+    let cut = format!("found \"{}..\"", "x".repeat(60));
+    assert!(written.error.contains(&cut), "{}", written.error);
+    // A table in place of a text is told at once.
+    folder.write(TREE_TEXT, &block(7));
+    let table = format!("./{TREE_TEXT}: expected a text, and this has bytes of 0, as a table has");
+    complains(&folder, &QUOTE, &[&table]);
+}
+
+/// The hint of refusal 10 asks for what would help.
+#[test]
+fn a_quote_that_is_too_large_has_its_reason() {
+    let large = "a part of the tree takes more than 1000000000000 cycles";
+    for (text, values, hint) in [
+        ("block 1000000000000", "", large.to_string()),
+        (
+            "block time-17",
+            "time-17 1000000000000",
+            format!("with these values {large}"),
+        ),
+        // Whatever the absent one is given.
+        (
+            "block time-17\n  block time-16",
+            "time-17 1000000000000",
+            format!("with these values {large}"),
+        ),
+        (
+            "block time-17\n  block time-16",
+            "time-17 1",
+            "what is not given counts high; give a value to time-16".into(),
+        ),
+    ] {
+        let folder = folder();
+        folder.write(
+            TREE_TEXT,
+            format!("sequence\n  block 1\n  {text}\n").as_bytes(),
+        );
+        folder.write(VALUES_TEXT, values.as_bytes());
+        let said = refuses(&folder, &QUOTE, 10);
+        assert!(said.ends_with(&format!("\nhint: {hint}\n")), "{said}");
+    }
+    let folder = folder();
+    for (symbol, hint) in [
+        ("", large.to_string()),
+        ("  block time-17\n", format!("with every symbol 0 {large}")),
+    ] {
+        let text = format!("sequence\n  block 1000000000000\n  block 1\n{symbol}");
+        folder.write(TREE_TEXT, text.as_bytes());
+        let said = refuses(&folder, &["simplify", ".", "-o", "out.tab"], 10);
+        assert!(said.ends_with(&format!("\nhint: {hint}\n")), "{said}");
     }
 }
 
@@ -325,10 +393,10 @@ fn lines_that_are_no_text_are_told_with_the_others() {
     folder.write(TREE_TEXT, text);
     let written = ends(folder.command().args(QUOTE), 2);
     let lines = [
-        "1:7: expected text in UTF-8, found \"T\u{fffd}r # 1\"",
-        "2:10: expected text in UTF-8, found \"T\u{fffd}r\"",
+        "1:7: expected text in UTF-8, without U+FFFD, found \"T\u{fffd}r # 1\"",
+        "2:10: expected text in UTF-8, without U+FFFD, found \"T\u{fffd}r\"",
         "4:3: expected \"block\", \"sequence\", \"choice\" or \"loop\", found \"blok\"",
-        "5:9: expected text in UTF-8, found \"\u{fffd}\"",
+        "5:9: expected text in UTF-8, without U+FFFD, found \"\u{fffd}\"",
     ];
     let told = lines.map(|line| format!("volefleece: ./{TREE_TEXT}:{line}\n"));
     assert_eq!(written.error, told.concat());

@@ -1,6 +1,8 @@
 //! `volefleece draw`.
 
-use crate::cli::Draw;
+use std::path::{Path, PathBuf};
+
+use crate::cli::{Draw, Source};
 use crate::counts::Counts;
 use crate::draw;
 use crate::failure::{note, Outcome};
@@ -11,7 +13,10 @@ use crate::tree::Tree;
 use crate::words::counted;
 
 pub fn run(arguments: &Draw) -> Outcome<String> {
-    files::expect_picture_at(&arguments.output)?;
+    let Source { tree, names } = &arguments.source;
+    let read = [Some(tree), names.as_ref(), arguments.values.as_ref()];
+    let read: Vec<&Path> = read.into_iter().flatten().map(PathBuf::as_path).collect();
+    files::expect_picture_at(&arguments.output, &read)?;
     let mut house = house(arguments)?;
     let set = arguments.settings.apply(&mut house)?;
     let nodes = house.tree.check()?;

@@ -42,6 +42,7 @@ pub fn run(folder: &Path) -> Outcome<Answer> {
 
 /// The houses at or below a folder, in order. What cannot be read may be one, and is told in its place.
 fn houses(folder: &Path) -> Outcome<Vec<PathBuf>> {
+    files::expect_folder(folder, "a folder with houses below it")?;
     let mut found = Found::default();
     let mut left = vec![folder.to_path_buf()];
     while let Some(below) = left.pop() {

@@ -2,6 +2,8 @@
 
 use std::fmt;
 
+use crate::words::on_one_line;
+
 /// What is wrong at a place of a text. Lines and columns count from 1.
 #[derive(Clone, Debug, PartialEq, Eq)]
 pub struct Problem {
@@ -16,9 +18,12 @@ impl Problem {
             "" => format!("expected {expected}, and the line ends"),
             // What is no UTF-8 has been read as this sign.
             found if found.contains(char::REPLACEMENT_CHARACTER) => {
-                format!("expected text in UTF-8, found \"{found}\"")
+                format!(
+                    "expected text in UTF-8, without U+FFFD, found {}",
+                    quoted(found)
+                )
             }
-            found => format!("expected {expected}, found \"{found}\""),
+            found => format!("expected {expected}, found {}", quoted(found)),
         };
         word.problem(message)
     }
@@ -28,6 +33,14 @@ impl fmt::Display for Problem {
     fn fmt(&self, f: &mut fmt::Formatter<'_>) -> fmt::Result {
         write!(f, "{}:{}: {}", self.line, self.column, self.message)
     }
+}
+
+/// What was found, as far as a reader wants to see it, without signs that move what is printed.
+pub fn quoted(found: &str) -> String {
+    const MOST: usize = 60;
+    let start: String = found.chars().take(MOST).collect();
+    let more = if start == found { "" } else { ".." };
+    format!("\"{}{more}\"", on_one_line(&start))
 }
 
 /// All that is wrong with a text, in its order.

@@ -1,6 +1,6 @@
 //! Values as text: a symbol's name and its value on each line.
 
-use volefleece::{ceiling, VALUES};
+use volefleece::{ceiling, MOST_TIME, VALUES};
 
 use super::header;
 use super::lines::{lines, number, Line, Problem, Problems};
@@ -29,9 +29,6 @@ pub fn parse(text: &str, names: &mut Names) -> Result<Counts, Problems> {
 
 fn value(line: &mut Line, names: &Names, counts: &mut Counts) -> Result<(), Problem> {
     let name = line.next();
-    if names.is_excused(name.text) {
-        return Ok(());
-    }
     let symbol = names.find(name.text);
     let expected = || {
         Problem::expected(
@@ -39,22 +36,31 @@ fn value(line: &mut Line, names: &Names, counts: &mut Counts) -> Result<(), Prob
             &format!("{}, or a symbol's name and its value", header::EXPECTED),
         )
     };
-    let symbol = symbol.ok_or_else(expected)?;
+    if symbol.is_none() && !names.is_excused(name.text) {
+        return Err(expected());
+    }
     let word = line.next();
-    let most = ceiling(symbol);
+    let most = symbol.map_or(MOST_TIME, ceiling);
     let value = number(&word, most);
     let expected = || Problem::expected(&word, &format!("a number from 0 to {most}"));
     let value = value.ok_or_else(expected)?;
-    if counts.given(symbol).is_some() {
-        return Err(name.problem(format!("{} has a value already", name.text)));
+    if let Some(symbol) = symbol {
+        if counts.given(symbol).is_some() {
+            return Err(name.problem(format!("{} has a value already", name.text)));
+        }
+        counts.set(symbol, value);
     }
-    counts.set(symbol, value);
     line.want_end()
 }
 
 /// Values that the library refuses, as far as they can be read: the refusal, then each value.
 pub fn print_refused(counts: &Counts, names: &Names, failure: &Failure) -> String {
-    failure.commented() + &print(counts, names)
+    let more = if counts.has_wrong_length() {
+        "bytes # no value of its own\n"
+    } else {
+        ""
+    };
+    failure.commented() + &print(counts, names) + more
 }
 
 /// The text of these values, which gives them back if each is in range.
