@@ -82,9 +82,9 @@ pub fn expect_bytes_at(path: &Path) -> Outcome {
 }
 
 /// Refuses to write a picture in place of what it is drawn from, or of any tree or values by their names.
-pub fn expect_picture_at(path: &Path, from: &[&Path]) -> Outcome {
+pub fn expect_picture_at<'p>(path: &Path, mut from: impl Iterator<Item = &'p PathBuf>) -> Outcome {
     let is_table = path.extension().is_some_and(|extension| extension == "tab");
-    let is_read = from.iter().any(|from| is_same(path, from));
+    let is_read = from.any(|from| is_same(path, from));
     if !is_text(path) && !is_table && !is_read {
         return Ok(());
     }

@@ -4,7 +4,7 @@ use std::collections::{BTreeMap, BTreeSet};
 
 use volefleece::{FIRST_TIME, VALUES};
 
-use crate::text::{digits, quoted};
+use crate::text::{digits, no_utf8};
 
 /// The names of one tree. A symbol without a name has a plain one, `count-3` or `time-16`.
 #[derive(Clone, Debug, Default, PartialEq, Eq)]
@@ -51,11 +51,8 @@ impl Names {
                 "{name:?} is no name: it has signs that cannot be printed"
             ));
         }
-        if name.contains(char::REPLACEMENT_CHARACTER) {
-            let found = quoted(name);
-            return Err(format!(
-                "expected text in UTF-8, without U+FFFD, found {found}"
-            ));
+        if let Some(fault) = no_utf8(name) {
+            return Err(fault);
         }
         let old = match named {
             Named::Symbol(symbol) => {
@@ -185,9 +182,17 @@ pub fn shown(named: Named) -> String {
     }
 }
 
+/// What a symbol stands for.
+pub fn class(symbol: usize) -> &'static str {
+    if symbol < FIRST_TIME {
+        "count"
+    } else {
+        "time"
+    }
+}
+
 fn plain_name(symbol: usize) -> String {
-    let class = if symbol < FIRST_TIME { "count" } else { "time" };
-    format!("{class}-{symbol}")
+    format!("{}-{symbol}", class(symbol))
 }
 
 fn by_plain_name(name: &str) -> Option<usize> {

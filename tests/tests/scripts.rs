@@ -516,6 +516,13 @@ fn the_sample_is_simplified_by_one_at_a_time() {
 /// How `./setup` finds that Debian's packages fit, and how the command is built.
 const FITTED: &str = "command: cargo generate-lockfile --offline";
 const BUILT_COMMAND: &str = "command: cargo build --release --target-dir target";
+/// What a first `./quote` has called.
+const BUILT: [&str; 4] = [
+    "check volefleece",
+    "staticlib volefleece",
+    FITTED,
+    BUILT_COMMAND,
+];
 
 /// `./quote` of the copy with arguments.
 fn quote(copy: &Repository, arguments: &[&str]) -> Ended {
@@ -585,15 +592,7 @@ fn expect_built(copy: &Repository, calls: &[&str]) {
 #[test]
 fn changes_of_the_command_are_built_once() {
     let copy = Repository::new(PROGRAM);
-    expect_built(
-        &copy,
-        &[
-            "check volefleece",
-            "staticlib volefleece",
-            FITTED,
-            BUILT_COMMAND,
-        ],
-    );
+    expect_built(&copy, &BUILT);
     for source in [
         "command/src/main.rs",
         "command/src/new.rs",
@@ -621,28 +620,12 @@ fn changes_of_the_command_are_built_once() {
 fn the_command_is_built_of_the_archive() {
     let copy = Repository::new(PROGRAM);
     let source = copy.path("crates/desk/src/main.rt");
-    expect_built(
-        &copy,
-        &[
-            "check volefleece",
-            "staticlib volefleece",
-            FITTED,
-            BUILT_COMMAND,
-        ],
-    );
+    expect_built(&copy, &BUILT);
     put(&source, "the same archive");
     expect_built(&copy, &["check volefleece", "staticlib volefleece"]);
     put_script(&copy.path("builds/staticlib/libvolefleece.a"), "another");
     put(&source, "another archive");
-    expect_built(
-        &copy,
-        &[
-            "check volefleece",
-            "staticlib volefleece",
-            FITTED,
-            BUILT_COMMAND,
-        ],
-    );
+    expect_built(&copy, &BUILT);
 }
 
 #[test]
@@ -650,15 +633,7 @@ fn a_command_that_was_not_built_is_replaced() {
     const CLEANED: &str =
         "command: cargo clean --release --package volefleece-command --target-dir target";
     let copy = Repository::new(PROGRAM);
-    expect_built(
-        &copy,
-        &[
-            "check volefleece",
-            "staticlib volefleece",
-            FITTED,
-            BUILT_COMMAND,
-        ],
-    );
+    expect_built(&copy, &BUILT);
     put_script(&copy.path("command/target/release/volefleece"), "spoilt");
     expect_built(&copy, &[FITTED, CLEANED, BUILT_COMMAND]);
     fs::remove_dir_all(copy.path("command/target")).expect("removed");

@@ -1,7 +1,5 @@
 //! `volefleece draw`.
 
-use std::path::{Path, PathBuf};
-
 use crate::cli::{Draw, Source};
 use crate::counts::Counts;
 use crate::draw;
@@ -15,8 +13,7 @@ use crate::words::counted;
 pub fn run(arguments: &Draw) -> Outcome<String> {
     let Source { tree, names } = &arguments.source;
     let read = [Some(tree), names.as_ref(), arguments.values.as_ref()];
-    let read: Vec<&Path> = read.into_iter().flatten().map(PathBuf::as_path).collect();
-    files::expect_picture_at(&arguments.output, &read)?;
+    files::expect_picture_at(&arguments.output, read.into_iter().flatten())?;
     let mut house = house(arguments)?;
     let set = arguments.settings.apply(&mut house)?;
     let nodes = house.tree.check()?;

@@ -1,12 +1,13 @@
 //! `volefleece quote`.
 
 use serde_json::{json, Value};
-use volefleece::{Quote, FIRST_TIME};
+use volefleece::Quote;
 
 use super::Answer;
 use crate::cli;
 use crate::failure::{note, Failure, Outcome};
 use crate::house::{unit, House};
+use crate::names::class;
 use crate::table::{self, Node};
 
 pub fn run(arguments: &cli::Quote) -> Outcome<Answer> {
@@ -80,7 +81,7 @@ impl Quoted {
             self.house.title, self.quote.figure
         );
         for symbol in table::symbols(&self.nodes) {
-            let class = if symbol < FIRST_TIME { "count" } else { "time" };
+            let class = class(symbol);
             let name = self.house.tree.names.symbol(symbol);
             let value = self.house.counts.values()[symbol];
             let unit = unit(symbol);

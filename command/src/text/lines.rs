@@ -16,14 +16,8 @@ impl Problem {
     pub fn expected(word: &Word, expected: &str) -> Self {
         let message = match word.text {
             "" => format!("expected {expected}, and the line ends"),
-            // What is no UTF-8 has been read as this sign.
-            found if found.contains(char::REPLACEMENT_CHARACTER) => {
-                format!(
-                    "expected text in UTF-8, without U+FFFD, found {}",
-                    quoted(found)
-                )
-            }
-            found => format!("expected {expected}, found {}", quoted(found)),
+            found => no_utf8(found)
+                .unwrap_or_else(|| format!("expected {expected}, found {}", quoted(found))),
         };
         word.problem(message)
     }
@@ -35,8 +29,19 @@ impl fmt::Display for Problem {
     }
 }
 
+/// That something is no UTF-8, which has been read as this sign.
+pub fn no_utf8(found: &str) -> Option<String> {
+    let is_wrong = found.contains(char::REPLACEMENT_CHARACTER);
+    is_wrong.then(|| {
+        format!(
+            "expected text in UTF-8, without U+FFFD, found {}",
+            quoted(found)
+        )
+    })
+}
+
 /// What was found, as far as a reader wants to see it, without signs that move what is printed.
-pub fn quoted(found: &str) -> String {
+fn quoted(found: &str) -> String {
     const MOST: usize = 60;
     let start: String = found.chars().take(MOST).collect();
     let more = if start == found { "" } else { ".." };
