@@ -72,11 +72,11 @@ typedef struct {
 } vf_grafted;
 
 /* Writes the host's table over the front of out with the sent table in place of every block whose time is that symbol: a loop of
-   bound 1 with the block's limit, the sent table as its body and a block of time 0 as its exit. The sent table's whole-run limits
-   then name that loop. Puts questions 1 to 7 to the host, then to the sent table (a refusal 1 to 7 is the sent table's where vf_check
-   accepts the host); then 11, the symbol is 16 to 31 and the sent table does not use it; 12, the result is at most 8,192 bytes and
-   passes questions 5 and 7; and 8, out is at least as long as the result. Nothing of out past the written bytes changes, and
-   nothing at all on a refusal. */
+   bound 1 with the block's limit and address, the sent table as its body and a block of time 0 and address 0 as its exit. The sent
+   table's whole-run limits then name that loop. Puts questions 1 to 7 to the host, then to the sent table (a refusal 1 to 7 is the
+   sent table's where vf_check accepts the host); then 11, the symbol is 16 to 31 and the sent table does not use it; 12, the result is
+   at most 12,288 bytes and passes questions 5 and 7; and 8, out is at least as long as the result. Nothing of out past the written
+   bytes changes, and nothing at all on a refusal. */
 vf_grafted vf_graft(const uint8_t *host, size_t host_len, const uint8_t *sent, size_t sent_len, uint64_t symbol, uint8_t *out,
                     size_t out_len);
 

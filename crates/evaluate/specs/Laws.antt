@@ -1,4 +1,5 @@
 -- Laws, in the order in which they lean on each other.
+pub mod Addresses
 pub mod Amounts
 pub mod Kinds
 pub mod Joins

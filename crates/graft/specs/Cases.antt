@@ -2,18 +2,18 @@
 use mathlib.Core.Path.{_≡_, refl}
 use Prim.Native.Nat.{ℕ}
 use Rattle.table.specs.Trees.{Tree, around, rest}
-use Rattle.table.specs.Notation.{_/_at_, block, both, either, loop, sequence, symbol}
+use Rattle.table.specs.Notation.{_addressed_, _/_at_, block, both, either, loop, sequence, symbol}
 use Rattle.splice.specs.Graft.{graft, inPlace, isSymbol, rename, renamedLimit}
 
--- (X/2@255, loop 3 of (X, 5)), X symbol 20
+-- (X/2@255, loop 3 of (X, 5)), X symbol 20, of which the second stands at address 96
 pub host : (x : Tree) → Tree
-host x = both (x / 2 at 255) (loop 3 (both x (block 5)) (block 0))
+host x = both (x / 2 at 255) (loop 3 (both (x addressed 96) (block 5 addressed 97)) (block 0 addressed 98))
 
--- loop 2 of C(10/1@i | 4/3@1) exit 7/1@j: whole-run limits in its body and on its exit
+-- loop 2 of C(10/1@i | 4/3@1) exit 7/1@j, its addresses 1 to 5: whole-run limits in its body and on its exit
 pub sent : (i j : ℕ) → Tree
-sent i j = loop 2 (either (block 10 / 1 at i) (block 4 / 3 at 1)) (block 7 / 1 at j)
+sent i j = loop 2 (either (block 10 / 1 at i addressed 3) (block 4 / 3 at 1 addressed 4) addressed 2) (block 7 / 1 at j addressed 5) addressed 1
 
--- each X becomes a loop 1 of the sent tree, which its whole-run limits name
+-- each X becomes a loop 1 of the sent tree, which its whole-run limits name and which has X's address; its exit has address 0
 pub example-holds : graft 20 (sent 255 255) (host (symbol 20)) ≡ host (loop 1 (sent 2 1) (block 0))
-unfolding host sent graft inPlace rename renamedLimit isSymbol around rest block symbol _/_at_ sequence both either loop
+unfolding host sent graft inPlace rename renamedLimit isSymbol around rest block symbol _/_at_ _addressed_ sequence both either loop
 example-holds = refl

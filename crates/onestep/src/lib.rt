@@ -40,6 +40,7 @@ fn rule1_at(table: &[u8], marks: &[u8], out: &mut [u8]) -> usize
     let block = Node {
         kind: Kind::Block(time),
         limit: Limit::Unlimited,
+        address: 0,
     };
     writing::put_node(out, 0, block, 0)
 }

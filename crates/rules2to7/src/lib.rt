@@ -182,6 +182,7 @@ fn relimit_at(table: &[u8], p: usize, limit: Limit, out: &mut [u8]) -> usize
     let top = Node {
         kind: kind,
         limit: limit,
+        address: node.address,
     };
     let next = writing::put_node(out, 0, top, count as u8);
     writing::copy_rest(table, after, out, next)
@@ -255,6 +256,7 @@ pub fn rule4_at(table: &[u8], extents: &[usize], marks: &[u8], i: usize, out: &m
     let block = Node {
         kind: Kind::Block(time),
         limit: limit,
+        address: 0,
     };
     let at = writing::put_node(out, 0, block, 0);
     let end = i + extents[i];
@@ -392,6 +394,7 @@ fn merge_bares(
     let plain = Node {
         kind: Kind::Block(Number::Plain(time)),
         limit: Limit::Unlimited,
+        address: 0,
     };
     let second = writing::put_node(out, block, plain, 0);
     let end = i + extents[i];

@@ -2,14 +2,14 @@
 use mathlib.Core.Path.{_≡_}
 use mathlib.Core.Bool.{Bool, cond, false, true}
 use mathlib.Core.List.{List, [], _∷_, _++_}
-use Prim.Native.Nat.{ℕ, _+_, _*_, _≤_}
+use Prim.Native.Nat.{ℕ, zero, suc, _+_, _*_, _≤_}
 use lib.Dec.{T, eqb}
-use lib.ListN.{length}
+use lib.ListN.{drop, length, take}
 use Rattle.booleans.specs.Tests.{_and_}
 use Rattle.evaluate.specs.Closed.{isUnlimited}
-use Rattle.simplify.specs.Rules.{children, firstOf, firsts, headOf, isPair, limitOf, secondOf, shares}
+use Rattle.simplify.specs.Rules.{addressOf, children, firstOf, firsts, headOf, isPair, limitOf, secondOf, shares}
 use Rattle.simplify.specs.Same.{same, sameKind}
-use Rattle.table.specs.Numbers.{recordLength}
+use Rattle.table.specs.Numbers.{fieldsLength, recordLength}
 use Rattle.table.specs.Table.{encodes, firstOnes, recordBytes}
 use Rattle.table.specs.Trees.{Forest, Tree, nil, node, _▸_, _⧺_, records, recordsIn, size}
 use Rattle.subtrees.specs.Parts.{treesAt}
@@ -32,7 +32,19 @@ sameBytes [] (y ∷ c) = false
 sameBytes (x ∷ b) [] = false
 sameBytes (x ∷ b) (y ∷ c) = eqb x y and sameBytes b c
 
--- an unlimited sequence of two whose second child is x
+-- the part of a table that starts at record i, and its first record but for the address and what stands behind it
+abbrev pub recordsFrom : List ℕ → ℕ → List ℕ
+recordsFrom b i = drop (recordLength * i) b
+
+abbrev pub fieldsAt : List ℕ → ℕ → List ℕ
+fieldsAt b i = take fieldsLength (recordsFrom b i)
+
+-- the first n records of each are the same but for their addresses
+unfoldable pub sameRecords : ℕ → List ℕ → List ℕ → Bool
+sameRecords zero b c = true
+sameRecords (suc n) b c = sameBytes (take fieldsLength b) (take fieldsLength c) and sameRecords n (drop recordLength b) (drop recordLength c)
+
+-- an unlimited sequence of two whose second child is x, but for its addresses
 unfoldable pub sharing : Tree → Tree → Bool
 sharing x t = isPair t and same (secondOf t) x
 
@@ -65,6 +77,6 @@ RoomFor at f out = recordLength * (at + recordsIn f) ≤ length out
 abbrev pub Appended : ℕ → List ℕ → Forest → ℕ → List ℕ → Type 0
 Appended at before f r out = (r ≡ at + recordsIn f) × (front r out ≡ front at before ++ encodes f)
 
--- the records of a sequence of two with the tree's limit and of an unlimited choice of as many children as it has
+-- the records of a sequence of two with the tree's limit and address, and of an unlimited choice of as many children as it has, with address 0
 abbrev pub topBytes : Tree → List ℕ
-topBytes t = recordBytes (nodeOf Sequence (limitOf t)) 2 ++ recordBytes (nodeOf Choice Unlimited) (size (children t))
+topBytes t = recordBytes (nodeOf Sequence (limitOf t) (addressOf t)) 2 ++ recordBytes (nodeOf Choice Unlimited 0) (size (children t))

@@ -6,16 +6,17 @@ ghost use lib.ListN.{length};
 ghost use Rattle.table.specs.Checking.{IsTable};
 ghost use Rattle.table.specs.Numbers.{recordLength};
 ghost use Rattle.table.specs.Table.{recordCount};
-ghost use Rattle.writing.specs.Records.{front, slice};
+ghost use Rattle.writing.specs.Records.{front};
 ghost use Rattle.simplify.specs.Rules.{allPairs, children, isPair, rule8, rule9};
 ghost use Rattle.simplify.specs.Same.{same};
 ghost use Rattle.subtrees.specs.Parts.{subtree, treesAt};
 ghost use Rattle.subtrees.specs.Facts.{Extents, Surveyed};
 ghost use Rattle.rewrite.specs.Wrote.{Wrote, ruleAt};
-ghost use Rattle.rules8and9.specs.Sharing.{Appended, PairsAt, RoomFor, firstsAt, idle, sameBytes, sharedAt, sharing, topBytes};
+ghost use Rattle.rules8and9.specs.Sharing.{Appended, PairsAt, RoomFor, fieldsAt, firstsAt, idle, recordsFrom, sameBytes, sameRecords, sharedAt, sharing, topBytes};
 use subtrees::MARKS;
 use subtrees::NAME;
 use subtrees::REACH;
+use table::FIELDS_LENGTH;
 use table::Kind;
 use table::Limit;
 use table::Node;
@@ -26,22 +27,39 @@ use words::Comparison;
 
 // ---- Rule 8
 
-// Are the n records from record a on the same, byte for byte, as those from record b on? A record is two words, so a subtree is a whole number of them.
-fn same_records(table: &[u8], a: usize, b: usize, n: usize) -> bool
-    requires { ⌜ (recordLength * (a + n) ≤ length (now table)) × (recordLength * (b + n) ≤ length (now table)) ⌝ }
-    ensures { λ r. ⌜ r ≡ sameBytes (slice (now (table .entry)) a n) (slice (now (table .entry)) b n) ⌝ }
+// Are the records a and b the same but for their addresses? What stands before an address is two words.
+fn same_fields(table: &[u8], a: usize, b: usize) -> bool
+    requires { ⌜ (a < recordCount (now table)) × (b < recordCount (now table)) ⌝ }
+    ensures { λ r. ⌜ r ≡ sameBytes (fieldsAt (now (table .entry)) a) (fieldsAt (now (table .entry)) b) ⌝ }
 {
     let one = RECORD_LENGTH * a;
     let other = RECORD_LENGTH * b;
-    let size = RECORD_LENGTH * n;
-    let compared = words::compare(&table[one..one + size], &table[other..other + size]);
+    let compared = words::compare(
+        &table[one..one + FIELDS_LENGTH],
+        &table[other..other + FIELDS_LENGTH],
+    );
     match compared {
         Comparison::Differ(_) => false,
         Comparison::Equal => true,
     }
 }
 
-// Are the subtrees at records a and b the same? Nothing is read of one and the same subtree, nor where their lengths differ.
+// Are the n records from record a on the same, but for their addresses, as those from record b on?
+fn same_records(table: &[u8], a: usize, b: usize, n: usize) -> bool
+    requires { ⌜ (a + n ≤ recordCount (now table)) × (b + n ≤ recordCount (now table)) ⌝ }
+    ensures { λ r. ⌜ r ≡ sameRecords n (recordsFrom (now (table .entry)) a) (recordsFrom (now (table .entry)) b) ⌝ }
+{
+    let mut k = 0;
+    while k < n {
+        if !same_fields(table, a + k, b + k) {
+            return false;
+        }
+        k += 1;
+    }
+    true
+}
+
+// Are the subtrees at records a and b the same but for their addresses? Nothing is read of one and the same subtree, nor where their lengths differ.
 fn same_subtrees(table: &[u8], extents: &[usize], a: usize, b: usize) -> bool
     requires { ⌜ Extents (now table) (now extents) ⌝ ∗ ⌜ a < recordCount (now table) ⌝ ∗ ⌜ b < recordCount (now table) ⌝ }
     ensures { λ r. ⌜ r ≡ same (subtree (now (table .entry)) a) (subtree (now (table .entry)) b) ⌝ }
@@ -147,7 +165,8 @@ fn copy_firsts(
     to
 }
 
-// Puts the records of a sequence of two with the limit of the node at record i, and of an unlimited choice with its number of children.
+// Puts the records of a sequence of two with the limit and the address of the node at record i, and of an unlimited choice with its number of children and
+// address 0.
 fn put_tops(table: &[u8], i: usize, out: &mut [u8]) -> usize
     requires { ⌜ IsTable (now table) ⌝ ∗ ⌜ i < recordCount (now table) ⌝ ∗ ⌜ recordLength * 2 ≤ length (now out) ⌝ }
     ensures { λ r. ⌜ (r ≡ 2) × (front r (now (out .exit)) ≡ topBytes (subtree (now (table .entry)) i)) ⌝ }
@@ -158,17 +177,19 @@ fn put_tops(table: &[u8], i: usize, out: &mut [u8]) -> usize
     let sequence = Node {
         kind: Kind::Sequence,
         limit: limit,
+        address: node.address,
     };
     let choice = Node {
         kind: Kind::Choice,
         limit: Limit::Unlimited,
+        address: 0,
     };
     let next = writing::put_node(out, 0, sequence, 2);
     writing::put_node(out, next, choice, count as u8)
 }
 
-// 8. A choice of at least two unlimited two-child sequences with the same closed second child becomes a sequence of a choice of the first children and
-// that second child.
+// 8. A choice of at least two unlimited two-child sequences with the same closed second child, but for its addresses, becomes a sequence of a choice of
+// the first children and the first of the second children.
 pub fn rule8_at(table: &[u8], extents: &[usize], marks: &[u8], i: usize, out: &mut [u8]) -> usize
     requires { ⌜ Surveyed (now table) (now extents) (now marks) ⌝ ∗ ⌜ i < recordCount (now table) ⌝ ∗ ⌜ length (now table) ≤ length (now out) ⌝ }
     ensures { λ r. ⌜ Wrote (ruleAt rule8 (treesAt (now (table .entry)) i)) r (now (out .exit)) ⌝ }

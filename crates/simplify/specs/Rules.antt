@@ -27,17 +27,21 @@ isSum (Loop n) = false
 unfoldable pub limitOf : Tree → Limit
 limitOf (node n f) = n .limit
 
+unfoldable pub addressOf : Tree → ℕ
+addressOf (node n f) = n .address
+
 unfoldable pub children : Tree → Forest
 children (node n f) = f
 
+-- a limit that moves leaves its address behind: the node keeps its own
 unfoldable pub relimit : Limit → Tree → Tree
-relimit l (node n f) = node (record { kind = n .kind; limit = l }) f
+relimit l (node n f) = node (record { kind = n .kind; limit = l; address = n .address }) f
 
--- a plain block
+-- a plain block that a rule makes: its address is 0
 unfoldable pub leaf : ℕ → Limit → Tree
-leaf x l = node (record { kind = Block (Plain x); limit = l }) nil
+leaf x l = node (record { kind = Block (Plain x); limit = l; address = 0 }) nil
 
--- an unlimited plain block, and its time
+-- an unlimited plain block, at whatever address, and its time
 unfoldable pub bare : Tree → Bool
 bare (node n nil) = isBlock (n .kind) and plainKind (n .kind) and isUnlimited (n .limit)
 bare (node n (t ▸ f)) = false
@@ -58,7 +62,7 @@ unfoldable pub when : Bool → Tree → Option Tree
 when true t = some t
 when false t = none
 
--- 1. a symbol-free table becomes one unlimited block of its figure, unless it is that already
+-- 1. a symbol-free table becomes one unlimited block of its figure, unless it is that already, at whatever address
 unfoldable pub rule1 : Tree → Option Tree
 rule1 t = when (symbolFree t and not (bare t)) (leaf (figure zeros t) Unlimited)
 
@@ -136,7 +140,7 @@ atFirst x (t ▸ f) = cond (bare t) (leaf x Unlimited ▸ others f) (t ▸ atFir
 unfoldable pub rule7 : Node → Forest → Option Tree
 rule7 n f = when (sameKind (n .kind) Choice and leb 2 (bares f)) (node n (atFirst (largest f) f))
 
--- 8. at least two unlimited two-child sequences with one closed second child
+-- 8. at least two unlimited two-child sequences with one closed second child, but for its addresses
 unfoldable pub isPair : Tree → Bool
 isPair (node n nil) = false
 isPair (node n (a ▸ nil)) = false
@@ -168,13 +172,14 @@ firsts (t ▸ f) = firstOf t ▸ firsts f
 unfoldable pub shares : Forest → Bool
 shares f = leb 2 (size f) and closed (secondOf (headOf f)) 0 and allPairs (secondOf (headOf f)) f
 
-unfoldable pub sharedOut : Limit → Forest → Tree
-sharedOut l f =
-    node (record { kind = Sequence; limit = l })
-    (node (record { kind = Choice; limit = Unlimited }) (firsts f) ▸ secondOf (headOf f) ▸ nil)
+-- the sequence takes the choice's limit and address; of the second children the first one remains, with its addresses
+unfoldable pub sharedOut : Limit → (address : ℕ) → Forest → Tree
+sharedOut l a f =
+    node (record { kind = Sequence; limit = l; address = a })
+    (node (record { kind = Choice; limit = Unlimited; address = 0 }) (firsts f) ▸ secondOf (headOf f) ▸ nil)
 
 unfoldable pub rule8 : Node → Forest → Option Tree
-rule8 n f = when (sameKind (n .kind) Choice and shares f) (sharedOut (n .limit) f)
+rule8 n f = when (sameKind (n .kind) Choice and shares f) (sharedOut (n .limit) (n .address) f)
 
 -- 9. an unlimited loop of plain bound 0 whose body names this loop or the whole run becomes its exit
 unfoldable pub exit : Forest → Option Tree

@@ -1,4 +1,4 @@
--- Two trees with the same bytes.
+-- Two trees with the same bytes but for their addresses.
 use mathlib.Core.Bool.{Bool, false, true}
 use lib.Dec.{eqb}
 use Rattle.simplify.specs.Nodes.{Number, Plain, Symbol, Most, Limit, Unlimited, AtMost, Kind, Block, Sequence, Choice, Loop}
@@ -39,7 +39,7 @@ sameKind (Loop m) Sequence = false
 sameKind (Loop m) Choice = false
 sameKind (Loop m) (Loop n) = sameNumber m n
 
--- two trees with the same bytes
+-- two trees with the same bytes but for the address at every record
 unfoldable mutual
   pub same : Tree → Tree → Bool
   same (node n f) (node m g) = sameKind (n .kind) (m .kind) and sameLimit (n .limit) (m .limit) and sameIn f g

@@ -11,10 +11,7 @@ use Rattle.table.specs.Notation.{_/_at_, allHold, block, both, either, loop, se
 use Rattle.table.specs.Table.{encode}
 use Rattle.table.specs.Trees.{Tree, nil, _▸_}
 use Rattle.runs.specs.Cases.{caseC, caseE, caseH, caseI, limitedZero, term}
-use Rattle.evaluate.specs.Closed.{stays, closed, isPlain, plainKind, plainLimit, symbolFree, isUnlimited}
-use Rattle.simplify.specs.Same.{sameNumber, sameLimit, sameKind, same}
-use Rattle.simplify.specs.Rules.{isBlock, isSum, limitOf, children, relimit, leaf, bare, timeOfKind, timeOf, when, rule1, gives, anyGives, giveWay, rule2, alone, rule3, rule4, isZero, anyZero, without, rule5, bares, others, total, largest, rule6, atFirst, rule7, isPair, headOf, tailOf, firstOf, secondOf, allPairs, firsts, shares, sharedOut, rule8, exit, rule9}
-use Rattle.simplify.specs.Steps.{orElse, also, rule, inside, step, isNone, onward, steps}
+use Rattle.simplify.specs.Cases.{computedSteps}
 use Rattle.lists.specs.Pairs.{ever, run}
 use Rattle.quoting.specs.Cases.{computed, lists, quotes}
 use Rattle.simplifying.specs.declared.Ending.{Ending}
@@ -71,5 +68,5 @@ starred =
     ∷ []
 
 pub starred-hold : allHold starred ≡ true
-unfolding starred caseC caseE term caseH caseI limitedZero computed sameNumbers isFinished hasWritten becomes stays closed isPlain plainKind plainLimit symbolFree sameNumber sameLimit sameKind same isUnlimited isBlock isSum limitOf children relimit leaf bare timeOfKind timeOf when rule1 gives anyGives giveWay rule2 alone rule3 rule4 isZero anyZero without rule5 bares others total largest rule6 atFirst rule7 isPair headOf tailOf firstOf secondOf allPairs firsts shares sharedOut rule8 exit rule9 orElse also rule inside step isNone onward steps simplifyRefusal endingOf made madeAnswer simplifyAnswer simplifyWrites
+unfolding starred caseC caseE term caseH caseI limitedZero computed computedSteps sameNumbers isFinished hasWritten becomes simplifyRefusal endingOf made madeAnswer simplifyAnswer simplifyWrites
 starred-hold = refl

@@ -18,7 +18,7 @@ renamedLimit (AtMost k m) d = AtMost (renamedName k d) m
 
 unfoldable mutual
   pub rename : Tree → ℕ → Tree
-  rename (node n f) d = node (record { kind = n .kind; limit = renamedLimit (n .limit) d }) (renameIn (n .kind) f d)
+  rename (node n f) d = node (record { kind = n .kind; limit = renamedLimit (n .limit) d; address = n .address }) (renameIn (n .kind) f d)
 
   pub renameIn : Kind → Forest → ℕ → Forest
   renameIn k nil d = nil
@@ -35,15 +35,15 @@ isSymbol s Choice = false
 isSymbol s (Loop n) = false
 
 abbrev pub zeroBlock : Tree
-zeroBlock = node (record { kind = Block (Plain 0); limit = Unlimited }) nil
+zeroBlock = node (record { kind = Block (Plain 0); limit = Unlimited; address = 0 }) nil
 
--- a loop of bound 1 around the sent tree, with a zero block as exit and the block's limit on the loop
-unfoldable pub inPlace : (sent : Tree) (limit : Limit) → Tree
-inPlace u l = node (record { kind = Loop (Plain 1); limit = l }) (rename u 0 ▸ zeroBlock ▸ nil)
+-- a loop of bound 1 around the sent tree, with a zero block as exit, whose address is 0, and the block's limit and address on the loop
+unfoldable pub inPlace : (sent : Tree) (limit : Limit) (address : ℕ) → Tree
+inPlace u l a = node (record { kind = Loop (Plain 1); limit = l; address = a }) (rename u 0 ▸ zeroBlock ▸ nil)
 
 unfoldable mutual
   pub graft : (symbol : ℕ) (sent host : Tree) → Tree
-  graft s u (node n f) = cond (isSymbol s (n .kind)) (inPlace u (n .limit)) (node n (graftIn s u f))
+  graft s u (node n f) = cond (isSymbol s (n .kind)) (inPlace u (n .limit) (n .address)) (node n (graftIn s u f))
 
   pub graftIn : (symbol : ℕ) (sent : Tree) → Forest → Forest
   graftIn s u nil = nil

@@ -19,13 +19,13 @@ unfoldable pub occurrencesIn : (s n : ℕ) → List ℕ → ℕ
 occurrencesIn s zero b = 0
 occurrencesIn s (suc n) b = occursFirst s b + occurrencesIn s n (drop recordLength b)
 
--- what stands in place of a block with this limit: the loop's record, the renamed sent table, the exit's record
-unfoldable pub placeBytes : (body : List ℕ) → Limit → List ℕ
-placeBytes body l = recordBytes (nodeOf (Loop (Plain 1)) l) 2 ++ body ++ recordBytes (nodeOf (Block (Plain 0)) Unlimited) 0
+-- what stands in place of a block with this limit and address: the loop's record, the renamed sent table, the exit's record
+unfoldable pub placeBytes : (body : List ℕ) → Limit → (address : ℕ) → List ℕ
+placeBytes body l a = recordBytes (nodeOf (Loop (Plain 1)) l a) 2 ++ body ++ recordBytes (nodeOf (Block (Plain 0)) Unlimited 0) 0
 
 -- the first record of b, or what stands in its place
 unfoldable pub spliceFirst : (s : ℕ) (body b : List ℕ) → List ℕ
-spliceFirst s body b = cond (isSymbol s (firstNode b .kind)) (placeBytes body (firstNode b .limit)) (take recordLength b)
+spliceFirst s body b = cond (isSymbol s (firstNode b .kind)) (placeBytes body (firstNode b .limit) (firstNode b .address)) (take recordLength b)
 
 -- b's first n records so
 unfoldable pub splice : (s : ℕ) (body : List ℕ) (n : ℕ) → List ℕ → List ℕ

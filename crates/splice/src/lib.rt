@@ -150,19 +150,28 @@ pub fn rename_all(sent: &[u8], out: &mut [u8])
 
 // ---- The host, with the renamed sent table in place of the symbol
 
-// Puts what stands in place of a block with this limit at the buffer's record `at`: the loop, the renamed sent table of `size` records, the zero
+// Puts what stands in place of a block with this limit and address at the buffer's record `at`: the loop, the renamed sent table of `size` records, the zero
 // block. Answers the record after it.
-fn put_place(limit: Limit, body: &[u8], size: usize, out: &mut [u8], at: usize) -> usize
+fn put_place(
+    limit: Limit,
+    address: u32,
+    body: &[u8],
+    size: usize,
+    out: &mut [u8],
+    at: usize,
+) -> usize
     requires { ⌜ (recordLength * size ≤ length (now body)) × (recordLength * (at + (size + 2)) ≤ length (now out)) ⌝ }
-    ensures { λ r. ⌜ (r ≡ at + (size + 2)) × (front r (now (out .exit)) ≡ front at (now (out .entry)) ++ placeBytes (front size (now (body .entry))) limit) ⌝ }
+    ensures { λ r. ⌜ (r ≡ at + (size + 2)) × (front r (now (out .exit)) ≡ front at (now (out .entry)) ++ placeBytes (front size (now (body .entry))) limit address) ⌝ }
 {
     let once = Node {
         kind: Kind::Loop(Number::Plain(1)),
         limit: limit,
+        address: address,
     };
     let zero = Node {
         kind: Kind::Block(Number::Plain(0)),
         limit: Limit::Unlimited,
+        address: 0,
     };
     let first = writing::put_node(out, at, once, 2);
     let end = writing::copy_records(body, 0, size, out, first);
@@ -186,7 +195,7 @@ fn put_next(
     let kind = node.kind;
     let limit = node.limit;
     if is_symbol(kind, symbol) {
-        put_place(limit, body, size, out, at)
+        put_place(limit, node.address, body, size, out, at)
     } else {
         writing::copy_records(host, i, 1, out, at)
     }

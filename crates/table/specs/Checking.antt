@@ -8,11 +8,11 @@ use lib.ListN.{getD, length}
 use Rattle.booleans.specs.Tests.{_and_}
 use Rattle.table.specs.Asking.{Question, _asks_, firstNo}
 use Rattle.table.specs.Nodes.{Limit, Unlimited, AtMost}
-use Rattle.table.specs.Numbers.{wholeRun, mostLoops, recordLength, mostRecords, mostDepth, mostWeight}
+use Rattle.table.specs.Numbers.{fill, wholeRun, mostLoops, recordLength, mostRecords, mostDepth, mostWeight}
 use Rattle.table.specs.Questions.{Accepted, kindInRange, mostInRange, depth, loops, named, weight}
 use Rattle.table.specs.Table.{field, firstNode, formTrees, each, recordCount, decode, encode}
 
--- 1. a multiple of 16 from 16 to 8,192
+-- 1. a multiple of 24 from 24 to 12,288
 unfoldable pub question1 : List ℕ → Bool
 question1 b = eqb (length b % recordLength) 0 and leb recordLength (length b) and leb (length b) (recordLength * mostRecords)
 
@@ -28,12 +28,20 @@ limitListed k s m = (leb 1 k && leb k mostLoops) || eqb k wholeRun || (eqb k 0 &
 abbrev pub flagsListed : ℕ → Bool
 flagsListed s = not (eqb s 2) && leb s 3
 
--- 2. of the first record; flag 1 is the low bit of byte 1
-abbrev pub recordListed : List ℕ → Bool
-recordListed b =
+-- 2. of the first record's bytes before its address; flag 1 is the low bit of byte 1
+abbrev pub fieldsListed : List ℕ → Bool
+fieldsListed b =
     kindListed (getD b 0 0) (getD b 2 0) (getD b 1 0 % 2) (field b 8 8)
     && limitListed (getD b 3 0) (getD b 1 0 / 2) (field b 4 4)
     && flagsListed (getD b 1 0 / 2)
+
+-- 2. Bytes 20 to 23 are each 255.
+abbrev pub fillListed : (byte20 byte21 byte22 byte23 : ℕ) → Bool
+fillListed w x y z = eqb w fill && eqb x fill && eqb y fill && eqb z fill
+
+-- 2. of the first record
+abbrev pub recordListed : List ℕ → Bool
+recordListed b = fieldsListed b && fillListed (getD b 20 0) (getD b 21 0) (getD b 22 0) (getD b 23 0)
 
 unfoldable pub question2 : List ℕ → Bool
 question2 b = each recordListed (recordCount b) b

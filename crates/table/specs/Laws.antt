@@ -1,5 +1,6 @@
 -- Laws, in the order in which they lean on each other.
 pub mod Trees
+pub mod Addresses
 pub mod Bytes
 pub mod RoundTrip
 pub mod Canonical

@@ -2,9 +2,9 @@
 use mathlib.Core.Bool.{Bool, true, _||_, cond}
 use Prim.Native.Nat.{ℕ, suc, max, _-_, _^_, _+_, _≤_}
 use lib.Dec.{leb, eqb, ltb, T}
-use Rattle.table.specs.Nodes.{Kind, Block, Sequence, Choice, Loop, Number, Plain, Symbol, Most, Limit, Unlimited, AtMost}
+use Rattle.table.specs.Nodes.{Kind, Block, Sequence, Choice, Loop, Number, Plain, Symbol, Most, Limit, Unlimited, AtMost, Node}
 use Rattle.booleans.specs.Tests.{_and_}
-use Rattle.table.specs.Numbers.{mostChildren, mostTime, firstTimeSymbol, howManySymbols, mostCount, wholeRun, mostLoops, mostRecords, mostDepth, mostWeight}
+use Rattle.table.specs.Numbers.{addresses, mostChildren, mostTime, firstTimeSymbol, howManySymbols, mostCount, wholeRun, mostLoops, mostRecords, mostDepth, mostWeight}
 use Rattle.table.specs.Trees.{Tree, node, Forest, nil, _▸_, size, rest, around, records}
 
 -- ---- 2 and 3: each node by itself
@@ -40,10 +40,17 @@ unfoldable pub limitInRange : Limit → Bool
 limitInRange Unlimited = true
 limitInRange (AtMost k m) = ((leb 1 k and leb k mostLoops) || eqb k wholeRun) and mostInRange m
 
--- every node is as questions 2 and 3 ask
+-- An address is any number of 32 bits. No question asks for it, since its four bytes hold no other.
+unfoldable pub isAddress : ℕ → Bool
+isAddress a = ltb a addresses
+
+abbrev pub nodeInRange : Node → Bool
+nodeInRange n = isAddress (n .address) and kindInRange (n .kind) and limitInRange (n .limit)
+
+-- every node is as questions 2 and 3 ask, and has an address
 unfoldable mutual
   pub listed : Tree → Bool
-  listed (node n f) = kindInRange (n .kind) and limitInRange (n .limit) and arity (n .kind) (size f) and listedIn f
+  listed (node n f) = nodeInRange n and arity (n .kind) (size f) and listedIn f
 
   pub listedIn : Forest → Bool
   listedIn nil = true

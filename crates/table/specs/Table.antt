@@ -6,7 +6,7 @@ use lib.Dec.{eqb, ltb}
 use lib.ListN.{take, drop, getD, length}
 use Rattle.table.specs.Nodes.{Number, Plain, Symbol, Most, Kind, Block, Sequence, Choice, Loop, Limit, Unlimited, AtMost, Node}
 use Rattle.booleans.specs.Tests.{_and_}
-use Rattle.table.specs.Numbers.{recordLength}
+use Rattle.table.specs.Numbers.{fieldsLength, fill, recordLength}
 use Rattle.table.specs.Trees.{Tree, node, Forest, nil, _▸_, size}
 use Rattle.table.specs.Bytes.{toBytes, fromBytes}
 
@@ -69,11 +69,20 @@ unfoldable pub limitFrom : ℕ → Most → Limit
 limitFrom zero m = Unlimited
 limitFrom (suc k) m = AtMost (suc k) m
 
+-- the last four bytes of a record
+abbrev pub filler : List ℕ
+filler = fill ∷ fill ∷ fill ∷ fill ∷ []
+
+-- what stands behind the fields of a node with address 0
+abbrev pub noAddress : List ℕ
+noAddress = 0 ∷ 0 ∷ 0 ∷ 0 ∷ filler
+
 -- the record of a node with c children
 unfoldable pub recordBytes : Node → ℕ → List ℕ
 recordBytes n c =
     (kindByte (n .kind) ∷ (flag (valueNum (n .kind)) + 2 * mostFlags (limitNum (n .limit))) ∷ c ∷ loopByte (n .limit) ∷ [])
     ++ toBytes 4 (mostField (limitNum (n .limit))) ++ toBytes 8 (raw (valueNum (n .kind)))
+    ++ toBytes 4 (n .address) ++ filler
 
 -- the table of a tree, and of a forest: a node's record first, then its children in order, each with everything below it
 unfoldable mutual
@@ -93,6 +102,7 @@ unfoldable pub firstNode : List ℕ → Node
 firstNode b = record {
   kind = kindFrom (getD b 0 0) (numFrom (getD b 1 0 % 2) (field b 8 8));
   limit = limitFrom (getD b 3 0) (mostFrom (getD b 1 0 / 2) (field b 4 4));
+  address = field b fieldsLength 4;
 }
 
 unfoldable pub childByte : List ℕ → ℕ
@@ -123,7 +133,7 @@ forest zero b = nil
 forest (suc n) b = let f = forest n (drop recordLength b) in node (firstNode b) (firstOnes (childByte b) f) ▸ afterOnes (childByte b) f
 
 unfoldable pub top : Forest → Tree
-top nil = node (record { kind = Sequence; limit = Unlimited }) nil
+top nil = node (record { kind = Sequence; limit = Unlimited; address = 0 }) nil
 top (t ▸ f) = t
 
 -- how many records a table of these bytes has

@@ -42,3 +42,12 @@ unfoldable mutual
   pub recordsIn : Forest → ℕ
   recordsIn nil = 0
   recordsIn (t ▸ f) = records t + recordsIn f
+
+-- the tree with address 0 at every node: what is left of it without its addresses
+unfoldable mutual
+  pub unaddressed : Tree → Tree
+  unaddressed (node n f) = node (record { kind = n .kind; limit = n .limit; address = 0 }) (unaddressedIn f)
+
+  pub unaddressedIn : Forest → Forest
+  unaddressedIn nil = nil
+  unaddressedIn (t ▸ f) = unaddressed t ▸ unaddressedIn f

@@ -5,7 +5,7 @@ ghost use lib.ListN.{drop, length};
 ghost use Rattle.table.specs.Numbers.{recordLength, mostRecords};
 ghost use Rattle.table.specs.Table.{childByte, field, firstNode, flagless, kindFrom, limitFrom, loopByte, mostFrom, numFrom, recordCount, withoutFour};
 ghost use Rattle.table.specs.Questions.{timeInRange, countInRange, kindInRange, mostInRange};
-ghost use Rattle.table.specs.Checking.{flagsListed, kindListed, limitCount, limitListed, question1, question2, question3, question4, recordInRange, recordListed, refusal};
+ghost use Rattle.table.specs.Checking.{fillListed, flagsListed, kindListed, limitCount, limitListed, question1, question2, question3, question4, recordInRange, recordListed, refusal};
 ghost use Rattle.table.specs.Numbers.{mostLoops, mostDepth};
 ghost use Rattle.table.specs.Trees.{around};
 ghost use Rattle.table.specs.Questions.{nameOk};
@@ -13,7 +13,11 @@ ghost use Rattle.table.specs.Survey.{mostShare, nameShare, listedShare, 
 
 // ---- Numbers, as in specs/Numbers.antt
 
-pub const RECORD_LENGTH: usize = 16;
+pub const RECORD_LENGTH: usize = 24;
+
+pub const FIELDS_LENGTH: usize = 16;
+
+pub const FILL: u8 = 255;
 
 pub const MOST_RECORDS: usize = 512;
 
@@ -65,6 +69,7 @@ pub enum Kind {
 pub struct Node {
     pub kind: Kind,
     pub limit: Limit,
+    pub address: u32,
 }
 
 // ---- Fields
@@ -157,7 +162,15 @@ pub fn read_limit(b: &[u8]) -> Limit
     Limit::AtMost(name, most)
 }
 
-// Both.
+// Its address.
+pub fn read_address(b: &[u8]) -> u32
+    requires { ⌜ recordLength ≤ length (now b) ⌝ }
+    ensures { λ r. ⌜ r ≡ firstNode (now (b .entry)) .address ⌝ }
+{
+    read_u32(b, FIELDS_LENGTH) as u32
+}
+
+// All of them.
 pub fn read_node(b: &[u8]) -> Node
     requires { ⌜ recordLength ≤ length (now b) ⌝ }
     ensures { λ r. ⌜ r ≡ firstNode (now (b .entry)) ⌝ }
@@ -167,6 +180,7 @@ pub fn read_node(b: &[u8]) -> Node
     Node {
         kind: kind,
         limit: limit,
+        address: read_address(b),
     }
 }
 
@@ -254,6 +268,12 @@ fn flags_listed(flags: u8) -> bool
     (flags != 2) & (flags <= 3)
 }
 
+fn fill_listed(b20: u8, b21: u8, b22: u8, b23: u8) -> bool
+    ensures { λ r. ⌜ r ≡ fillListed b20 b21 b22 b23 ⌝ }
+{
+    (b20 == FILL) & (b21 == FILL) & (b22 == FILL) & (b23 == FILL)
+}
+
 // Are the fields of the record at the front of `b` as listed?
 fn record_listed(b: &[u8]) -> bool
     requires { ⌜ recordLength ≤ length (now b) ⌝ }
@@ -262,7 +282,8 @@ fn record_listed(b: &[u8]) -> bool
     let flags = b[1];
     let kind = kind_listed(b[0], b[2], flags % 2, read_u64(b, 8));
     let limit = limit_listed(b[3], flags / 2, read_u32(b, 4));
-    kind & limit & flags_listed(flags / 2)
+    let fill = fill_listed(b[20], b[21], b[22], b[23]);
+    kind & limit & flags_listed(flags / 2) & fill
 }
 
 // Are the fields of every record as listed?

@@ -15,6 +15,6 @@ front n b = take (recordLength * n) b
 abbrev pub slice : List ℕ → (i n : ℕ) → List ℕ
 slice b i n = take (recordLength * n) (drop (recordLength * i) b)
 
--- a node by its kind and its limit
-abbrev pub nodeOf : Kind → Limit → Node
-nodeOf k l = record { kind = k; limit = l }
+-- a node by its kind, its limit and its address
+abbrev pub nodeOf : Kind → Limit → ℕ → Node
+nodeOf k l a = record { kind = k; limit = l; address = a }

@@ -7,6 +7,7 @@ ghost use Rattle.table.specs.Numbers.{recordLength};
 ghost use Rattle.table.specs.Table.{flag, kindByte, limitNum, loopByte, mostField, mostFlags, raw, recordBytes, recordCount, valueNum};
 ghost use Rattle.writing.specs.Over.{over};
 ghost use Rattle.writing.specs.Records.{front, slice};
+use table::FILL;
 use table::Kind;
 use table::Limit;
 use table::Most;
@@ -148,6 +149,7 @@ fn record_of(node: Node, count: u8) -> [u8; RECORD_LENGTH]
     let most = most_of(limit);
     let v = raw_of(value);
     let m = most_field(most);
+    let a = node.address;
     [
         kind_byte(kind),
         flag_of(value) + 2 * most_flags(most),
@@ -165,6 +167,14 @@ fn record_of(node: Node, count: u8) -> [u8; RECORD_LENGTH]
         (v / 256 / 256 / 256 / 256 / 256 % 256) as u8,
         (v / 256 / 256 / 256 / 256 / 256 / 256 % 256) as u8,
         (v / 256 / 256 / 256 / 256 / 256 / 256 / 256 % 256) as u8,
+        (a % 256) as u8,
+        (a / 256 % 256) as u8,
+        (a / 256 / 256 % 256) as u8,
+        (a / 256 / 256 / 256 % 256) as u8,
+        FILL,
+        FILL,
+        FILL,
+        FILL,
     ]
 }
 

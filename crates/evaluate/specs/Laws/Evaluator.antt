@@ -52,7 +52,7 @@ pub fair-below : (n : Node) (f : Forest) (d : ℕ) → Fair (node n f) d → Fai
 unfolding listed loops named weight
 fair-below n f d a =
     let (p, l) = both _ _ (a .listed) in
-    record { ranged = both _ _ (both _ _ p .0) .0; listed = l; nested = omega (arith, a .nested); named = both _ _ (a .named) .1; weighed = omega (arith, a .weighed) }
+    record { ranged = both _ _ (both _ _ (both _ _ p .0) .0) .1; listed = l; nested = omega (arith, a .nested); named = both _ _ (a .named) .1; weighed = omega (arith, a .weighed) }
 
 pub fair-first : (k : Kind) (t : Tree) (f : Forest) (d : ℕ) → FairIn k (t ▸ f) d → Fair t (around k d)
 unfolding listed loops named weight
@@ -112,7 +112,7 @@ module _ (u v : Values) (agree : Agree u v) (ranged : (k : ℕ) → k < firstTim
       (λ x. join-and _ _ (le→leb _ _ (x .0 .0)) (x .0 .1))
       (λ x. let (x₁, x₂) = both _ _ x in ((leb→le _ _ x₁, x₂), tt))
       refl refl refl refl refl
-      (then-finds {q = Unit {0}} (below-finds u v agree (n .kind) f (evaluateNode u h) (encodes f ++ z) (both _ _ p₁ .0) p₂ (q h (omega arith))) (λ x w.
+      (then-finds {q = Unit {0}} (below-finds u v agree (n .kind) f (evaluateNode u h) (encodes f ++ z) (both _ _ (both _ _ p₁ .0) .1) p₂ (q h (omega arith))) (λ x w.
       known-finds tt (limited-holds u v agree ranged (n .limit) _ _ _ _ _ _ w (both _ _ p₁ .1) (both _ _ y .0) (le-trans (bound-weight (node n f) d (a .nested) (a .named)) (a .weighed))))))
 
   mutual

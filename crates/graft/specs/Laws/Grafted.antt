@@ -17,7 +17,7 @@ use Rattle.booleans.specs.Tests.{_and_}
 use Rattle.booleans.specs.Laws.{both, join-and, by-cond, either, or-else, is-T, T-is}
 use Rattle.table.specs.Numbers.{firstTimeSymbol, mostTime, wholeRun}
 use Rattle.table.specs.Trees.{Tree, node, Forest, nil, _▸_, size, rest, around}
-use Rattle.table.specs.Questions.{Accepted, arity, countInRange, kindInRange, limitInRange, listed, listedIn, nameOk, named, namedIn, timeInRange, mostInRange}
+use Rattle.table.specs.Questions.{Accepted, arity, countInRange, isAddress, kindInRange, limitInRange, listed, listedIn, nameOk, named, namedIn, timeInRange, mostInRange}
 use Rattle.lists.specs.Streams.{Stream, S, add, cap, const, group, shift}
 use Rattle.evaluate.specs.Evaluate.{Values, amount, before, branch, branchIn, figure, fits, fitsIn, holderIn, inner, join, limit, list, name, nameIn, noBranch, rounds, seen, start, turns, allowed}
 use Rattle.evaluate.specs.Closed.{stays, closed, closedIn}
@@ -66,9 +66,9 @@ symbol-alone s k f h a = let (x, y) = symbol-only s k f h a in (ap₂ nameIn x y
 
 -- ---- names
 
-place-name : (u : Tree) (l : Limit) → Fair u 0 → name (inPlace u l) ≡ inner l wholeRun
+place-name : (u : Tree) (l : Limit) (i : ℕ) → Fair u 0 → name (inPlace u l i) ≡ inner l wholeRun
 unfolding inPlace name
-place-name u l s = ap (inner l) (closedIn-run (Loop (Plain 1)) (placed u) (placed-closed u s))
+place-name u l i s = ap (inner l) (closedIn-run (Loop (Plain 1)) (placed u) (placed-closed u s))
 
 module _ (s : ℕ) (u : Tree) (o : Fair u 0) where
   mutual
@@ -78,7 +78,7 @@ module _ (s : ℕ) (u : Tree) (o : Fair u 0) where
     graft-name (node n f) h =
         let (p, c) = both _ _ h in
         by-cond (λ t. name t ≡ inner (n .limit) (nameIn (n .kind) f)) (isSymbol s (n .kind)) _ _
-        (λ b. place-name u (n .limit) o ∙ ap (inner (n .limit)) (sym (symbol-alone s (n .kind) f b (both _ _ p .1) .0)))
+        (λ b. place-name u (n .limit) (n .address) o ∙ ap (inner (n .limit)) (sym (symbol-alone s (n .kind) f b (both _ _ p .1) .0)))
         (λ e. ap (inner (n .limit)) (graftIn-name (n .kind) f c))
 
     pub graftIn-name : (k : Kind) (f : Forest) → T (listedIn f) → nameIn k (graftIn s u f) ≡ nameIn k f
@@ -102,9 +102,9 @@ place-first v u s =
     let q = ap (λ f. f 0) (rename-list v u 0 (s .nested) (s .named)) in
     omega (arith, e, q)
 
-place-list : (v : Values) (u : Tree) (l : Limit) → Fair u 0 → list v (inPlace u l) ≡ limit v l (const (figure v u))
+place-list : (v : Values) (u : Tree) (l : Limit) (i : ℕ) → Fair u 0 → list v (inPlace u l i) ≡ limit v l (const (figure v u))
 unfolding inPlace list
-place-list v u l s =
+place-list v u l i s =
     ap (limit v l) (closedIn-const v (Loop (Plain 1)) (placed u) (placed-closed u s) ∙ ap const (place-first v u s))
 
 -- ---- values that agree but for symbol s: of symbols from 16 on, only times read them
@@ -175,9 +175,9 @@ module _ (v : Values) (s : ℕ) (g : firstTimeSymbol ≤ s) (u : Tree) (o : Fair
         let (k, l) = both _ _ q in
         by-cond (λ t. list v t ≡ limit (setValue v s (figure v u)) (n .limit) (before (setValue v s (figure v u)) (n .kind) f)) (isSymbol s (n .kind)) _ _
         (λ b.
-        place-list v u (n .limit) o ∙ limit-but v (setValue v s (figure v u)) s g (set-other v s (figure v u)) (n .limit) _ l
+        place-list v u (n .limit) (n .address) o ∙ limit-but v (setValue v s (figure v u)) s g (set-other v s (figure v u)) (n .limit) _ l
         ∙ ap (limit (setValue v s (figure v u)) (n .limit)) (ap const (sym (set-there v s (figure v u))) ∙ sym (symbol-alone s (n .kind) f b a .1 (setValue v s (figure v u)))))
-        (λ e. limit-but v (setValue v s (figure v u)) s g (set-other v s (figure v u)) (n .limit) _ l ∙ ap (limit (setValue v s (figure v u)) (n .limit)) (graft-before (n .kind) f k e c))
+        (λ e. limit-but v (setValue v s (figure v u)) s g (set-other v s (figure v u)) (n .limit) _ l ∙ ap (limit (setValue v s (figure v u)) (n .limit)) (graft-before (n .kind) f (both _ _ k .1) e c))
 
     pub graft-before : (k : Kind) (f : Forest) → T (kindInRange k) → isSymbol s k ≡ false → T (listedIn f) → before v k (graftIn s u f) ≡ before (setValue v s (figure v u)) k f
     graft-before k nil r e h = start-but v (setValue v s (figure v u)) s g (set-other v s (figure v u)) k r e
@@ -225,9 +225,9 @@ zero-fits : (v : Values) → T (fits v zeroBlock and true)
 unfolding fits list start amount const _and_
 zero-fits v = tt
 
-place-fits : (v : Values) (u : Tree) (l : Limit) → Fair u 0 → T (fits v u) → T (fits v (inPlace u l))
+place-fits : (v : Values) (u : Tree) (l : Limit) (i : ℕ) → Fair u 0 → T (fits v u) → T (fits v (inPlace u l i))
 unfolding inPlace fits
-place-fits v u l s h =
+place-fits v u l i s h =
     join-and _ _ (subst (λ x. T (leb x mostTime)) (sym (place-first v u s)) (le→leb _ _ (figure-most v u h)))
     (join-and _ _ (is-T _ (rename-fits v u 0 (s .nested) (s .named) ∙ T-is _ h)) (zero-fits v))
 
@@ -250,8 +250,8 @@ module _ (v : Values) (s : ℕ) (g : firstTimeSymbol ≤ s) (u : Tree) (o : Fair
         let (p, c) = both _ _ h in
         let (q, a) = both _ _ p in
         by-cond (λ t. fits v t ≡ (leb (before (setValue v s (figure v u)) (n .kind) f 0) mostTime and fitsIn (setValue v s (figure v u)) f)) (isSymbol s (n .kind)) _ _
-        (λ b. T-is _ (place-fits v u (n .limit) o y) ∙ sym (T-is _ (symbol-fits (setValue v s (figure v u)) s (n .kind) f b a set-low)))
-        (λ e. ap₂ _and_ (ap (λ k. leb (k 0) mostTime) (graft-before v s g u o (n .kind) f (both _ _ q .0) e c)) (graftIn-fits f c))
+        (λ b. T-is _ (place-fits v u (n .limit) (n .address) o y) ∙ sym (T-is _ (symbol-fits (setValue v s (figure v u)) s (n .kind) f b a set-low)))
+        (λ e. ap₂ _and_ (ap (λ k. leb (k 0) mostTime) (graft-before v s g u o (n .kind) f (both _ _ (both _ _ q .0) .1) e c)) (graftIn-fits f c))
 
     graftIn-fits : (f : Forest) → T (listedIn f) → fitsIn v (graftIn s u f) ≡ fitsIn (setValue v s (figure v u)) f
     graftIn-fits nil h = refl
@@ -275,21 +275,21 @@ module _ (v : Values) (s : ℕ) (u : Tree) (o : Fair u 0) where
 -- ---- questions 2, 3 and 6: always yes
 
 zero-listed : T (listed zeroBlock and true)
-unfolding listed kindInRange timeInRange limitInRange arity size _and_
+unfolding listed isAddress kindInRange timeInRange limitInRange arity size _and_
 zero-listed = tt
 
 zero-named : (d : ℕ) → T (named zeroBlock d and true)
 unfolding named nameOk _and_
 zero-named d = tt
 
-place-listed : (u : Tree) (l : Limit) → Fair u 0 → T (limitInRange l) → T (listed (inPlace u l))
+place-listed : (u : Tree) (l : Limit) (i : ℕ) → Fair u 0 → T (isAddress i) → T (limitInRange l) → T (listed (inPlace u l i))
 unfolding inPlace listed kindInRange countInRange timeInRange limitInRange arity size
-place-listed u l s h =
-    join-and _ _ (join-and _ _ (join-and _ _ tt h) tt) (join-and _ _ (rename-listed u 0 (s .nested) (s .weighed) (s .listed)) zero-listed)
+place-listed u l i s a h =
+    join-and _ _ (join-and _ _ (join-and _ _ (join-and _ _ a tt) h) tt) (join-and _ _ (rename-listed u 0 (s .nested) (s .weighed) (s .listed)) zero-listed)
 
-place-named : (u : Tree) (l : Limit) (d : ℕ) → Fair u 0 → T (nameOk l d) → T (named (inPlace u l) d)
+place-named : (u : Tree) (l : Limit) (i d : ℕ) → Fair u 0 → T (nameOk l d) → T (named (inPlace u l i) d)
 unfolding inPlace named around rest nameOk
-place-named u l d s h = join-and _ _ h (join-and _ _ (rename-named u 0 (suc d) (omega arith) (s .named)) (zero-named d))
+place-named u l i d s h = join-and _ _ h (join-and _ _ (rename-named u 0 (suc d) (omega arith) (s .named)) (zero-named d))
 
 module _ (s : ℕ) (u : Tree) (o : Fair u 0) where
   mutual
@@ -300,7 +300,7 @@ module _ (s : ℕ) (u : Tree) (o : Fair u 0) where
         let (p, c) = both _ _ h in
         let (q, a) = both _ _ p in
         by-cond (λ t. T (listed t)) (isSymbol s (n .kind)) _ _
-        (λ b. place-listed u (n .limit) o (both _ _ q .1))
+        (λ b. place-listed u (n .limit) (n .address) o (both _ _ (both _ _ q .0) .0) (both _ _ q .1))
         (λ e. join-and _ _ (join-and _ _ q (rw (size-grafted s u f) a)) (graftIn-listed f c))
 
     graftIn-listed : (f : Forest) → T (listedIn f) → T (listedIn (graftIn s u f))
@@ -314,7 +314,7 @@ module _ (s : ℕ) (u : Tree) (o : Fair u 0) where
     graft-named (node n f) d h =
         let (a, b) = both _ _ h in
         by-cond (λ t. T (named t d)) (isSymbol s (n .kind)) _ _
-        (λ c. place-named u (n .limit) d o a)
+        (λ c. place-named u (n .limit) (n .address) d o a)
         (λ e. join-and _ _ a (graftIn-named (n .kind) f d b))
 
     graftIn-named : (k : Kind) (f : Forest) (d : ℕ) → T (namedIn k f d) → T (namedIn k (graftIn s u f) d)

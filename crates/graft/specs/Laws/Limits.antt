@@ -39,9 +39,9 @@ module _ (q : Most → Bool) where
     renameIn-limits k nil d = refl
     renameIn-limits k (t ▸ f) d = ap₂ _and_ (rename-limits t (around k d)) (renameIn-limits (rest k) f d)
 
-  place-limits : (u : Tree) (l : Limit) → everyMost q (inPlace u l) ≡ (mostHolds q l and everyMost q u)
+  place-limits : (u : Tree) (l : Limit) (i : ℕ) → everyMost q (inPlace u l i) ≡ (mostHolds q l and everyMost q u)
   unfolding inPlace everyLimit limitHolds _and_
-  place-limits u l = ap (λ x. mostHolds q l and x) (and-true _ ∙ rename-limits u 0)
+  place-limits u l i = ap (λ x. mostHolds q l and x) (and-true _ ∙ rename-limits u 0)
 
   module _ (s : ℕ) (u : Tree) where
     mutual
@@ -53,7 +53,7 @@ module _ (q : Most → Bool) where
           let (p, c) = both _ _ h in
           let (r, a) = both _ _ p in
           by-cond (λ t. everyMost q t ≡ (mostHolds q (n .limit) and everyIn f)) (isSymbol s (n .kind)) _ _
-          (λ b. place-limits u (n .limit) ∙ ap (λ x. mostHolds q (n .limit) and x) (T-is _ y ∙ sym (ap everyIn (symbol-only s (n .kind) f b a .1))))
+          (λ b. place-limits u (n .limit) (n .address) ∙ ap (λ x. mostHolds q (n .limit) and x) (T-is _ y ∙ sym (ap everyIn (symbol-only s (n .kind) f b a .1))))
           (λ e. ap (λ x. mostHolds q (n .limit) and x) (graftIn-limits y f c))
 
       graftIn-limits : T (everyMost q u) → (f : Forest) → T (listedIn f) → everyIn (graftIn s u f) ≡ everyIn f
@@ -67,7 +67,7 @@ module _ (q : Most → Bool) where
       pub sent-limits : (t : Tree) → T (uses s t) → T (everyMost q (graft s u t)) → T (everyMost q u)
       sent-limits (node n f) h =
           by-cond (λ t. T (everyMost q t) → T (everyMost q u)) (isSymbol s (n .kind)) _ _
-          (λ b x. both _ _ (subst T (place-limits u (n .limit)) x) .1)
+          (λ b x. both _ _ (subst T (place-limits u (n .limit) (n .address)) x) .1)
           (λ e x. sentIn-limits f (or-else (isSymbol s (n .kind)) (usesIn s f) h e) (both _ _ x .1))
 
       sentIn-limits : (f : Forest) → T (usesIn s f) → T (everyIn (graftIn s u f)) → T (everyMost q u)

@@ -73,7 +73,7 @@ module _ (b : List ℕ) (s : Simplifiable b) where
       sym (first-top (is .proper)) ∙ ap topPair (is .pairs) ∙ e .figure (s .fits)
 
   pub block-written : (marks out : List ℕ) (x : Bool) (v r : ℕ) → MarkedAt b marks 0 → getD marks 0 0 ≡ 0 → x ≡ bare (subtree b 0) → x ≡ false → v ≡ figure zeros (decode b)
-      → r ≡ 1 → front r out ≡ recordBytes (nodeOf (Block (Plain v)) Unlimited) 0 → Wrote (also (λ u. u ▸ nil) (rule1 (decode b))) r out
+      → r ≡ 1 → front r out ≡ recordBytes (nodeOf (Block (Plain v)) Unlimited 0) 0 → Wrote (also (λ u. u ▸ nil) (rule1 (decode b))) r out
   unfolding rule1 when also Wrote _and_ recordsIn records encode encodes leaf size
   block-written marks out x v r m z e y f n w =
       rw (free marks m ∙ eq-eqb (getD marks 0 0) 0 z, ap bare (sym whole) ∙ sym e ∙ y, ← f) (omega arith, w ∙ rw (append-nil, append-nil) refl)

@@ -66,7 +66,7 @@ rule3-limited n (t ▸ u ▸ f) g e o d = absurd (omega arith)
 
 module _ (b : List ℕ) (s : IsTable b) (p : ℕ) (l : p < recordCount b) where
   relimit-is : (m : Limit) (x : Bool) → isUnlimited (it b s p l .own .limit) ≡ x
-      → relimited m (treesAt b p) ≡ cond x (some (node (nodeOf (it b s p l .own .kind) m) (it b s p l .kids) ▸ it b s p l .later)) none
+      → relimited m (treesAt b p) ≡ cond x (some (node (nodeOf (it b s p l .own .kind) m (it b s p l .own .address)) (it b s p l .kids) ▸ it b s p l .later)) none
   unfolding relimited limitOf relimit
   relimit-is m x e = ap (relimited m) (it b s p l .here) ∙ rw e refl
 
@@ -78,20 +78,20 @@ module _ (b : List ℕ) (s : IsTable b) (p : ℕ) (l : p < recordCount b) where
   limited m out {x = x} e d t = wrote-none _ out (relimit-is m false (limitless e d ∙ not-true x t))
 
   pub unlimited : (m : Limit) (out : List ℕ) {n : Node} {x : Bool} {r : ℕ} {y : List ℕ} → n ≡ firstNode (drop (recordLength * p) b)
-      → x ≡ isUnlimited (n .limit) → not x ≡ false → r ≡ 1 + (recordCount b - (p + 1)) → y ≡ recordBytes (nodeOf (n .kind) m) (childByte (drop (recordLength * p) b))
+      → x ≡ isUnlimited (n .limit) → not x ≡ false → r ≡ 1 + (recordCount b - (p + 1)) → y ≡ recordBytes (nodeOf (n .kind) m (n .address)) (childByte (drop (recordLength * p) b))
       → front r out ≡ y ++ slice b (p + 1) (recordCount b - (p + 1)) → Wrote (relimited m (treesAt b p)) r out
   unfolding Wrote records recordsIn
   unlimited m out {n} {x} {r} {y} e d t k f g =
       let h = it b s p l in
       let many = records-at b s p in
       let row = ap recordsIn (h .here) in
-      let top : y ≡ recordBytes (nodeOf (h .own .kind) m) (size (h .kids)) =
-      f ∙ ap₂ (λ (z : Node) (j : ℕ). recordBytes (nodeOf (z .kind) m) j) (e ∙ node-at b p h) (count-at b p h) in
+      let top : y ≡ recordBytes (nodeOf (h .own .kind) m (h .own .address)) (size (h .kids)) =
+      f ∙ ap₂ (λ (z : Node) (j : ℕ). recordBytes (nodeOf (z .kind) m (z .address)) j) (e ∙ node-at b p h) (count-at b p h) in
       wrote-as
       r
       out
       (relimit-is m true (limitless e d ∙ not-false x t))
-      (omega arith, g ∙ rw (top, tail-at b s (p + 1), h .next) (sym (row-bytes (nodeOf (h .own .kind) m) (h .kids) (h .later))))
+      (omega arith, g ∙ rw (top, tail-at b s (p + 1), h .next) (sym (row-bytes (nodeOf (h .own .kind) m (h .own .address)) (h .kids) (h .later))))
 
 module _ (b : List ℕ) (s : IsTable b) (i : ℕ) (l : i < recordCount b) where
   pub many-children : (out : List ℕ) {c : ℕ} → c ≡ childByte (drop (recordLength * i) b) → (c ≡ 1 → ⊥) → Wrote (ruleAt rule3 (treesAt b i)) 0 out

@@ -273,7 +273,7 @@ unfolding records recordsIn leaf
 merged-records x s = omega (arith, records-⧺ (s .first) (leaf x Unlimited ▸ others (s .second)))
 
 merged-bytes : {b : List ℕ} {i q c : ℕ} (x : ℕ) (s : Parted b i q c) → encodes (merged x s)
-    ≡ (((recordBytes (s .own) (size (s .first) + suc (size (others (s .second)))) ++ encodes (s .first)) ++ recordBytes (nodeOf (Block (Plain x)) Unlimited) 0)
+    ≡ (((recordBytes (s .own) (size (s .first) + suc (size (others (s .second)))) ++ encodes (s .first)) ++ recordBytes (nodeOf (Block (Plain x)) Unlimited 0) 0)
     ++ encodes (others (s .second))) ++ encodes (s .later)
 unfolding encode encodes leaf size
 merged-bytes x s = rw (size-⧺, encodes-⧺) (simp append-assoc)
@@ -283,7 +283,7 @@ pub merge-wrote : (b extents : List ℕ) → Extents b extents → (i q c : ℕ)
     → n ≡ firstNode (drop (recordLength * i) b) → m ≡ childByte (drop (recordLength * i) b) → m < 256
     → (r₁ ≡ 0 + 1) × (front r₁ o₁ ≡ recordBytes n ((m - c + 1) % 256))
     → (r₂ ≡ r₁ + (q - i - 1)) × (front r₂ o₂ ≡ front r₁ o₁ ++ slice b (i + 1) (q - i - 1))
-    → (r₃ ≡ r₂ + 1) × (front r₃ o₃ ≡ front r₂ o₂ ++ recordBytes (nodeOf (Block (Plain x)) Unlimited) 0)
+    → (r₃ ≡ r₂ + 1) × (front r₃ o₃ ≡ front r₂ o₂ ++ recordBytes (nodeOf (Block (Plain x)) Unlimited 0) 0)
     → (r₄ ≡ r₃ + recordsIn (others (spanning (treesAt b q) (i + getD extents i 0 - q)))) × (front r₄ o₄ ≡ front r₃ o₃ ++ encodes (others (spanning (treesAt b q) (i + getD extents i 0 - q))))
     → (r₅ ≡ r₄ + (recordCount b - (i + getD extents i 0))) × (front r₅ o₅ ≡ front r₄ o₄ ++ slice b (i + getD extents i 0) (recordCount b - (i + getD extents i 0)))
     → Wrote (some (merged x s)) r₅ o₅
@@ -300,7 +300,7 @@ merge-wrote b extents w i q c l s x m n o₁ o₂ o₃ o₄ o₅ r₁ r₂ r₃ 
       omega (arith, merged-records x s, p .after, e₁ .0, e₂ .0, e₃ .0, e₄ .0, e₅ .0),
       e₅ .1
           ∙ ap₂ (λ f g. f ++ g)
-          (e₄ .1 ∙ ap₂ (λ f g. f ++ g) (e₃ .1 ∙ ap (λ f. f ++ recordBytes (nodeOf (Block (Plain x)) Unlimited) 0) a₂) (ap (λ f. encodes (others f)) y))
+          (e₄ .1 ∙ ap₂ (λ f g. f ++ g) (e₃ .1 ∙ ap (λ f. f ++ recordBytes (nodeOf (Block (Plain x)) Unlimited 0) 0) a₂) (ap (λ f. encodes (others f)) y))
           (ap (slice b (i + getD extents i 0)) (p .after) ∙ p .late)
           ∙ sym (merged-bytes x s),
     )

@@ -45,7 +45,7 @@ module _ (b : List ℕ) (p : ℕ) (h : Here b p) where
   unfolding timeOf listed
   time-at {n} {x} e d =
       let is : x ≡ timeOfKind (h .own .kind) = d ∙ ap (λ m. timeOfKind (m .kind)) (e ∙ node-at b p h) in
-      (is ∙ sym (ap timeOf (top-at b p (h .here))), rw is (time-low (h .own .kind) (both _ _ (both _ _ (both _ _ (h .sound .fair .listed) .0) .0) .0)))
+      (is ∙ sym (ap timeOf (top-at b p (h .here))), rw is (time-low (h .own .kind) (both _ _ (both _ _ (both _ _ (both _ _ (h .sound .fair .listed) .0) .0) .0) .1)))
 
   pub gives-at : (k : Kind) (c : ℕ) {n : Node} {m : ℕ} {x y z : Bool} → n ≡ firstNode (drop (recordLength * p) b) → m ≡ childByte (drop (recordLength * p) b)
       → x ≡ sameKind (n .kind) k → y ≡ isUnlimited (n .limit) → z ≡ leb (c + m) (suc mostChildren)

@@ -120,7 +120,7 @@ module _ (b extents marks : List ℕ) (s : Surveyed b extents marks) (i : ℕ) (
   pub settled-written : (x r : ℕ) (out : List ℕ) → x ≡ beforeAt (treesAt b i)
       → (eqb (getD marks (marksEach * i) 0) 0 && eqb (getD marks (marksEach * i + 3) 0) 0) ≡ true → isBlock (firstNode (drop (recordLength * i) b) .kind) ≡ false
       → let end = i + getD extents i 0 in r ≡ 1 + (recordCount b - end)
-      → front r out ≡ recordBytes (nodeOf (Block (Plain x)) (firstNode (drop (recordLength * i) b) .limit)) 0 ++ slice b end (recordCount b - end)
+      → front r out ≡ recordBytes (nodeOf (Block (Plain x)) (firstNode (drop (recordLength * i) b) .limit) 0) 0 ++ slice b end (recordCount b - end)
       → Wrote (ruleAt rule4 (treesAt b i)) r out
   unfolding Wrote also when recordsIn records encode encodes leaf size
   settled-written x r out v e f n q =

@@ -1,78 +1,60 @@
--- Records are whole words, so their bytes are the same exactly where no word differs.
+-- The invariant: the first k records are the same but for their addresses (`Agreed`). The measure: how many are left.
+use Prim.Native.Nat.{_-_}
+use native.Mathlib.Omega.{arith}
 use borrow.Author.Needs.{needs}
-use Rattle.rules8and9.specs.Laws.Sharing.{whole-words, words-other, words-same}
+use Rattle.rules8and9.specs.Laws.Comparing.{Agreed, all-agreed, none-agreed, one-agreed, one-other}
 use Rattle.rules8and9.proofs.same_records.Statement.{statement}
 use Rattle.rules8and9.proofs.same_records.Tie as tie
 
-mul-one : tie.Need-mul-one
-mul-one c = search needs
+abbrev Inv-loop : tie.InvT-loop
+Inv-loop table a b n k₀ k = Agreed table a b n k
 
-mul-other : tie.Need-mul-other
-mul-other c = search needs
+abbrev μ-loop : tie.MeasureT-loop
+μ-loop table a b n k₀ k = n - k
 
-mul-size : tie.Need-mul-size
-mul-size c = search needs
+loop-holds : tie.Need-loop-holds Inv-loop μ-loop
+loop-holds c = none-agreed _ _ _ _
 
-add-compare : tie.Need-add-compare
-add-compare c = search needs
+add-same-fields : tie.Need-add-same-fields Inv-loop μ-loop
+add-same-fields c = search needs
 
-sub-compare : tie.Need-sub-compare
-sub-compare c = search needs
+add-same-fields-2 : tie.Need-add-same-fields-2 Inv-loop μ-loop
+add-same-fields-2 c = search needs
 
-part-compare-start : tie.Need-part-compare-start
-part-compare-start c = search needs
+same-fields-requires : tie.Need-same-fields-requires Inv-loop μ-loop
+same-fields-requires c κs = search needs
 
-part-compare-end : tie.Need-part-compare-end
-part-compare-end c = search needs
-
-add-compare-2 : tie.Need-add-compare-2
-add-compare-2 c = search needs
-
-sub-compare-2 : tie.Need-sub-compare-2
-sub-compare-2 c = search needs
-
-part-compare-start-2 : tie.Need-part-compare-start-2
-part-compare-start-2 c = search needs
-
-part-compare-end-2 : tie.Need-part-compare-end-2
-part-compare-end-2 c = search needs
-
-compare-requires : tie.Need-compare-requires
-compare-requires c κs = let start = c .before .before .before in whole-words _ _ _ _ (start .pre .0) (start .pre .1)
-
-enum-told : tie.Need-enum-told
-enum-told c = search needs
-
-enum-told-2 : tie.Need-enum-told-2
-enum-told-2 c = search needs
-
-returns : tie.Need-returns
+returns : tie.Need-returns Inv-loop μ-loop
 returns c =
-    let start = c .before .before .before .before .before .before in
-    words-other (start .args .table .now) (start .args .a) (start .args .b) (start .args .n) (c .before .before .compare .ensures) (c .enum-told .given .1)
+    let test = c .before .before in
+    one-other _ _ _ _ _ (test .loop-test .taken) (test .before .loop .inv) _ (c .before .same-fields .ensures) (c .if1 .taken)
 
-returns-2 : tie.Need-returns-2
-returns-2 c =
-    let start = c .before .before .before .before .before .before in
-    words-same (start .args .table .now) (start .args .a) (start .args .b) (start .args .n) (c .before .before .compare .ensures) (c .enum-told2 .given .1)
+add-k : tie.Need-add-k Inv-loop μ-loop
+add-k c = search needs
+
+loop-less : tie.Need-loop-less Inv-loop μ-loop
+loop-less c = search needs
+
+loop-again : tie.Need-loop-again Inv-loop μ-loop
+loop-again c =
+    let test = c .before .before in
+    one-agreed _ _ _ _ _ (test .loop-test .taken) (test .before .loop .inv) _ (c .before .same-fields .ensures) (c .if1 .left)
+
+returns-2 : tie.Need-returns-2 Inv-loop μ-loop
+returns-2 c = all-agreed _ _ _ _ _ (omega arith) (c .before .loop .inv)
 
 pub same-records-spec : {M : Type 1} → statement M
 same-records-spec =
     tie.close
     (tie.spec
-    mul-one
-    mul-other
-    mul-size
-    add-compare
-    sub-compare
-    part-compare-start
-    part-compare-end
-    add-compare-2
-    sub-compare-2
-    part-compare-start-2
-    part-compare-end-2
-    compare-requires
-    enum-told
-    enum-told-2
+    Inv-loop
+    μ-loop
+    loop-holds
+    add-same-fields
+    add-same-fields-2
+    same-fields-requires
     returns
+    add-k
+    loop-less
+    loop-again
     returns-2)

@@ -1,6 +1,6 @@
--- One and the same record, or as many records and the same bytes: the same tree.
+-- One and the same record, or as many records and each the same but for its address: the same tree.
 use borrow.Author.Needs.{needs}
-use Rattle.rules8and9.specs.Laws.Sharing.{other-sizes, same-bytes, same-place, same-room}
+use Rattle.rules8and9.specs.Laws.Comparing.{other-sizes, same-bytes, same-place, same-room}
 use Rattle.rules8and9.proofs.same_subtrees.Statement.{statement}
 use Rattle.rules8and9.proofs.same_subtrees.Tie as tie
 

@@ -1,23 +1,19 @@
 -- Rule 8 by records and bytes.
-use mathlib.Core.Path.{_≡_, refl, ap, ap₂, sym, subst, _∙_}
+use mathlib.Core.Path.{_≡_, refl, ap, sym, subst, _∙_}
 use mathlib.Core.Bool.{Bool, true, false, not, cond, _&&_, _||_}
-use mathlib.Core.List.{List, [], _∷_, _++_, append-assoc, append-nil}
+use mathlib.Core.List.{List, [], _++_, append-assoc, append-nil}
 use mathlib.Core.Option.{none, some}
 use Prim.Native.Nat.{ℕ, suc, _+_, _*_, _-_, _<_, _≤_}
 use native.Mathlib.Omega.{arith}
-use lib.Dec.{T, eqb, eqb→eq, eqb-refl, leb, leb→le, ltb}
-use lib.ListN.{drop, getD, length, length-drop, length-take, take}
+use lib.Dec.{T, eqb, leb, leb→le, ltb}
+use lib.ListN.{drop, getD, length}
 use borrow.Author.Tests.{eq-eqb, le-leb, lt-leb, ltb-false, ltb-true, ne-eqb, not-false, not-true}
-use Rattle.booleans.specs.Laws.{T-is, and-false, and-is, both, is-T, join-and, same-test}
+use Rattle.booleans.specs.Laws.{T-is, and-false, and-is, both, is-T, join-and}
 use Rattle.booleans.specs.Tests.{_and_}
 use Rattle.evaluate.specs.Closed.{closed, isUnlimited}
-use Rattle.simplify.specs.Rules.{allPairs, children, firstOf, firsts, headOf, isPair, limitOf, rule8, secondOf, sharedOut, shares, tailOf, when}
+use Rattle.simplify.specs.Rules.{addressOf, allPairs, children, firstOf, firsts, headOf, isPair, limitOf, rule8, secondOf, sharedOut, shares, tailOf, when}
 use Rattle.simplify.specs.Same.{same, sameKind}
 use Rattle.simplify.specs.Steps.{also}
-use Rattle.simplify.specs.Laws.Same.{bytes-same, same-is}
-use Rattle.words.specs.Words.{Compared, SameWords, word}
-use Rattle.words.specs.declared.Comparison.{Comparison}
-use Rattle.words.specs.declared.Comparison.the-variants.{Differ, Equal}
 use Rattle.table.specs.Numbers.{recordLength}
 use Rattle.table.specs.Table.{childByte, encode, encodes, firstNode, recordBytes, recordCount}
 use Rattle.table.specs.Trees.{Forest, Tree, nil, node, _▸_, _⧺_, records, recordsIn, size}
@@ -33,91 +29,10 @@ use Rattle.table.specs.declared.Limit.{Limit}
 use Rattle.table.specs.declared.Limit.the-variants.{Unlimited}
 use Rattle.table.specs.declared.Kind.the-variants.{Sequence, Choice}
 use Rattle.table.specs.declared.Node.{Node}
-use Rattle.rules8and9.specs.Sharing.{Appended, PairsAt, RoomFor, firstsAt, pairs, sameBytes, sharedAt, sharing, topBytes}
+use Rattle.rules8and9.specs.Sharing.{Appended, PairsAt, RoomFor, firstsAt, pairs, sharedAt, sharing, topBytes}
 use Rattle.writing.specs.Records.{front, nodeOf, slice}
 use Rattle.rewrite.specs.Wrote.{Wrote, ruleAt}
 use Rattle.rewrite.specs.Laws.Records.{some-yes, subtree-bytes, subtree-sound, two-at, unfit-at, wrote-as, zero-is, zero-no}
-
--- ---- records compared by words
-
-bytes-are : (b c : List ℕ) → T (sameBytes b c) → b ≡ c
-unfolding sameBytes
-bytes-are [] [] h = refl
-bytes-are [] (y ∷ c) h = absurd h
-bytes-are (x ∷ b) [] h = absurd h
-bytes-are (x ∷ b) (y ∷ c) h = let (p, q) = both _ _ h in ap₂ _∷_ (eqb→eq x y p) (bytes-are b c q)
-
-bytes-self : (b : List ℕ) → T (sameBytes b b)
-unfolding sameBytes
-bytes-self [] = tt
-bytes-self (x ∷ b) = join-and _ _ (eqb-refl x) (bytes-self b)
-
-never : (x : Bool) → (T x → ⊥) → false ≡ x
-never true f = absurd (f tt)
-never false f = refl
-
-slice-long : (b : List ℕ) (i n : ℕ) → recordLength * (i + n) ≤ length b → length (slice b i n) ≡ recordLength * n
-slice-long b i n l = rw (length-take, length-drop) (omega arith)
-
--- a table's part of n records, as it is lent
-abbrev pub part : List ℕ → ℕ → ℕ → List ℕ
-part b i n = take (recordLength * i + recordLength * n - recordLength * i) (drop (recordLength * i) b)
-
-part-is : (b : List ℕ) (i n : ℕ) → part b i n ≡ slice b i n
-part-is b i n =
-    let e : recordLength * i + recordLength * n - recordLength * i ≡ recordLength * n = omega arith in
-    ap (λ k. take k (drop (recordLength * i) b)) e
-
-module _ (b : List ℕ) (i j n : ℕ) where
-  -- n records, and so a subtree, are a whole number of words
-  pub whole-words : recordLength * (i + n) ≤ length b → recordLength * (j + n) ≤ length b → SameWords (part b i n) (part b j n)
-  whole-words l m = rw (part-is b i n, part-is b j n) (slice-long b i n l ∙ sym (slice-long b j n m), omega (arith, slice-long b i n l))
-
-  pub words-same : {r : Comparison} → Compared (part b i n) (part b j n) r → r ≡ Equal → true ≡ sameBytes (slice b i n) (slice b j n)
-  unfolding Compared
-  words-same h e =
-      let q : part b i n ≡ part b j n = subst (Compared (part b i n) (part b j n)) e h in
-      sym (T-is _ (subst (λ x. T (sameBytes (slice b i n) x)) (sym (part-is b i n) ∙ q ∙ part-is b j n) (bytes-self (slice b i n))))
-
-  pub words-other : {r : Comparison} {k : ℕ} → Compared (part b i n) (part b j n) r → r ≡ Differ k → false ≡ sameBytes (slice b i n) (slice b j n)
-  unfolding Compared
-  words-other {k = k} h e =
-      let d : Compared (part b i n) (part b j n) (Differ k) = subst (Compared (part b i n) (part b j n)) e h in
-      never _ (λ t. d .1 (ap (word k) (part-is b i n ∙ bytes-are (slice b i n) (slice b j n) t ∙ sym (part-is b j n))))
-
--- ---- two subtrees compared
-
-module _ (b extents : List ℕ) (s : Extents b extents) (i j : ℕ) (l : i < recordCount b) (m : j < recordCount b) where
-  pub same-place : i ≡ j → true ≡ same (subtree b i) (subtree b j)
-  same-place e =
-      let p = s .table in
-      sym (T-is _ (bytes-same (subtree b i) (subtree b j) (subtree-sound b p i l .fair .listed) (subtree-sound b p j m .fair .listed) (ap (λ k. encode (subtree b k)) e)))
-
-  -- they differ in how many records they have
-  pub other-sizes : (getD extents i 0 ≡ getD extents j 0 → ⊥) → false ≡ same (subtree b i) (subtree b j)
-  other-sizes e =
-      let t = subtree b i in
-      let u = subtree b j in
-      never (same t u) (λ q. e (s .each i l ∙ ap records (same-is t u q) ∙ sym (s .each j m)))
-
-  -- both have as many
-  pub same-room : getD extents i 0 ≡ getD extents j 0
-      → (recordLength * (i + getD extents i 0) ≤ length b) × (recordLength * (j + getD extents i 0) ≤ length b)
-  same-room e =
-      let p = s .table in
-      omega (arith, past-inside b extents s i l, past-inside b extents s j m, length-is b p)
-
-  pub same-bytes : (r : Bool) → getD extents i 0 ≡ getD extents j 0
-      → r ≡ sameBytes (slice b i (getD extents i 0)) (slice b j (getD extents i 0)) → r ≡ same (subtree b i) (subtree b j)
-  same-bytes r e w =
-      let p = s .table in
-      let t = subtree b i in
-      let u = subtree b j in
-      let x : slice b i (getD extents i 0) ≡ encode t = ap (slice b i) (s .each i l) ∙ subtree-bytes b p i l in
-      let y : slice b j (getD extents i 0) ≡ encode u = ap (slice b j) (e ∙ s .each j m) ∙ subtree-bytes b p j m in
-      w ∙ rw (x, y) (same-test _ _
-      (λ h. bytes-same t u (subtree-sound b p i l .fair .listed) (subtree-sound b p j m .fair .listed) (bytes-are (encode t) (encode u) h))
-      (λ h. subst (λ v. T (sameBytes (encode t) (encode v))) (same-is t u h) (bytes-self (encode t))))
 
 -- ---- pairs
 
@@ -395,14 +310,14 @@ copying-all b p n at o q m to out h l =
 -- ---- the two records on top
 
 pub tops-written : (b : List ℕ) → IsTable b → (i : ℕ) → i < recordCount b → (n : Node) (c r q : ℕ) (new out : List ℕ) → n ≡ firstNode (drop (recordLength * i) b) → c ≡ childByte (drop (recordLength * i) b)
-    → r ≡ 0 + 1 → front r new ≡ recordBytes (nodeOf Sequence (n .limit)) 2
-    → q ≡ r + 1 → front q out ≡ front r new ++ recordBytes (nodeOf Choice Unlimited) c
+    → r ≡ 0 + 1 → front r new ≡ recordBytes (nodeOf Sequence (n .limit) (n .address)) 2
+    → q ≡ r + 1 → front q out ≡ front r new ++ recordBytes (nodeOf Choice Unlimited 0) c
     → (q ≡ 2) × (front q out ≡ topBytes (subtree b i))
-unfolding limitOf children
+unfolding limitOf addressOf children
 tops-written b s i l n c r q new out m k e f g w =
     let h = here-at b s i l in
-    let a : n .limit ≡ h .own .limit = ap (λ k. k .limit) (m ∙ node-at b i h) in
-    (omega arith, w ∙ rw (f, a, k ∙ count-at b i h, top-at b i (h .here)) refl)
+    let own : n ≡ h .own = m ∙ node-at b i h in
+    (omega arith, w ∙ rw (f, own, k ∙ count-at b i h, top-at b i (h .here)) refl)
 
 -- ---- the whole rewrite
 
@@ -442,7 +357,7 @@ pub record FitsAt (b extents : List ℕ) (i x : ℕ) : Type 0 where
   pub later : Forest
   pub node : subtree b i ≡ node own kids
   pub next : treesAt b (i + 1) ≡ kids ⧺ later
-  pub becomes : ruleAt rule8 (treesAt b i) ≡ some (sharedOut (own .limit) kids ▸ later)
+  pub becomes : ruleAt rule8 (treesAt b i) ≡ some (sharedOut (own .limit) (own .address) kids ▸ later)
   pub pairs : T (pairs kids)
   pub inside : x < recordCount b
   pub sized : x < length extents
@@ -469,7 +384,7 @@ no-sharing b s i x out l e z =
     let h = here-at b s i l in
     unfit-at b s i l rule8 out (fit-none (h .own) (h .kids) (zero-no (fit (h .own) (h .kids)) (i + 2 + records (firstOf (headOf (h .kids)))) (omega arith) (e ∙ fit-is b i h) z))
 
-fit-becomes : (n : Node) (f g : Forest) → fit n f ≡ true → ruleAt rule8 (node n f ▸ g) ≡ some (sharedOut (n .limit) f ▸ g)
+fit-becomes : (n : Node) (f g : Forest) → fit n f ≡ true → ruleAt rule8 (node n f ▸ g) ≡ some (sharedOut (n .limit) (n .address) f ▸ g)
 unfolding ruleAt rule8 when also
 fit-becomes n f g e = rw e refl
 
@@ -543,14 +458,14 @@ module _ {b extents : List ℕ} {i x : ℕ} (w : FitsAt b extents i x) (c : ℕ)
   pub fits-firsts : firstsAt b (i + 1) c ≡ firsts (w .kids)
   fits-firsts = firsts-are b (i + 1) c (w .kids) (w .later) (w .next) count-is
 
-shared-bytes : (l : Limit) (f g : Forest)
-    → encodes (sharedOut l f ▸ g) ≡ recordBytes (nodeOf Sequence l) 2 ++ (recordBytes (nodeOf Choice Unlimited) (size f) ++ (encodes (firsts f) ++ (encode (secondOf (headOf f)) ++ encodes g)))
+shared-bytes : (l : Limit) (a : ℕ) (f g : Forest)
+    → encodes (sharedOut l a f ▸ g) ≡ recordBytes (nodeOf Sequence l a) 2 ++ (recordBytes (nodeOf Choice Unlimited 0) (size f) ++ (encodes (firsts f) ++ (encode (secondOf (headOf f)) ++ encodes g)))
 unfolding sharedOut encode encodes size
-shared-bytes l f g = rw (firsts-size f) (simp (append-assoc, append-nil))
+shared-bytes l a f g = rw (firsts-size f) (simp (append-assoc, append-nil))
 
-shared-count : (l : Limit) (f g : Forest) → recordsIn (sharedOut l f ▸ g) ≡ 2 + recordsIn (firsts f) + records (secondOf (headOf f)) + recordsIn g
+shared-count : (l : Limit) (a : ℕ) (f g : Forest) → recordsIn (sharedOut l a f ▸ g) ≡ 2 + recordsIn (firsts f) + records (secondOf (headOf f)) + recordsIn g
 unfolding sharedOut records recordsIn
-shared-count l f g = omega arith
+shared-count l a f g = omega arith
 
 pub sharing-written : {b extents : List ℕ} {i x : ℕ} (w : FitsAt b extents i x) (c : ℕ) → c ≡ childByte (drop (recordLength * i) b) → (p q r z : ℕ) (o₁ o₂ o₃ out : List ℕ)
     → p ≡ 2 → front p o₁ ≡ topBytes (subtree b i)
@@ -558,19 +473,20 @@ pub sharing-written : {b extents : List ℕ} {i x : ℕ} (w : FitsAt b extents i
     → r ≡ q + getD extents x 0 → front r o₃ ≡ front q o₂ ++ slice b x (getD extents x 0)
     → let from = i + getD extents i 0 in z ≡ r + (recordCount b - from) → front z out ≡ front r o₃ ++ slice b from (recordCount b - from)
     → Wrote (ruleAt rule8 (treesAt b i)) z out
-unfolding Wrote limitOf children
+unfolding Wrote limitOf addressOf children
 sharing-written {b} {extents} {i} {x} w c e p q r z o₁ o₂ o₃ out a₁ b₁ a₂ b₂ a₃ b₃ a₄ b₄ =
     let s = w .table in
     let n = recordCount b - (i + getD extents i 0) in
     let f = w .kids in
     let g = w .later in
     let l = w .own .limit in
+    let a = w .own .address in
     let first : firstsAt b (i + 1) c ≡ firsts f = fits-firsts w c e in
     let second : slice b x (getD extents x 0) ≡ encode (secondOf (headOf f)) = rw (w .size, ← w .stand) (subtree-bytes b s x (w .inside)) in
     let last : slice b (i + getD extents i 0) n ≡ encodes g = tail-at b s (i + getD extents i 0) ∙ ap encodes (w .from) in
-    let tops : topBytes (subtree b i) ≡ recordBytes (nodeOf Sequence l) 2 ++ recordBytes (nodeOf Choice Unlimited) (size f) = ap topBytes (w .node) in
+    let tops : topBytes (subtree b i) ≡ recordBytes (nodeOf Sequence l a) 2 ++ recordBytes (nodeOf Choice Unlimited 0) (size f) = ap topBytes (w .node) in
     let left : recordsIn g ≡ n = ap recordsIn (sym (w .from)) ∙ records-at b s (i + getD extents i 0) in
     wrote-as z out (w .becomes) (
-      omega (arith, shared-count l f g, ap recordsIn first, w .size),
-      b₄ ∙ rw (b₃, b₂, b₁, first, second, last, tops, shared-bytes l f g) (simp append-assoc),
+      omega (arith, shared-count l a f g, ap recordsIn first, w .size),
+      b₄ ∙ rw (b₃, b₂, b₁, first, second, last, tops, shared-bytes l a f g) (simp append-assoc),
     )

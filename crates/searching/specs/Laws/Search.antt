@@ -183,9 +183,9 @@ unfolding laterRule
 later-is = refl
 
 -- no rule fits a block
-block-none : (t : Number) (l : Limit) (f : Forest) → rule (record { kind = Block t; limit = l }) f ≡ none
+block-none : (t : Number) (l : Limit) (a : ℕ) (f : Forest) → rule (record { kind = Block t; limit = l; address = a }) f ≡ none
 unfolding rule rule2 rule3 rule4 rule5 rule6 rule7 rule8 rule9 when isSum isBlock sameKind orElse _and_
-block-none t l f = go (symbolFree (node (record { kind = Block t; limit = l }) f))
+block-none t l a f = go (symbolFree (node (record { kind = Block t; limit = l; address = a }) f))
   where
     go : (x : Bool) → orElse (when (x and false and closedIn (Block t) f 0) (leaf (before zeros (Block t) f 0) l)) none ≡ none
     go true = refl
@@ -296,7 +296,7 @@ module _ (b : List ℕ) (s : IsTable b) where
 
 block-row : (b : List ℕ) (i : ℕ) (h : Here b i) (k : Kind) → h .own .kind ≡ k → isBlock k ≡ true → ruleAt rule (treesAt b i) ≡ none
 unfolding isBlock also
-block-row b i h (Block t) e z = rule-here b i h ∙ ap (also (λ u. u ▸ h .later)) (ap (λ x. rule (record { kind = x; limit = h .own .limit }) (h .kids)) e ∙ block-none t (h .own .limit) (h .kids))
+block-row b i h (Block t) e z = rule-here b i h ∙ ap (also (λ u. u ▸ h .later)) (ap (λ x. rule (record { kind = x; limit = h .own .limit; address = h .own .address }) (h .kids)) e ∙ block-none t (h .own .limit) (h .own .address) (h .kids))
 block-row b i h Sequence e z = absurd (subst T (sym z) tt)
 block-row b i h Choice e z = absurd (subst T (sym z) tt)
 block-row b i h (Loop n) e z = absurd (subst T (sym z) tt)

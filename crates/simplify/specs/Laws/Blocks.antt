@@ -1,5 +1,5 @@
 -- What the definitions say of an unlimited plain block, and of a plain block with a limit.
-use mathlib.Core.Path.{_≡_, refl, ap}
+use mathlib.Core.Path.{_≡_, refl, ap, ap₂, _∙_}
 use mathlib.Core.Bool.{Bool}
 use Prim.Native.Nat.{ℕ, _≤_}
 use native.Mathlib.Omega.{arith}
@@ -7,16 +7,15 @@ use lib.Dec.{T, le→leb}
 use Rattle.booleans.specs.Laws.{both, join-and}
 use Rattle.booleans.specs.Tests.{_and_}
 use Rattle.table.specs.Numbers.{wholeRun, mostTime}
-use Rattle.table.specs.Questions.{arity, timeInRange, kindInRange, limitInRange, listed, nameOk, named, share, weight, loops, depth}
+use Rattle.table.specs.Questions.{arity, isAddress, timeInRange, kindInRange, limitInRange, listed, nameOk, named, share, weight, loops, depth}
 use Rattle.table.specs.Limits.{everyLimit, limitHolds}
 use Rattle.table.specs.Trees.{Tree, node, nil, _▸_, size, records}
 use Rattle.lists.specs.Streams.{const}
-use Rattle.evaluate.specs.Closed.{isPlain, plainKind}
+use Rattle.evaluate.specs.Closed.{isPlain, isUnlimited, plainKind}
 use Rattle.evaluate.specs.Evaluate.{Values, amount, limit, start, list, inner, name, fits}
 use Rattle.evaluate.specs.Laws.Constant.{unlimited-is}
-use Rattle.simplify.specs.Nodes.{Plain, Symbol, Kind, Block, Sequence, Choice, Loop, Unlimited, Limit, Most}
+use Rattle.simplify.specs.Nodes.{Plain, Symbol, Kind, Block, Sequence, Choice, Loop, Unlimited, Limit, Most, Node}
 use Rattle.simplify.specs.Rules.{isBlock, timeOfKind, leaf, bare, timeOf}
-use Rattle.simplify.specs.Laws.Same.{node-is}
 
 -- ---- an unlimited plain block
 
@@ -28,13 +27,22 @@ block-is Sequence h i = absurd h
 block-is Choice h i = absurd h
 block-is (Loop n) h i = absurd h
 
-pub bare-is : (t : Tree) → T (bare t) → t ≡ leaf (timeOf t) Unlimited
-unfolding bare timeOf leaf
-bare-is (node n nil) h =
+-- its kind, its limit and its children, whatever its address
+bare-parts : (n : Node) → T (isBlock (n .kind) and plainKind (n .kind) and isUnlimited (n .limit)) → (n .kind ≡ Block (Plain (timeOfKind (n .kind)))) × (n .limit ≡ Unlimited)
+bare-parts n h =
     let (p, z) = both _ _ h in
     let (x, y) = both _ _ p in
-    ap (λ m. node m nil) (node-is n _ Unlimited (block-is _ x y) (unlimited-is _ z))
-bare-is (node n (t ▸ f)) h = absurd h
+    (block-is _ x y, unlimited-is _ z)
+
+pub bare-list : (v : Values) (t : Tree) → T (bare t) → list v t ≡ const (timeOf t)
+unfolding bare timeOf list
+bare-list v (node n nil) h = let (k, l) = bare-parts n h in ap₂ (λ x y. limit v x (start v y)) l k ∙ unfold limit in unfold start in unfold amount in refl
+bare-list v (node n (t ▸ f)) h = absurd h
+
+pub bare-name : (t : Tree) → T (bare t) → name t ≡ wholeRun
+unfolding bare name
+bare-name (node n nil) h = ap (λ l. inner l wholeRun) (bare-parts n h .1) ∙ unfold inner in refl
+bare-name (node n (t ▸ f)) h = absurd h
 
 pub leaf-list : (v : Values) (x : ℕ) → list v (leaf x Unlimited) ≡ const x
 unfolding leaf list limit start amount
@@ -49,8 +57,8 @@ unfolding leaf fits list start amount const
 leaf-fits v x l h = join-and _ _ (le→leb x mostTime h) tt
 
 pub leaf-listed : (x : ℕ) (l : Limit) → x ≤ mostTime → T (limitInRange l) → T (listed (leaf x l))
-unfolding leaf listed kindInRange timeInRange arity size
-leaf-listed x l h i = join-and _ _ (join-and _ _ (join-and _ _ (le→leb x mostTime h) i) tt) tt
+unfolding leaf listed isAddress kindInRange timeInRange arity size
+leaf-listed x l h i = join-and _ _ (join-and _ _ (join-and _ _ (join-and _ _ tt (le→leb x mostTime h)) i) tt) tt
 
 pub leaf-named : (x d : ℕ) → T (named (leaf x Unlimited) d)
 unfolding leaf named nameOk _and_

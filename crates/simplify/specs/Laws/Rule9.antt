@@ -31,9 +31,9 @@ names-run k h = go (eqb k 1) refl h
     go true e h = ap outward (eqb-true k 1 e) ∙ unfold outward in refl
     go false e h = ap outward (eqb→eq k wholeRun h) ∙ unfold outward in refl
 
-pub rule9-refines : (b e : Tree) → outward (name b) ≡ wholeRun → Refines e (node (at (Loop (Plain 0)) Unlimited) (b ▸ e ▸ nil))
+pub rule9-refines : (a : ℕ) (b e : Tree) → outward (name b) ≡ wholeRun → Refines e (node (at (Loop (Plain 0)) Unlimited a) (b ▸ e ▸ nil))
 unfolding name seen rest inner list limit turns start amount join fits listed depth loops around named weight share everyLimit records
-rule9-refines b e h = record {
+rule9-refines a b e h = record {
   keeps = record {
     sameName = omega (arith, name-le e);
     sameList = λ v. sym (ap₂ add (rounds-zero (name b) (list v b)) (add-zero-r (list v e)) ∙ add-zero-l _);

@@ -14,7 +14,7 @@ use Rattle.evaluate.specs.Laws.Constant.{unlimited-is}
 use Rattle.evaluate.specs.Laws.Monotone.{list-falls, before-falls, nameIn-le, name-le}
 use Rattle.evaluate.specs.Laws.Joins.{zero-join, join-assoc, join-zero}
 use Rattle.simplify.specs.Nodes.{Unlimited, Kind, Node, Limit}
-use Rattle.simplify.specs.Rules.{isSum, children, gives, anyGives, giveWay, limitOf, relimit}
+use Rattle.simplify.specs.Rules.{addressOf, isSum, children, gives, anyGives, giveWay, limitOf, relimit}
 use Rattle.simplify.specs.Laws.Refines.{SumKind, RefinesIn, tail-sum, of-arity, Refines, node-refines, sum-is, arity-of}
 use Rattle.simplify.specs.Laws.Same.{kind-is, at, node-is}
 use Rattle.simplify.specs.Laws.Forests.{size-⧺, records-⧺, depth-⧺, fits-each, listed-each, limits-each, named-each, each-⧺}
@@ -45,25 +45,25 @@ module _ (k : Kind) (s : SumKind k) where
 
   -- ---- rule 2
 
-  pub splice : (g f : Forest) → RefinesIn k (g ⧺ f) (node (at k Unlimited) g ▸ f)
+  pub splice : (a : ℕ) (g f : Forest) → RefinesIn k (g ⧺ f) (node (at k Unlimited a) g ▸ f)
   unfolding name list inner limit fits listed depth loops nameOk named share weight everyLimit records
-  splice g f = record {
+  splice a g f = record {
     keeps = record {
-      sameName = name-⧺ g f ∙ sym (s .names (node (at k Unlimited) g) f);
-      sameList = λ v. list-⧺ v g f ∙ sym (s .lists v (node (at k Unlimited) g) f);
+      sameName = name-⧺ g f ∙ sym (s .names (node (at k Unlimited a) g) f);
+      sameList = λ v. list-⧺ v g f ∙ sym (s .lists v (node (at k Unlimited a) g) f);
       stillFits = λ v b h. let (x, y) = both _ _ h in each-⧺ (fits-each v) g f (both _ _ x .1) y;
       stillListed = λ b h l. let (x, y) = both _ _ l in each-⧺ listed-each g f (both _ _ x .1) y;
       deep = omega (arith, depth-⧺ g f);
-      nested = λ d. omega (arith, loops-⧺ g f d, s .loopses (node (at k Unlimited) g) f d);
-      stillNamed = λ d h. let (x, y) = named-each k s d .apart (node (at k Unlimited) g) f h in each-⧺ (named-each k s d) g f (both _ _ x .1) y;
-      weighed = λ d. omega (arith, weight-⧺ g f d, s .weights (node (at k Unlimited) g) f d);
+      nested = λ d. omega (arith, loops-⧺ g f d, s .loopses (node (at k Unlimited a) g) f d);
+      stillNamed = λ d h. let (x, y) = named-each k s d .apart (node (at k Unlimited a) g) f h in each-⧺ (named-each k s d) g f (both _ _ x .1) y;
+      weighed = λ d. omega (arith, weight-⧺ g f d, s .weights (node (at k Unlimited a) g) f d);
       limits = λ p h. let (x, y) = both _ _ h in each-⧺ (limits-each p) g f (both _ _ x .1) y;
     };
     fewer = λ l. omega (arith, records-⧺ g f);
   }
 
-  gives-is : (c : ℕ) (t : Tree) → T (gives k c t) → t ≡ node (at k Unlimited) (children t)
-  unfolding gives children
+  gives-is : (c : ℕ) (t : Tree) → T (gives k c t) → t ≡ node (at k Unlimited (addressOf t)) (children t)
+  unfolding gives children addressOf
   gives-is c (node n f) h =
       let (p, z) = both _ _ h in
       let (x, y) = both _ _ p in
@@ -78,7 +78,7 @@ module _ (k : Kind) (s : SumKind k) where
   giveWay-refines c nil h = absurd h
   giveWay-refines c (t ▸ f) h =
       by-cond (λ g. RefinesIn k g (t ▸ f)) (gives k c t) _ _
-      (λ e. subst (λ u. RefinesIn k (children t ⧺ f) (u ▸ f)) (sym (gives-is c t e)) (splice (children t) f))
+      (λ e. subst (λ u. RefinesIn k (children t ⧺ f) (u ▸ f)) (sym (gives-is c t e)) (splice (addressOf t) (children t) f))
       (λ e. tail-sum k s t _ f (giveWay-refines c f (or-else _ _ h e)))
 
   pub giveWay-most : (c : ℕ) (f : Forest) → T (anyGives k c f) → c + size (giveWay k c f) ≤ size f + mostChildren
@@ -89,10 +89,10 @@ module _ (k : Kind) (s : SumKind k) where
       (λ e. omega (arith, size-⧺ (children t) f, gives-few c t e))
       (λ e. omega (arith, giveWay-most c f (or-else _ _ h e)))
 
-  some-children : (t : Tree) → t ≡ node (at k Unlimited) (children t) → T (listed t) → 1 ≤ size (children t)
+  some-children : (t : Tree) → t ≡ node (at k Unlimited (addressOf t)) (children t) → T (listed t) → 1 ≤ size (children t)
   unfolding listed
   some-children t e l =
-      let q : T (listed (node (at k Unlimited) (children t))) = subst (λ u. T (listed u)) e l in
+      let q : T (listed (node (at k Unlimited (addressOf t)) (children t))) = subst (λ u. T (listed u)) e l in
       let (x, y) = both _ _ q in
       of-arity k s _ (both _ _ x .1) .0
 
@@ -112,9 +112,9 @@ rule2-refines n f i h =
 
 -- ---- rule 3
 
-pub alone-free : (k : Kind) → SumKind k → (t : Tree) → Refines t (node (at k Unlimited) (t ▸ nil))
+pub alone-free : (k : Kind) → SumKind k → (a : ℕ) (t : Tree) → Refines t (node (at k Unlimited a) (t ▸ nil))
 unfolding name list inner limit fits listed depth loops nameOk named share weight everyLimit records
-alone-free k s t = record {
+alone-free k s a t = record {
   keeps = record {
     sameName = omega (arith, s .names t nil, name-le t);
     sameList = λ v. sym (s .lists v t nil ∙ ap (join k (list v t)) (s .empty v) ∙ join-zero k _ (list-falls v t));
@@ -129,10 +129,10 @@ alone-free k s t = record {
   fewer = λ l. omega arith;
 }
 
-pub alone-limited : (k : Kind) → SumKind k → (l : Limit) (j : Kind) (g : Forest) → Refines (node (at j l) g) (node (at k l) (node (at j Unlimited) g ▸ nil))
+pub alone-limited : (k : Kind) → SumKind k → (l : Limit) (a : ℕ) (j : Kind) (i : ℕ) (g : Forest) → Refines (node (at j l i) g) (node (at k l a) (node (at j Unlimited i) g ▸ nil))
 unfolding name list fits listed depth loops named weight everyLimit records
-alone-limited k s l j g =
-    let t = node (at j Unlimited) g in record {
+alone-limited k s l a j i g =
+    let t = node (at j Unlimited i) g in record {
       keeps = record {
         sameName = unfold inner in ap (inner l) (omega (arith, s .names t nil, nameIn-le j g));
         sameList = λ v. unfold limit in ap (limit v l) (sym (s .lists v t nil ∙ ap (join k (list v t)) (s .empty v) ∙ join-zero k _ (list-falls v t)));
@@ -152,8 +152,8 @@ alone-limited k s l j g =
       fewer = λ q. omega arith;
     }
 
-pub relimit-refines : (k : Kind) → SumKind k → (l : Limit) (t : Tree) → T (isUnlimited (limitOf t)) → Refines (relimit l t) (node (at k l) (t ▸ nil))
+pub relimit-refines : (k : Kind) → SumKind k → (l : Limit) (a : ℕ) (t : Tree) → T (isUnlimited (limitOf t)) → Refines (relimit l t) (node (at k l a) (t ▸ nil))
 unfolding relimit limitOf
-relimit-refines k s l (node m g) h =
-    subst (λ u. Refines (node (at (m .kind) l) g) (node (at k l) (node u g ▸ nil))) (sym (node-is m (m .kind) Unlimited refl (unlimited-is _ h)))
-    (alone-limited k s l (m .kind) g)
+relimit-refines k s l a (node m g) h =
+    subst (λ u. Refines (node (at (m .kind) l (m .address)) g) (node (at k l a) (node u g ▸ nil))) (sym (node-is m (m .kind) Unlimited refl (unlimited-is _ h)))
+    (alone-limited k s l a (m .kind) (m .address) g)

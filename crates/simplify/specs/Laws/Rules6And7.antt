@@ -13,7 +13,7 @@ use Rattle.table.specs.Laws.Trees.{some-records, some-depth, some-loops}
 use Rattle.lists.specs.Streams.{const, Stream}
 use Rattle.lists.specs.Laws.MergeLaws.{add-consts, merge-consts}
 use Rattle.lists.specs.Laws.Sums.{const-falls}
-use Rattle.evaluate.specs.Evaluate.{Values, fits, list, name, join, before, nameIn, zeros}
+use Rattle.evaluate.specs.Evaluate.{Values, fits, list, join, before, nameIn, zeros}
 use Rattle.evaluate.specs.Laws.Monotone.{before-falls, nameIn-le, list-falls}
 use Rattle.evaluate.specs.Laws.Joins.{join-left, zero-join, join-assoc, join-swap}
 use Rattle.simplify.specs.Nodes.{Unlimited, Kind, Sequence, Choice, Limit}
@@ -21,7 +21,7 @@ use Rattle.simplify.specs.Rules.{bare, others, bares, atFirst, leaf, tim
 use Rattle.simplify.specs.Laws.Refines.{RefinesIn, SumKind, sequence-sum, choice-sum, Refines, node-refines, arity-of, of-arity}
 use Rattle.simplify.specs.Laws.Same.{at}
 use Rattle.simplify.specs.Laws.Forests.{Each, fits-each, listed-each, limits-each, named-each}
-use Rattle.simplify.specs.Laws.Blocks.{leaf-fits, leaf-listed, leaf-depth, leaf-records, bare-is, leaf-list, leaf-name, leaf-named, leaf-limits, leaf-weight, leaf-loops}
+use Rattle.simplify.specs.Laws.Blocks.{leaf-fits, leaf-listed, leaf-depth, leaf-records, bare-list, bare-name, leaf-list, leaf-name, leaf-named, leaf-limits, leaf-weight, leaf-loops}
 
 -- ---- rules 6 and 7: the other children
 
@@ -108,7 +108,7 @@ module _ (k : Kind) (s : SumKind k) where
   others-name nil = refl
   others-name (t ▸ f) =
       by-cond (λ g. nameIn k g ≡ nameIn k (t ▸ f)) (bare t) _ _
-      (λ e. omega (arith, others-name f, s .names t f, ap name (bare-is t e), leaf-name (timeOf t), nameIn-le k f))
+      (λ e. omega (arith, others-name f, s .names t f, bare-name t e, nameIn-le k f))
       (λ e. omega (arith, others-name f, s .names t f, s .names t (others f)))
 
   others-loops : (f : Forest) (d : ℕ) → loopsIn k (others f) d ≤ loopsIn k f d
@@ -132,7 +132,7 @@ module _ (k : Kind) (s : SumKind k) where
   first-name x nil = refl
   first-name x (t ▸ f) =
       by-cond (λ g. nameIn k g ≡ nameIn k (t ▸ f)) (bare t) _ _
-      (λ e. omega (arith, others-name f, s .names t f, s .names (leaf x Unlimited) (others f), ap name (bare-is t e), leaf-name (timeOf t), leaf-name x))
+      (λ e. omega (arith, others-name f, s .names t f, s .names (leaf x Unlimited) (others f), bare-name t e, leaf-name x))
       (λ e. omega (arith, first-name x f, s .names t f, s .names t (atFirst x f)))
 
   first-loops : (x : ℕ) (f : Forest) (d : ℕ) → loopsIn k (atFirst x f) d ≤ loopsIn k f d
@@ -171,15 +171,15 @@ module _ (k : Kind) (s : SumKind k) where
     gathered : (v : Values) (f : Forest) → before v k f ≡ join k (const (acc f)) (before v k (others f))
     unfolding others
     gathered v nil = sym (ap (λ x. join k (const x) (before v k nil)) z ∙ zero-join k _ (before-falls v k nil))
-    gathered v (t ▸ f) = rw (c t f) (go (bare t) (bare-is t) (gathered v f))
+    gathered v (t ▸ f) = rw (c t f) (go (bare t) (bare-list v t) (gathered v f))
       where
         g : Stream
         g = before v k (others f)
 
-        go : (b : Bool) → (T b → t ≡ leaf (timeOf t) Unlimited) → before v k f ≡ join k (const (acc f)) g
+        go : (b : Bool) → (T b → list v t ≡ const (timeOf t)) → before v k f ≡ join k (const (acc f)) g
             → before v k (t ▸ f) ≡ join k (const (cond b (op (timeOf t) (acc f)) (acc f))) (before v k (cond b (others f) (t ▸ others f)))
         go true p h =
-            s .lists v t f ∙ ap₂ (join k) (ap (list v) (p tt) ∙ leaf-list v (timeOf t)) h
+            s .lists v t f ∙ ap₂ (join k) (p tt) h
             ∙ sym (join-assoc k _ _ _ (const-falls _) (const-falls _) (before-falls v k (others f)))
             ∙ ap (λ y. join k y g) (o (timeOf t) (acc f))
         go false p h =
@@ -240,13 +240,13 @@ largest-refines : (f : Forest) → 2 ≤ bares f → RefinesIn Choice (atFirst (
 unfolding join largest
 largest-refines f p = one-at-first Choice choice-sum max merge-consts largest refl (λ t g. refl) f p
 
-pub rule6-refines : (l : Limit) (f : Forest) → 2 ≤ bares f → Refines (node (at Sequence l) (leaf (total f) Unlimited ▸ others f)) (node (at Sequence l) f)
+pub rule6-refines : (l : Limit) (a : ℕ) (f : Forest) → 2 ≤ bares f → Refines (node (at Sequence l a) (leaf (total f) Unlimited ▸ others f)) (node (at Sequence l a) f)
 unfolding size
-rule6-refines l f p =
-    node-refines (at Sequence l) _ f (total-refines f p)
-    (λ q a. arity-of Sequence sequence-sum _ (omega arith) (omega (arith, others-size f, of-arity Sequence sequence-sum _ a .1)))
+rule6-refines l a f p =
+    node-refines (at Sequence l a) _ f (total-refines f p)
+    (λ q r. arity-of Sequence sequence-sum _ (omega arith) (omega (arith, others-size f, of-arity Sequence sequence-sum _ r .1)))
 
-pub rule7-refines : (l : Limit) (f : Forest) → 2 ≤ bares f → Refines (node (at Choice l) (atFirst (largest f) f)) (node (at Choice l) f)
-rule7-refines l f p =
-    node-refines (at Choice l) _ f (largest-refines f p)
-    (λ q a. arity-of Choice choice-sum _ (first-some (largest f) f (of-arity Choice choice-sum _ a .0)) (omega (arith, first-size (largest f) f, of-arity Choice choice-sum _ a .1)))
+pub rule7-refines : (l : Limit) (a : ℕ) (f : Forest) → 2 ≤ bares f → Refines (node (at Choice l a) (atFirst (largest f) f)) (node (at Choice l a) f)
+rule7-refines l a f p =
+    node-refines (at Choice l a) _ f (largest-refines f p)
+    (λ q r. arity-of Choice choice-sum _ (first-some (largest f) f (of-arity Choice choice-sum _ r .0)) (omega (arith, first-size (largest f) f, of-arity Choice choice-sum _ r .1)))

@@ -1,12 +1,17 @@
--- Tests of sameness say what they test: two trees are the same exactly where their bytes are.
+-- Tests of sameness say what they test: two trees are the same exactly where their bytes are, once their addresses are 0.
 use mathlib.Core.Path.{_≡_, ap, refl, sym, ap₂, _∙_, subst}
+use Prim.Native.Nat.{ℕ}
 use lib.Dec.{T, eqb→eq, eqb-refl}
 use Rattle.booleans.specs.Laws.{both, join-and}
-use Rattle.table.specs.Trees.{Forest, nil, _▸_, node, Tree}
+use Rattle.booleans.specs.Tests.{_and_}
+use Rattle.table.specs.Trees.{Forest, nil, _▸_, node, Tree, unaddressed, unaddressedIn}
 use Rattle.table.specs.Questions.{listed}
 use Rattle.table.specs.Table.{encode, decode, mostField, mostFlags, mostFrom}
+use Rattle.table.specs.Laws.Addresses.{listed-unaddressed}
 use Rattle.table.specs.Laws.NotRefused.{reads-back}
 use Rattle.table.specs.Laws.RoundTrip.{most-flags}
+use Rattle.evaluate.specs.Evaluate.{Values, list, name}
+use Rattle.evaluate.specs.Laws.Addresses.{list-unaddressed, name-unaddressed}
 use Rattle.simplify.specs.Nodes.{Number, Plain, Symbol, Most, Limit, Unlimited, AtMost, Kind, Block, Sequence, Choice, Loop, Node}
 use Rattle.simplify.specs.Same.{sameNumber, sameMost, sameLimit, sameKind, same, sameIn}
 
@@ -49,22 +54,22 @@ kind-is (Loop m) Sequence h = absurd h
 kind-is (Loop m) Choice h = absurd h
 kind-is (Loop m) (Loop n) h = ap Loop (number-is m n h)
 
-abbrev pub at : Kind → Limit → Node
-at k l = record { kind = k; limit = l }
+abbrev pub at : Kind → Limit → ℕ → Node
+at k l a = record { kind = k; limit = l; address = a }
 
-pub node-is : (n : Node) (k : Kind) (l : Limit) → n .kind ≡ k → n .limit ≡ l → n ≡ at k l
-node-is n k l p q = ap₂ at p q
+pub node-is : (n : Node) (k : Kind) (l : Limit) → n .kind ≡ k → n .limit ≡ l → n ≡ at k l (n .address)
+node-is n k l p q = ap₂ (λ x y. at x y (n .address)) p q
 
 mutual
-  unfolding same
+  unfolding same unaddressed
 
-  pub same-is : (t u : Tree) → T (same t u) → t ≡ u
+  pub same-is : (t u : Tree) → T (same t u) → unaddressed t ≡ unaddressed u
   same-is (node n f) (node m g) h =
       let (p, c) = both _ _ h in
       let (a, b) = both _ _ p in
-      ap₂ node (node-is n _ _ (kind-is _ _ a) (limit-is _ _ b)) (sameIn-is f g c)
+      ap₂ node (ap₂ (λ x y. at x y 0) (kind-is _ _ a) (limit-is _ _ b)) (sameIn-is f g c)
 
-  pub sameIn-is : (f g : Forest) → T (sameIn f g) → f ≡ g
+  sameIn-is : (f g : Forest) → T (sameIn f g) → unaddressedIn f ≡ unaddressedIn g
   sameIn-is nil nil h = refl
   sameIn-is nil (u ▸ g) h = absurd h
   sameIn-is (t ▸ f) nil h = absurd h
@@ -103,5 +108,27 @@ mutual
   selfIn nil = tt
   selfIn (t ▸ f) = join-and _ _ (self t) (selfIn f)
 
-pub bytes-same : (t u : Tree) → T (listed t) → T (listed u) → encode t ≡ encode u → T (same t u)
-bytes-same t u l m e = subst (λ w. T (same t w)) (sym (reads-back t l) ∙ ap decode e ∙ reads-back u m) (self t)
+mutual
+  unfolding same unaddressed
+
+  same-unaddressed : (t u : Tree) → same (unaddressed t) (unaddressed u) ≡ same t u
+  same-unaddressed (node n f) (node m g) = ap (λ x. sameKind (n .kind) (m .kind) and sameLimit (n .limit) (m .limit) and x) (sameIn-unaddressed f g)
+
+  sameIn-unaddressed : (f g : Forest) → sameIn (unaddressedIn f) (unaddressedIn g) ≡ sameIn f g
+  sameIn-unaddressed nil nil = refl
+  sameIn-unaddressed nil (u ▸ g) = refl
+  sameIn-unaddressed (t ▸ f) nil = refl
+  sameIn-unaddressed (t ▸ f) (u ▸ g) = ap₂ _and_ (same-unaddressed t u) (sameIn-unaddressed f g)
+
+pub bytes-same : (t u : Tree) → T (listed t) → T (listed u) → encode (unaddressed t) ≡ encode (unaddressed u) → T (same t u)
+bytes-same t u l m e =
+    let is : unaddressed t ≡ unaddressed u = sym (reads-back _ (listed-unaddressed t l)) ∙ ap decode e ∙ reads-back _ (listed-unaddressed u m) in
+    subst T (same-unaddressed t u) (subst (λ w. T (same (unaddressed t) w)) is (self (unaddressed t)))
+
+-- ---- what evaluation says of them is the same
+
+pub same-name : (t u : Tree) → T (same t u) → name t ≡ name u
+same-name t u h = sym (name-unaddressed t) ∙ ap name (same-is t u h) ∙ name-unaddressed u
+
+pub same-list : (v : Values) (t u : Tree) → T (same t u) → list v t ≡ list v u
+same-list v t u h = sym (list-unaddressed v t) ∙ ap (list v) (same-is t u h) ∙ list-unaddressed v u

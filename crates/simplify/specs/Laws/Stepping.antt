@@ -48,14 +48,14 @@ when-moves t false u f = stays-so
 -- ---- each rule
 
 -- a node whose kind, or kind and limit, a test has told
-as-kind : (n : Node) (k : Kind) (u : Tree) (f : Forest) → T (sameKind (n .kind) k) → Refines u (node (at k (n .limit)) f) → Refines u (node n f)
+as-kind : (n : Node) (k : Kind) (u : Tree) (f : Forest) → T (sameKind (n .kind) k) → Refines u (node (at k (n .limit) (n .address)) f) → Refines u (node n f)
 as-kind n k u f h r = subst (λ m. Refines u (node m f)) (sym (node-is n k (n .limit) (kind-is _ _ h) refl)) r
 
 -- the same, where the new tree has the node too
-as-kind₂ : (n : Node) (k : Kind) (g f : Forest) → T (sameKind (n .kind) k) → Refines (node (at k (n .limit)) g) (node (at k (n .limit)) f) → Refines (node n g) (node n f)
+as-kind₂ : (n : Node) (k : Kind) (g f : Forest) → T (sameKind (n .kind) k) → Refines (node (at k (n .limit) (n .address)) g) (node (at k (n .limit) (n .address)) f) → Refines (node n g) (node n f)
 as-kind₂ n k g f h r = subst (λ m. Refines (node m g) (node m f)) (sym (node-is n k (n .limit) (kind-is _ _ h) refl)) r
 
-as-free : (n : Node) (u : Tree) (f : Forest) → T (isUnlimited (n .limit)) → Refines u (node (at (n .kind) Unlimited) f) → Refines u (node n f)
+as-free : (n : Node) (u : Tree) (f : Forest) → T (isUnlimited (n .limit)) → Refines u (node (at (n .kind) Unlimited (n .address)) f) → Refines u (node n f)
 as-free n u f h r = subst (λ m. Refines u (node m f)) (sym (node-is n (n .kind) Unlimited refl (unlimited-is _ h))) r
 
 rule2-moves : (n : Node) (f : Forest) → Moves (node n f) (rule2 n f)
@@ -67,8 +67,8 @@ unfolding alone
 alone-moves n s nil = stays-so
 alone-moves n s (t ▸ nil) =
     by-cond (Moves (node n (t ▸ nil))) (isUnlimited (n .limit)) _ _
-    (λ h. moves (as-free n t (t ▸ nil) h (alone-free (n .kind) s t)))
-    (λ e. when-moves _ _ _ (λ h. relimit-refines (n .kind) s (n .limit) t h))
+    (λ h. moves (as-free n t (t ▸ nil) h (alone-free (n .kind) s (n .address) t)))
+    (λ e. when-moves _ _ _ (λ h. relimit-refines (n .kind) s (n .limit) (n .address) t h))
 alone-moves n s (t ▸ u ▸ f) = stays-so
 
 rule3-moves : (n : Node) (f : Forest) → Moves (node n f) (rule3 n f)
@@ -85,28 +85,28 @@ rule5-moves n f = when-moves _ _ _ (λ h. let (p, c) = both _ _ h in let (a, b) 
 
 rule6-moves : (n : Node) (f : Forest) → Moves (node n f) (rule6 n f)
 unfolding rule6
-rule6-moves n f = when-moves _ _ _ (λ h. let (a, b) = both _ _ h in as-kind₂ n Sequence _ f a (rule6-refines (n .limit) f (leb→le 2 _ b)))
+rule6-moves n f = when-moves _ _ _ (λ h. let (a, b) = both _ _ h in as-kind₂ n Sequence _ f a (rule6-refines (n .limit) (n .address) f (leb→le 2 _ b)))
 
 rule7-moves : (n : Node) (f : Forest) → Moves (node n f) (rule7 n f)
 unfolding rule7
-rule7-moves n f = when-moves _ _ _ (λ h. let (a, b) = both _ _ h in as-kind₂ n Choice _ f a (rule7-refines (n .limit) f (leb→le 2 _ b)))
+rule7-moves n f = when-moves _ _ _ (λ h. let (a, b) = both _ _ h in as-kind₂ n Choice _ f a (rule7-refines (n .limit) (n .address) f (leb→le 2 _ b)))
 
 rule8-moves : (n : Node) (f : Forest) → Moves (node n f) (rule8 n f)
 unfolding rule8
-rule8-moves n f = when-moves _ _ _ (λ h. let (a, b) = both _ _ h in as-kind n Choice _ f a (rule8-refines (n .limit) f b))
+rule8-moves n f = when-moves _ _ _ (λ h. let (a, b) = both _ _ h in as-kind n Choice _ f a (rule8-refines (n .limit) (n .address) f b))
 
-exit-moves : (f : Forest) → Moves (node (at (Loop (Plain 0)) Unlimited) f) (exit f)
+exit-moves : (a : ℕ) (f : Forest) → Moves (node (at (Loop (Plain 0)) Unlimited a) f) (exit f)
 unfolding exit
-exit-moves nil = stays-so
-exit-moves (b ▸ nil) = stays-so
-exit-moves (b ▸ e ▸ nil) = when-moves _ _ _ (λ h. rule9-refines b e (names-run (name b) h))
-exit-moves (b ▸ e ▸ t ▸ f) = stays-so
+exit-moves a nil = stays-so
+exit-moves a (b ▸ nil) = stays-so
+exit-moves a (b ▸ e ▸ nil) = when-moves _ _ _ (λ h. rule9-refines a b e (names-run (name b) h))
+exit-moves a (b ▸ e ▸ t ▸ f) = stays-so
 
 rule9-moves : (n : Node) (f : Forest) → Moves (node n f) (rule9 n f)
 unfolding rule9
 rule9-moves n f =
     by-cond (Moves (node n f)) (sameKind (n .kind) (Loop (Plain 0)) and isUnlimited (n .limit)) _ _
-    (λ h. let (a, b) = both _ _ h in subst (λ m. Moves (node m f) (exit f)) (sym (node-is n _ Unlimited (kind-is _ _ a) (unlimited-is _ b))) (exit-moves f))
+    (λ h. let (a, b) = both _ _ h in subst (λ m. Moves (node m f) (exit f)) (sym (node-is n _ Unlimited (kind-is _ _ a) (unlimited-is _ b))) (exit-moves (n .address) f))
     (λ e. stays-so)
 
 pub rule-moves : (n : Node) (f : Forest) → Moves (node n f) (rule n f)

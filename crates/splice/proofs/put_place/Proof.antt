@@ -20,7 +20,7 @@ returns c =
     let last = c .before .before in
     let copy = last .before .before .before .before in
     let first = copy .before .before .before .before in
-    place-parts _ _ _ _ _ _ _ _ _ _ _ (first .put-node .ensures) (copy .copy-records .ensures) (last .put-node2 .ensures)
+    place-parts _ _ _ _ _ _ _ _ _ _ _ _ (first .put-node .ensures) (copy .copy-records .ensures) (last .put-node2 .ensures)
 
 pub put-place-spec : {M : Type 1} → statement M
 put-place-spec =

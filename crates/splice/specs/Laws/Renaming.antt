@@ -108,19 +108,19 @@ module _ (w : ℕ) (ends : List ℕ) (l : Low w ends) where
 -- ---- a tree's records
 
 -- a record without a limit has byte 3 zero, which is no loop's name and stays
-bytes-renamed : (k : Kind) (l : Limit) (c d : ℕ) (r : List ℕ) → renamedRecord d (recordBytes (nodeOf k l) c ++ r) ≡ recordBytes (nodeOf k (renamedLimit l d)) c
+bytes-renamed : (k : Kind) (l : Limit) (a c d : ℕ) (r : List ℕ) → renamedRecord d (recordBytes (nodeOf k l a) c ++ r) ≡ recordBytes (nodeOf k (renamedLimit l d) a) c
 unfolding renamedRecord recordBytes toBytes renamedLimit loopByte limitNum
-bytes-renamed k Unlimited c d r = refl
-bytes-renamed k (AtMost name m) c d r = refl
+bytes-renamed k Unlimited a c d r = refl
+bytes-renamed k (AtMost name m) a c d r = refl
 
 record-renamed : (n : Node) (c m w : ℕ) (before ends r : List ℕ) → WritesNode n → stillAround (suc w) before ≡ ends
     → renamedRecords (suc m) (suc w) before (recordBytes n c ++ r)
-    ≡ recordBytes (nodeOf (n .kind) (renamedLimit (n .limit) (length ends))) c ++ renamedRecords m (w + c) (entered (n .kind) (suc w) ends) r
+    ≡ recordBytes (nodeOf (n .kind) (renamedLimit (n .limit) (length ends)) (n .address)) c ++ renamedRecords m (w + c) (entered (n .kind) (suc w) ends) r
 unfolding renamedRecords
-record-renamed n c m w before ends r h e = rw (e, bytes-renamed (n .kind) (n .limit), head-bytes n c r h, children-bytes n c r, drop-bytes n c r, sub-one (suc w)) refl
+record-renamed n c m w before ends r h e = rw (e, bytes-renamed (n .kind) (n .limit) (n .address), head-bytes n c r h, children-bytes n c r, drop-bytes n c r, sub-one (suc w)) refl
 
 renamed-node : (n : Node) (f : Forest) (d : ℕ) (r : List ℕ)
-    → recordBytes (nodeOf (n .kind) (renamedLimit (n .limit) d)) (size f) ++ (encodes (renameIn (n .kind) f d) ++ r) ≡ encode (rename (node n f) d) ++ r
+    → recordBytes (nodeOf (n .kind) (renamedLimit (n .limit) d) (n .address)) (size f) ++ (encodes (renameIn (n .kind) f d) ++ r) ≡ encode (rename (node n f) d) ++ r
 unfolding rename encode
 renamed-node n f d r = rw (size-renamed (n .kind) f d, append-assoc) refl
 
@@ -140,7 +140,7 @@ mutual
       let (p, c) = both _ _ h in
       rw (suc-add, append-assoc)
       (record-renamed n (size f) (recordsIn f + m) w before ends (encodes f ++ z) (tree-writes (node n f) h .0) e
-      ∙ ap (λ (x : List ℕ). recordBytes (nodeOf (n .kind) (renamedLimit (n .limit) (length ends))) (size f) ++ x) (renames-children f c (n .kind) (both _ _ p .1) m w ends z (omega arith) l))
+      ∙ ap (λ (x : List ℕ). recordBytes (nodeOf (n .kind) (renamedLimit (n .limit) (length ends)) (n .address)) (size f) ++ x) (renames-children f c (n .kind) (both _ _ p .1) m w ends z (omega arith) l))
       ∙ renamed-node n f (length ends) (renamedRecords m w ends z)
 
   renames-children : (f : Forest) → T (listedIn f) → (k : Kind) → T (arity k (size f)) → (m w : ℕ) (ends z : List ℕ) → loopsIn k f (length ends) ≤ mostLoops → Low w ends

@@ -22,9 +22,9 @@ use Rattle.splice.specs.Graft.{graft, graftIn, inPlace, isSymbol, rename
 use Rattle.splice.specs.Splice.{occursFirst, occurrences, occurrencesIn, occurrencesOf, placeBytes, splice, spliceFirst, spliceRecords}
 use Rattle.splice.specs.Laws.Sizes.{rename-records, size-grafted, symbol-only}
 
-place-encode : (u : Tree) (l : Limit) → encode (inPlace u l) ≡ placeBytes (encode (rename u 0)) l
+place-encode : (u : Tree) (l : Limit) (a : ℕ) → encode (inPlace u l a) ≡ placeBytes (encode (rename u 0)) l a
 unfolding inPlace encode placeBytes size
-place-encode u l = rw (append-nil, append-nil, append-assoc) refl
+place-encode u l a = rw (append-nil, append-nil, append-assoc) refl
 
 -- ---- one record
 
@@ -32,12 +32,12 @@ first-is : (s : ℕ) (n : Node) (c : ℕ) (r : List ℕ) → WritesNode n → oc
 unfolding occursFirst
 first-is s n c r w = rw (head-bytes n c r w) refl
 
-splice-is : (s : ℕ) (body : List ℕ) (n : Node) (c : ℕ) (r : List ℕ) → WritesNode n → spliceFirst s body (recordBytes n c ++ r) ≡ cond (isSymbol s (n .kind)) (placeBytes body (n .limit)) (recordBytes n c)
+splice-is : (s : ℕ) (body : List ℕ) (n : Node) (c : ℕ) (r : List ℕ) → WritesNode n → spliceFirst s body (recordBytes n c ++ r) ≡ cond (isSymbol s (n .kind)) (placeBytes body (n .limit) (n .address)) (recordBytes n c)
 unfolding spliceFirst
 splice-is s body n c r w = rw (head-bytes n c r w, take-at (recordBytes n c) r recordLength (length-bytes n c)) refl
 
 splice-next : (s : ℕ) (body : List ℕ) (n : Node) (c m : ℕ) (r : List ℕ) → WritesNode n
-    → splice s body (suc m) (recordBytes n c ++ r) ≡ cond (isSymbol s (n .kind)) (placeBytes body (n .limit)) (recordBytes n c) ++ splice s body m r
+    → splice s body (suc m) (recordBytes n c ++ r) ≡ cond (isSymbol s (n .kind)) (placeBytes body (n .limit) (n .address)) (recordBytes n c) ++ splice s body m r
 unfolding splice
 splice-next s body n c m r w = ap₂ (λ (x y : List ℕ). x ++ splice s body m y) (splice-is s body n c r w) (drop-bytes n c r)
 
@@ -49,15 +49,15 @@ occurrences-next s n c m r w = ap₂ (λ (x : ℕ) (y : List ℕ). x + occurrenc
 
 module _ (s : ℕ) (u : Tree) where
   splice-node : (n : Node) (f : Forest) (R : List ℕ) → T (arity (n .kind) (size f))
-      → cond (isSymbol s (n .kind)) (placeBytes (encode (rename u 0)) (n .limit)) (recordBytes n (size f)) ++ (encodes (graftIn s u f) ++ R) ≡ encode (graft s u (node n f)) ++ R
+      → cond (isSymbol s (n .kind)) (placeBytes (encode (rename u 0)) (n .limit) (n .address)) (recordBytes n (size f)) ++ (encodes (graftIn s u f) ++ R) ≡ encode (graft s u (node n f)) ++ R
   unfolding graft encode
   splice-node n f R a = go (isSymbol s (n .kind)) refl
     where
-      placed : (f : Forest) → f ≡ nil → placeBytes (encode (rename u 0)) (n .limit) ++ (encodes (graftIn s u f) ++ R) ≡ encode (inPlace u (n .limit)) ++ R
-      placed f e = unfold graft encode in rw (e, place-encode u (n .limit)) refl
+      placed : (f : Forest) → f ≡ nil → placeBytes (encode (rename u 0)) (n .limit) (n .address) ++ (encodes (graftIn s u f) ++ R) ≡ encode (inPlace u (n .limit) (n .address)) ++ R
+      placed f e = unfold graft encode in rw (e, place-encode u (n .limit) (n .address)) refl
 
       go : (b : Bool) → isSymbol s (n .kind) ≡ b
-          → cond b (placeBytes (encode (rename u 0)) (n .limit)) (recordBytes n (size f)) ++ (encodes (graftIn s u f) ++ R) ≡ encode (cond b (inPlace u (n .limit)) (node n (graftIn s u f))) ++ R
+          → cond b (placeBytes (encode (rename u 0)) (n .limit) (n .address)) (recordBytes n (size f)) ++ (encodes (graftIn s u f) ++ R) ≡ encode (cond b (inPlace u (n .limit) (n .address)) (node n (graftIn s u f))) ++ R
       go true e = placed f (symbol-only s (n .kind) f (subst T (sym e) tt) a .1)
       go false e = unfold encode in rw (size-grafted s u f, append-assoc) refl
 
@@ -71,7 +71,7 @@ module _ (s : ℕ) (u : Tree) where
         let (q, a) = both _ _ p in
         rw (suc-add, append-assoc)
         (splice-next s (encode (rename u 0)) n (size f) (recordsIn f + m) (encodes f ++ z) (tree-writes (node n f) h .0)
-        ∙ ap (λ (x : List ℕ). cond (isSymbol s (n .kind)) (placeBytes (encode (rename u 0)) (n .limit)) (recordBytes n (size f)) ++ x) (splice-forest f c m z)
+        ∙ ap (λ (x : List ℕ). cond (isSymbol s (n .kind)) (placeBytes (encode (rename u 0)) (n .limit) (n .address)) (recordBytes n (size f)) ++ x) (splice-forest f c m z)
         ∙ splice-node n f (splice s (encode (rename u 0)) m z) a)
 
     splice-forest : (f : Forest) → T (listedIn f) → (m : ℕ) (z : List ℕ)
@@ -125,10 +125,10 @@ module _ (s : ℕ) (u : Tree) where
   unfolding graft records
   records-node n f a e = go (isSymbol s (n .kind)) refl
     where
-      placed : (f : Forest) → f ≡ nil → records (inPlace u (n .limit)) ≡ suc (recordsIn f) + (1 + occurrencesOf s f) * suc (records u)
+      placed : (f : Forest) → f ≡ nil → records (inPlace u (n .limit) (n .address)) ≡ suc (recordsIn f) + (1 + occurrencesOf s f) * suc (records u)
       placed f e = unfold inPlace records occurrences in rw e (omega (arith, rename-records u 0))
 
-      go : (b : Bool) → isSymbol s (n .kind) ≡ b → records (cond b (inPlace u (n .limit)) (node n (graftIn s u f))) ≡ suc (recordsIn f) + (cond b 1 0 + occurrencesOf s f) * suc (records u)
+      go : (b : Bool) → isSymbol s (n .kind) ≡ b → records (cond b (inPlace u (n .limit) (n .address)) (node n (graftIn s u f))) ≡ suc (recordsIn f) + (cond b 1 0 + occurrencesOf s f) * suc (records u)
       go true q = placed f (symbol-only s (n .kind) f (subst T (sym q) tt) a .1)
       go false q = unfold records in rw (e, zero-add (occurrencesOf s f)) (omega arith)
 

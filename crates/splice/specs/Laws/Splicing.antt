@@ -29,15 +29,15 @@ module _ (s : ℕ) (b : List ℕ) (n : Node) (r : Bool) (e : n ≡ firstNode b) 
   occurs-no t = rw (← kind-is, t) refl
 
   module _ (body : List ℕ) where
-    splice-yes : r ≡ true → placeBytes body (n .limit) ≡ spliceFirst s body b
+    splice-yes : r ≡ true → placeBytes body (n .limit) (n .address) ≡ spliceFirst s body b
     unfolding spliceFirst
-    splice-yes t = rw (← kind-is, t) (ap (λ (m : Node). placeBytes body (m .limit)) e)
+    splice-yes t = rw (← kind-is, t) (ap (λ (m : Node). placeBytes body (m .limit) (m .address)) e)
 
     splice-no : r ≡ false → take recordLength b ≡ spliceFirst s body b
     unfolding spliceFirst
     splice-no t = rw (← kind-is, t) refl
 
-    pub put-yes : (m at z : ℕ) (out new : List ℕ) → r ≡ true → (z ≡ at + (m + 2)) × (front z new ≡ front at out ++ placeBytes body (n .limit))
+    pub put-yes : (m at z : ℕ) (out new : List ℕ) → r ≡ true → (z ≡ at + (m + 2)) × (front z new ≡ front at out ++ placeBytes body (n .limit) (n .address))
         → (z ≡ at + (1 + occursFirst s b * suc m)) × (front z new ≡ front at out ++ spliceFirst s body b)
     put-yes m at z out new t (x, y) = (rw (← occurs-yes t) (omega arith), y ∙ ap (λ (w : List ℕ). front at out ++ w) (splice-yes t))
 
@@ -46,13 +46,13 @@ module _ (s : ℕ) (b : List ℕ) (n : Node) (r : Bool) (e : n ≡ firstNode b) 
     put-no m at z out new t (x, y) = (rw (← occurs-no t) (omega arith), y ∙ ap (λ (w : List ℕ). front at out ++ w) (splice-no t))
 
 -- the three parts of what stands in a block's place
-pub place-parts : (l : Limit) (body : List ℕ) (m at first end r : ℕ) (out o₁ o₂ o₃ : List ℕ)
-    → (first ≡ at + 1) × (front first o₁ ≡ front at out ++ recordBytes (nodeOf (Loop (Plain 1)) l) 2)
+pub place-parts : (l : Limit) (a : ℕ) (body : List ℕ) (m at first end r : ℕ) (out o₁ o₂ o₃ : List ℕ)
+    → (first ≡ at + 1) × (front first o₁ ≡ front at out ++ recordBytes (nodeOf (Loop (Plain 1)) l a) 2)
     → (end ≡ first + m) × (front end o₂ ≡ front first o₁ ++ slice body 0 m)
-    → (r ≡ end + 1) × (front r o₃ ≡ front end o₂ ++ recordBytes (nodeOf (Block (Plain 0)) Unlimited) 0)
-    → (r ≡ at + (m + 2)) × (front r o₃ ≡ front at out ++ placeBytes (front m body) l)
+    → (r ≡ end + 1) × (front r o₃ ≡ front end o₂ ++ recordBytes (nodeOf (Block (Plain 0)) Unlimited 0) 0)
+    → (r ≡ at + (m + 2)) × (front r o₃ ≡ front at out ++ placeBytes (front m body) l a)
 unfolding placeBytes
-place-parts l body m at first end r out o₁ o₂ o₃ (x₁, y₁) (x₂, y₂) (x₃, y₃) =
+place-parts l a body m at first end r out o₁ o₂ o₃ (x₁, y₁) (x₂, y₂) (x₃, y₃) =
     (omega arith, y₃ ∙ rw (y₂, y₁, append-assoc, append-assoc, append-assoc) refl)
 
 -- ---- occurrences counted

@@ -28,12 +28,28 @@ read-u32-requires c κs = search needs
 limit-listed-requires : tie.Need-limit-listed-requires
 limit-listed-requires c κs = search needs
 
+shared-slice-read-fill-listed : tie.Need-shared-slice-read-fill-listed
+shared-slice-read-fill-listed c = search needs
+
+shared-slice-read-fill-listed-2 : tie.Need-shared-slice-read-fill-listed-2
+shared-slice-read-fill-listed-2 c = search needs
+
+shared-slice-read-fill-listed-3 : tie.Need-shared-slice-read-fill-listed-3
+shared-slice-read-fill-listed-3 c = search needs
+
+shared-slice-read-fill-listed-4 : tie.Need-shared-slice-read-fill-listed-4
+shared-slice-read-fill-listed-4 c = search needs
+
+fill-listed-requires : tie.Need-fill-listed-requires
+fill-listed-requires c κs = search needs
+
 flags-listed-requires : tie.Need-flags-listed-requires
 flags-listed-requires c κs = search needs
 
 returns : tie.Need-returns
 returns c =
-    rw (c .flags-listed .ensures, c .before .limit-listed .ensures, c .before .before .read-u32 .ensures .0, c .before .before .before .before .kind-listed .ensures, c .before .before .before .before .before .read-u64 .ensures) refl
+    let limit = c .before .before .before .before .before .before in
+    rw (c .flags-listed .ensures, c .before .fill-listed .ensures, limit .limit-listed .ensures, limit .before .read-u32 .ensures .0, limit .before .before .before .kind-listed .ensures, limit .before .before .before .before .read-u64 .ensures) refl
 
 pub record-listed-spec : {M : Type 1} → statement M
 record-listed-spec =
@@ -47,5 +63,10 @@ record-listed-spec =
     shared-slice-read-limit-listed
     read-u32-requires
     limit-listed-requires
+    shared-slice-read-fill-listed
+    shared-slice-read-fill-listed-2
+    shared-slice-read-fill-listed-3
+    shared-slice-read-fill-listed-4
+    fill-listed-requires
     flags-listed-requires
     returns)

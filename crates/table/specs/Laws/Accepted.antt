@@ -4,19 +4,20 @@ use mathlib.Core.Bool.{false, _||_, _&&_, Bool, true}
 use mathlib.Core.List.{List}
 use Prim.Native.Nat.{ℕ, zero, suc, _<_, _/_, _%_, _+_, _*_}
 use native.Mathlib.Omega.{arith}
-use lib.Dec.{T, leb, eqb, le→leb, eqb→eq, leb→le}
+use lib.Dec.{T, leb, eqb, le→leb, eqb→eq, leb→le, lt→ltb}
 use lib.ListN.{getD, drop, length}
 use borrow.Author.Tests.{ne-eqb}
 use Rattle.booleans.specs.Tests.{_and_}
 use Rattle.booleans.specs.Laws.{join-and, &&-both, or-false, both}
-use Rattle.table.specs.Numbers.{recordLength, mostRecords, mostChildren, wholeRun, mostLoops}
+use Rattle.table.specs.Numbers.{addresses, recordLength, mostRecords, mostChildren, wholeRun, mostLoops}
 use Rattle.table.specs.Trees.{Forest, nil, _▸_, size, records}
-use Rattle.table.specs.Questions.{arity, limitInRange, kindInRange, listed, listedIn}
+use Rattle.table.specs.Questions.{arity, isAddress, limitInRange, listed, listedIn, nodeInRange}
 use Rattle.table.specs.Bytes.{AreBytes}
 use Rattle.table.specs.Table.{mostFrom, numFrom, kindFrom, limitFrom, firstNode, childByte, field, firstOnes, afterOnes, forest, formTrees, each, top, decode, recordCount}
-use Rattle.table.specs.Checking.{IsTable, flagsListed, kindListed, limitListed, limitCount, recordListed, recordInRange, question1, question2, question3, question4, question5, question6, question7, questions, refusal}
+use Rattle.table.specs.Checking.{IsTable, kindListed, limitListed, limitCount, recordListed, recordInRange, question1, question2, question3, question4, question5, question6, question7, questions, refusal}
 use Rattle.table.specs.Laws.RoundTrip.{size-first, size-after, length-encode}
-use Rattle.table.specs.Laws.Canonical.{bytes-drop, encode-decode}
+use Rattle.table.specs.Laws.Canonical.{bytes-drop, encode-decode, listed-parts}
+use Rattle.table.specs.Laws.Reading.{field-4}
 use Rattle.table.specs.Laws.Asking.{Yes, all-yes, numbered}
 
 kind-arity : (k c s v : ℕ) → c < 256 → T (kindListed k c s v) → T (arity (kindFrom k (numFrom s v)) c)
@@ -39,17 +40,19 @@ limit-ranged (suc k) s m t c = join-and _ _ (go (leb 1 (suc k)) (leb (suc k) mos
     go true false d false q t = unfold _and_ in or-false d t
     go false b d false q t = unfold _and_ in or-false d t
 
+address-ok : (b : List ℕ) → AreBytes b → T (isAddress (firstNode b .address))
+unfolding isAddress firstNode
+address-ok b h = lt→ltb (field b 16 4) addresses (omega (arith, field-4 b 16, h 16, h 17, h 18, h 19))
+
 -- a record that passes questions 2 and 3
-record-ok : (b : List ℕ) → AreBytes b → T (recordListed b) → T (recordInRange b)
-    → T (kindInRange (firstNode b .kind)) × T (limitInRange (firstNode b .limit)) × T (arity (firstNode b .kind) (childByte b))
-unfolding recordInRange firstNode childByte
+record-ok : (b : List ℕ) → AreBytes b → T (recordListed b) → T (recordInRange b) → T (nodeInRange (firstNode b)) × T (arity (firstNode b .kind) (childByte b))
+unfolding recordInRange childByte
 record-ok b h t r =
-    let S = kindListed (getD b 0 0) (getD b 2 0) (getD b 1 0 % 2) (field b 8 8) in
-    let N = limitListed (getD b 3 0) (getD b 1 0 / 2) (field b 4 4) in
-    let q = &&-both (S && N) (flagsListed (getD b 1 0 / 2)) t in
-    let p = &&-both S N (q .0) in
-    let (x, y) = both _ _ r in
-    (x, limit-ranged (getD b 3 0) (getD b 1 0 / 2) (field b 4 4) (p .1) y, kind-arity (getD b 0 0) (getD b 2 0) (getD b 1 0 % 2) (field b 8 8) (h 2) (p .0))
+    let p = listed-parts b t in
+    let (x, y) = both _ _ r in (
+      join-and _ _ (join-and _ _ (address-ok b h) x) (unfold firstNode in limit-ranged (getD b 3 0) (getD b 1 0 / 2) (field b 4 4) (p .limit) (unfold firstNode in y)),
+      unfold firstNode in kind-arity (getD b 0 0) (getD b 2 0) (getD b 1 0 % 2) (field b 8 8) (h 2) (p .kind),
+    )
 
 first-listed : (n : ℕ) (f : Forest) → T (listedIn f) → T (listedIn (firstOnes n f))
 unfolding listed firstOnes
@@ -73,8 +76,8 @@ forest-listed (suc n) (suc k) b h l r t =
     let ih = forest-listed n (k + childByte b) (drop recordLength b) (bytes-drop b recordLength h) (p .1) (q .1) t in
     let f = forest n (drop recordLength b) in
     let s : size (firstOnes (childByte b) f) ≡ childByte b = size-first (childByte b) f (omega arith) in
-    let (x, y, z) = record-ok b h (p .0) (q .0) in (
-      join-and _ _ (join-and _ _ (join-and _ _ (join-and _ _ x y) (rw s z)) (first-listed (childByte b) f (ih .0))) (after-listed (childByte b) f (ih .0)),
+    let (x, z) = record-ok b h (p .0) (q .0) in (
+      join-and _ _ (join-and _ _ (join-and _ _ x (rw s z)) (first-listed (childByte b) f (ih .0))) (after-listed (childByte b) f (ih .0)),
       omega (arith, size-after (childByte b) f),
     )
 

@@ -9,10 +9,10 @@ use lib.ListN.{take, drop, length, length-drop, getD}
 use lib.Seq.{take-add, getD-drop, length-take-le, take-length}
 use borrow.Author.Tests.{lt-leb, ne-eqb}
 use Rattle.booleans.specs.Laws.{&&-both, both}
-use Rattle.table.specs.Numbers.{recordLength}
+use Rattle.table.specs.Numbers.{fill, recordLength}
 use Rattle.table.specs.Trees.{size, Forest, nil, _▸_}
 use Rattle.table.specs.Bytes.{AreBytes, toBytes, fromBytes}
-use Rattle.table.specs.Table.{recordBytes, firstNode, childByte, encodes, firstOnes, forest, formTrees, flag, numFrom, raw, mostField, mostFlags, mostFrom, kindByte, valueNum, kindFrom, loopByte, limitNum, limitFrom, field, each, encode, top, decode, recordCount}
+use Rattle.table.specs.Table.{filler, recordBytes, firstNode, childByte, encodes, firstOnes, forest, formTrees, flag, numFrom, raw, mostField, mostFlags, mostFrom, kindByte, valueNum, kindFrom, loopByte, limitNum, limitFrom, field, each, encode, top, decode, recordCount}
 use Rattle.table.specs.Checking.{flagsListed, kindListed, limitListed, recordListed}
 use Rattle.table.specs.Laws.Bytes.{to-from}
 use Rattle.table.specs.Laws.RoundTrip.{size-first, size-after, encodes-split}
@@ -103,20 +103,46 @@ take-four (x ∷ y ∷ []) h = absurd (omega arith)
 take-four (x ∷ y ∷ z ∷ []) h = absurd (omega arith)
 take-four (x ∷ y ∷ z ∷ w ∷ r) h = refl
 
-take-record : (b : List ℕ) → take recordLength b ≡ take 4 b ++ take 4 (drop 4 b) ++ take 8 (drop 8 b)
-take-record b = take-add 8 8 b ∙ ap (λ x. x ++ take 8 (drop 8 b)) (take-add 4 4 b)
+take-record : (b : List ℕ) → take recordLength b ≡ take 4 b ++ take 4 (drop 4 b) ++ take 8 (drop 8 b) ++ take 4 (drop 16 b) ++ take 4 (drop 20 b)
+take-record b = take-add 20 4 b ∙ rw (take-add 16 4 b, take-add 8 8 b, take-add 4 4 b) refl
+
+-- what question 2 asks of the first record, taken apart
+pub record Listed (b : List ℕ) : Type 0 where
+  pub kind : T (kindListed (getD b 0 0) (getD b 2 0) (getD b 1 0 % 2) (field b 8 8))
+  pub limit : T (limitListed (getD b 3 0) (getD b 1 0 / 2) (field b 4 4))
+  pub flags : T (flagsListed (getD b 1 0 / 2))
+  pub fill : (getD b 20 0 ≡ fill) × (getD b 21 0 ≡ fill) × (getD b 22 0 ≡ fill) × (getD b 23 0 ≡ fill)
+
+pub listed-parts : (b : List ℕ) → T (recordListed b) → Listed b
+listed-parts b t =
+    let S = kindListed (getD b 0 0) (getD b 2 0) (getD b 1 0 % 2) (field b 8 8) in
+    let N = limitListed (getD b 3 0) (getD b 1 0 / 2) (field b 4 4) in
+    let F = flagsListed (getD b 1 0 / 2) in
+    let W = eqb (getD b 20 0) fill in
+    let X = eqb (getD b 21 0) fill in
+    let Y = eqb (getD b 22 0) fill in
+    let Z = eqb (getD b 23 0) fill in
+    let (r, u) = &&-both (S && N && F) (W && X && Y && Z) t in
+    let (q, f) = &&-both (S && N) F r in
+    let (s, n) = &&-both S N q in
+    let (wxy, z) = &&-both (W && X && Y) Z u in
+    let (wx, y) = &&-both (W && X) Y wxy in
+    let (w, x) = &&-both W X wx in
+    record { kind = s; limit = n; flags = f; fill = (eqb→eq _ _ w, eqb→eq _ _ x, eqb→eq _ _ y, eqb→eq _ _ z) }
+
+fill-four : (b : List ℕ) → recordLength ≤ length b → Listed b → take 4 (drop 20 b) ≡ filler
+fill-four b l h =
+    let (w, x, y, z) = h .fill in
+    take-four (drop 20 b) (rw length-drop (omega arith)) ∙ simp (getD-drop, w, x, y, z)
 
 pub plain-listed : (b : List ℕ) → AreBytes b → recordLength ≤ length b → T (recordListed b) → OneWay b
 unfolding recordBytes firstNode childByte
 plain-listed b h l t =
-    let S = kindListed (getD b 0 0) (getD b 2 0) (getD b 1 0 % 2) (field b 8 8) in
-    let N = limitListed (getD b 3 0) (getD b 1 0 / 2) (field b 4 4) in
-    let q = &&-both (S && N) (flagsListed (getD b 1 0 / 2)) t in
-    let p = &&-both S N (q .0) in
-    let k = kind-back (getD b 0 0) (getD b 2 0) (getD b 1 0 % 2) (field b 8 8) (p .0) (omega arith) in
-    let m = limit-back (getD b 3 0) (getD b 1 0 / 2) (field b 4 4) (p .1) (q .1) in
+    let p = listed-parts b t in
+    let k = kind-back (getD b 0 0) (getD b 2 0) (getD b 1 0 % 2) (field b 8 8) (p .kind) (omega arith) in
+    let m = limit-back (getD b 3 0) (getD b 1 0 / 2) (field b 4 4) (p .limit) (p .flags) in
     let g : getD b 1 0 % 2 + 2 * (getD b 1 0 / 2) ≡ getD b 1 0 = omega arith in
-    rw (k .0, k .1, k .2, m .0, m .1, m .2, g, field-back b 4 4 h (omega arith), field-back b 8 8 h (omega arith), take-record b, take-four b (omega arith))
+    rw (k .0, k .1, k .2, m .0, m .1, m .2, g, field-back b 4 4 h (omega arith), field-back b 8 8 h (omega arith), field-back b 16 4 h (omega arith), take-record b, take-four b (omega arith), fill-four b l p)
 
 pub plain-all : (n : ℕ) (b : List ℕ) → AreBytes b → recordLength * n ≤ length b → T (each recordListed n b) → OneWayAll n b
 unfolding OneWayAll each

@@ -10,9 +10,9 @@ use lib.ListN.{length}
 use Rattle.table.specs.Nodes.{Number, Plain, Symbol, Most, Kind, Block, Sequence, Choice, Loop, Limit, Unlimited, AtMost, Node}
 use Rattle.booleans.specs.Tests.{_and_}
 use Rattle.booleans.specs.Laws.{both, or-left, &&-join, join-and}
-use Rattle.table.specs.Numbers.{mostChildren, wholeRun, mostLoops, mostDepth, mostWeight, recordLength, mostRecords, mostTime, mostCount, firstTimeSymbol, howManySymbols}
+use Rattle.table.specs.Numbers.{addresses, mostChildren, wholeRun, mostLoops, mostDepth, mostWeight, recordLength, mostRecords, mostTime, mostCount, firstTimeSymbol, howManySymbols}
 use Rattle.table.specs.Trees.{Tree, node, Forest, nil, _▸_, size, records, recordsIn}
-use Rattle.table.specs.Questions.{timeInRange, countInRange, mostInRange, kindInRange, limitInRange, listed, listedIn, arity, depth, loops, named, weight, Accepted}
+use Rattle.table.specs.Questions.{timeInRange, countInRange, mostInRange, isAddress, kindInRange, limitInRange, nodeInRange, listed, listedIn, arity, depth, loops, named, weight, Accepted}
 use Rattle.table.specs.Bytes.{toBytes, fromBytes}
 use Rattle.table.specs.Table.{raw, flag, mostField, mostFlags, kindByte, valueNum, loopByte, limitNum, recordBytes, each, encode, encodes, formTrees, decode, recordCount}
 use Rattle.table.specs.Checking.{flagsListed, kindListed, limitListed, recordListed, limitCount, recordInRange, question1, question2, question3, question4, question5, question6, question7, questions, refusal}
@@ -55,8 +55,12 @@ limit-writes Unlimited t = tt
 limit-writes (AtMost zero m) t = absurd (none-named (both ((false and true) || false) (mostInRange m) t .0))
 limit-writes (AtMost (suc k) m) t = (omega arith, most-writes m (both _ _ t .1))
 
-node-writes : (n : Node) → T (kindInRange (n .kind)) → T (limitInRange (n .limit)) → WritesNode n
-node-writes n a b = record { kind = kind-writes (n .kind) a; limit = limit-writes (n .limit) b }
+node-writes : (n : Node) → T (nodeInRange n) → WritesNode n
+unfolding isAddress
+node-writes n h =
+    let (p, l) = both _ _ h in
+    let (a, k) = both _ _ p in
+    record { kind = kind-writes (n .kind) k; limit = limit-writes (n .limit) l; address = ltb→lt (n .address) addresses a }
 
 mutual
   unfolding listed Writes
@@ -64,9 +68,7 @@ mutual
   pub tree-writes : (t : Tree) → T (listed t) → Writes t
   tree-writes (node n f) h =
       let (p, c) = both _ _ h in
-      let (q, e) = both _ _ p in
-      let (a, b) = both _ _ q in
-      (node-writes n a b, forest-writes f c)
+      (node-writes n (both _ _ p .0), forest-writes f c)
 
   forest-writes : (f : Forest) → T (listedIn f) → WritesAll f
   forest-writes nil h = tt
@@ -106,27 +108,31 @@ flags-ok (Most.Triangular s) = tt
 listed-fields : (k : Kind) (l : Limit) (c : ℕ) → WritesKind k → WritesLimit l → T (arity k c) → T (limitInRange l)
     → T (kindListed (kindByte k) c ((flag (valueNum k) + 2 * mostFlags (limitNum l)) % 2) (fromBytes (toBytes 8 (raw (valueNum k))))
     && limitListed (loopByte l) ((flag (valueNum k) + 2 * mostFlags (limitNum l)) / 2) (fromBytes (toBytes 4 (mostField (limitNum l))))
-    && flagsListed ((flag (valueNum k) + 2 * mostFlags (limitNum l)) / 2))
+    && flagsListed ((flag (valueNum k) + 2 * mostFlags (limitNum l)) / 2)
+    && true)
 listed-fields k l c x y a b =
     let S = kindListed (kindByte k) c (flag (valueNum k)) (raw (valueNum k)) in
     let N = limitListed (loopByte l) (mostFlags (limitNum l)) (mostField (limitNum l)) in
     rw (flag-low (valueNum k) (mostFlags (limitNum l)), flag-high (valueNum k) (mostFlags (limitNum l)), kind-value k x .0, limit-most l y .0)
-    (&&-join (S && N) _ (&&-join S N (shape-ok k c a) (names-ok l b)) (flags-ok (limitNum l)))
+    (&&-join (S && N && flagsListed (mostFlags (limitNum l))) true (&&-join (S && N) _ (&&-join S N (shape-ok k c a) (names-ok l b)) (flags-ok (limitNum l))) tt)
 
-record-listed : (n : Node) (c : ℕ) (r : List ℕ) → T (kindInRange (n .kind)) → T (limitInRange (n .limit)) → T (arity (n .kind) c) → T (recordListed (recordBytes n c ++ r))
+record-listed : (n : Node) (c : ℕ) (r : List ℕ) → T (nodeInRange n) → T (arity (n .kind) c) → T (recordListed (recordBytes n c ++ r))
 unfolding recordBytes toBytes
-record-listed n c r a b e = listed-fields (n .kind) (n .limit) c (kind-writes _ a) (limit-writes _ b) e b
+record-listed n c r h e =
+    let w = node-writes n h in
+    listed-fields (n .kind) (n .limit) c (w .kind) (w .limit) e (both _ _ h .1)
 
 limit-counts : (l : Limit) → T (limitInRange l) → T (limitCount l)
 unfolding limitInRange limitCount
 limit-counts Unlimited h = tt
 limit-counts (AtMost k m) h = both ((leb 1 k and leb k mostLoops) || eqb k wholeRun) (mostInRange m) h .1
 
-record-ranged : (n : Node) (c : ℕ) (r : List ℕ) → T (kindInRange (n .kind)) → T (limitInRange (n .limit)) → T (arity (n .kind) c) → T (recordInRange (recordBytes n c ++ r))
+record-ranged : (n : Node) (c : ℕ) (r : List ℕ) → T (nodeInRange n) → T (arity (n .kind) c) → T (recordInRange (recordBytes n c ++ r))
 unfolding recordInRange
-record-ranged n c r a b e =
-    subst (λ m. T (kindInRange (m .kind) and limitCount (m .limit))) (sym (head-bytes n c r (node-writes n a b)))
-    (join-and _ _ a (limit-counts (n .limit) b))
+record-ranged n c r h e =
+    let (p, l) = both _ _ h in
+    subst (λ m. T (kindInRange (m .kind) and limitCount (m .limit))) (sym (head-bytes n c r (node-writes n h)))
+    (join-and _ _ (both _ _ p .1) (limit-counts (n .limit) l))
 
 -- ---- all records of a tree
 
@@ -134,7 +140,7 @@ each-next : (p : List ℕ → Bool) (k : ℕ) (n : Node) (c : ℕ) (r : List ℕ
 unfolding each
 each-next p k n c r h i = join-and _ _ h (subst (λ x. T (each p k x)) (sym (drop-bytes n c r)) i)
 
-module _ (p : List ℕ → Bool) (h : (n : Node) (c : ℕ) (r : List ℕ) → T (kindInRange (n .kind)) → T (limitInRange (n .limit)) → T (arity (n .kind) c) → T (p (recordBytes n c ++ r))) where
+module _ (p : List ℕ → Bool) (h : (n : Node) (c : ℕ) (r : List ℕ) → T (nodeInRange n) → T (arity (n .kind) c) → T (p (recordBytes n c ++ r))) where
   mutual
     unfolding listed encode records
 
@@ -142,8 +148,7 @@ module _ (p : List ℕ → Bool) (h : (n : Node) (c : ℕ) (r : List ℕ) → T 
     each-tree (node n f) l m r e =
         let (x, c) = both _ _ l in
         let (y, a) = both _ _ x in
-        let (k, b) = both _ _ y in
-        rw (suc-add, append-assoc) (each-next p (recordsIn f + m) n (size f) (encodes f ++ r) (h n (size f) (encodes f ++ r) k b a) (each-forest f c m r e))
+        rw (suc-add, append-assoc) (each-next p (recordsIn f + m) n (size f) (encodes f ++ r) (h n (size f) (encodes f ++ r) y a) (each-forest f c m r e))
 
     each-forest : (f : Forest) → T (listedIn f) → (m : ℕ) (r : List ℕ) → T (each p m r) → T (each p (recordsIn f + m) (encodes f ++ r))
     each-forest nil l m r e = rw zero-add e
@@ -173,7 +178,7 @@ reads-back t l = decode-encode t (tree-writes t l)
 count-records : (t : Tree) → recordCount (encode t) ≡ records t + 0
 count-records t = rw length-encode (omega arith)
 
-whole-each : (p : List ℕ → Bool) → ((n : Node) (c : ℕ) (r : List ℕ) → T (kindInRange (n .kind)) → T (limitInRange (n .limit)) → T (arity (n .kind) c) → T (p (recordBytes n c ++ r)))
+whole-each : (p : List ℕ → Bool) → ((n : Node) (c : ℕ) (r : List ℕ) → T (nodeInRange n) → T (arity (n .kind) c) → T (p (recordBytes n c ++ r)))
     → (t : Tree) → T (listed t) → T (each p (recordCount (encode t)) (encode t))
 whole-each p h t l = rw (count-records t) (rw (← append-nil (encode t)) (each-tree p h t l 0 [] (unfold each in tt)))
 

@@ -62,6 +62,7 @@ WritesKind (Loop v) = WritesNum v
 pub record WritesNode (n : Node) : Type 0 where
   pub kind : WritesKind (n .kind)
   pub limit : WritesLimit (n .limit)
+  pub address : n .address < 256 ^ 4
 
 num-flag : (n : Number) (x : ℕ) → x ≡ raw n → numFrom (flag n) x ≡ n
 unfolding numFrom flag
@@ -109,6 +110,7 @@ unfolding firstNode recordBytes toBytes
 head-bytes n c r h = λ i. record {
   kind = head-kind (n .kind) (mostFlags (limitNum (n .limit))) (h .kind) i;
   limit = head-limit (valueNum (n .kind)) (n .limit) (h .limit) i;
+  address = from-to 4 (n .address) (h .address) i;
 }
 
 pub length-bytes : (n : Node) (c : ℕ) → length (recordBytes n c) ≡ recordLength

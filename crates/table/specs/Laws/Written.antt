@@ -12,7 +12,7 @@ use Rattle.table.specs.Numbers.{mostChildren, mostLoops, wholeRun}
 use Rattle.table.specs.Trees.{Tree, node, Forest, nil, _▸_, size}
 use Rattle.table.specs.Questions.{arity, limitInRange, listed, listedIn}
 use Rattle.table.specs.Bytes.{toBytes, AreBytes}
-use Rattle.table.specs.Table.{flag, raw, mostField, mostFlags, kindByte, valueNum, loopByte, limitNum, recordBytes, encode, encodes}
+use Rattle.table.specs.Table.{filler, flag, raw, mostField, mostFlags, kindByte, valueNum, loopByte, limitNum, recordBytes, encode, encodes}
 use Rattle.table.specs.Laws.Bytes.{bytes-to, bytes-append}
 use Rattle.table.specs.Laws.RoundTrip.{flag-small}
 
@@ -58,9 +58,16 @@ record-bytes n c l a =
     let v = valueNum (n .kind) in
     let m = limitNum (n .limit) in
     let front : List ℕ = kindByte (n .kind) ∷ (flag v + 2 * mostFlags m) ∷ c ∷ loopByte (n .limit) ∷ [] in
-    bytes-append (front ++ toBytes 4 (mostField m)) (toBytes 8 (raw v))
+    let limited = front ++ toBytes 4 (mostField m) in
+    let valued = limited ++ toBytes 8 (raw v) in
+    let addressed = valued ++ toBytes 4 (n .address) in
+    bytes-append addressed filler
+    (bytes-append valued (toBytes 4 (n .address))
+    (bytes-append limited (toBytes 8 (raw v))
     (bytes-append front (toBytes 4 (mostField m)) (four-bytes _ _ _ _ (kind-byte (n .kind)) (flags-byte v m) (few-children (n .kind) c a) (loop-byte (n .limit) l)) (bytes-to 4 (mostField m)))
-    (bytes-to 8 (raw v))
+    (bytes-to 8 (raw v)))
+    (bytes-to 4 (n .address)))
+    (four-bytes _ _ _ _ (omega arith) (omega arith) (omega arith) (omega arith))
 
 mutual
   unfolding listed encode

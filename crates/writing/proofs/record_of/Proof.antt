@@ -28,50 +28,62 @@ flag-of-requires c κs = search needs
 most-flags-requires : tie.Need-most-flags-requires
 most-flags-requires c κs = search needs
 
-mul-t12 : tie.Need-mul-t12
-mul-t12 c = search needs
+mul-t13 : tie.Need-mul-t13
+mul-t13 c = search needs
 
-add-t13 : tie.Need-add-t13
-add-t13 c = search needs
+add-t14 : tie.Need-add-t14
+add-t14 c = search needs
 
 loop-byte-requires : tie.Need-loop-byte-requires
 loop-byte-requires c κs = search needs
 
-cast-t16 : tie.Need-cast-t16
-cast-t16 c = search needs
+cast-t17 : tie.Need-cast-t17
+cast-t17 c = search needs
 
-cast-t19 : tie.Need-cast-t19
-cast-t19 c = search needs
+cast-t20 : tie.Need-cast-t20
+cast-t20 c = search needs
 
-cast-t23 : tie.Need-cast-t23
-cast-t23 c = search needs
+cast-t24 : tie.Need-cast-t24
+cast-t24 c = search needs
 
-cast-t28 : tie.Need-cast-t28
-cast-t28 c = search needs
+cast-t29 : tie.Need-cast-t29
+cast-t29 c = search needs
 
-cast-t30 : tie.Need-cast-t30
-cast-t30 c = search needs
+cast-t31 : tie.Need-cast-t31
+cast-t31 c = search needs
 
-cast-t33 : tie.Need-cast-t33
-cast-t33 c = search needs
+cast-t34 : tie.Need-cast-t34
+cast-t34 c = search needs
 
-cast-t37 : tie.Need-cast-t37
-cast-t37 c = search needs
+cast-t38 : tie.Need-cast-t38
+cast-t38 c = search needs
 
-cast-t42 : tie.Need-cast-t42
-cast-t42 c = search needs
+cast-t43 : tie.Need-cast-t43
+cast-t43 c = search needs
 
-cast-t48 : tie.Need-cast-t48
-cast-t48 c = search needs
+cast-t49 : tie.Need-cast-t49
+cast-t49 c = search needs
 
-cast-t55 : tie.Need-cast-t55
-cast-t55 c = search needs
+cast-t56 : tie.Need-cast-t56
+cast-t56 c = search needs
 
-cast-t63 : tie.Need-cast-t63
-cast-t63 c = search needs
+cast-t64 : tie.Need-cast-t64
+cast-t64 c = search needs
 
-cast-t72 : tie.Need-cast-t72
-cast-t72 c = search needs
+cast-t73 : tie.Need-cast-t73
+cast-t73 c = search needs
+
+cast-t75 : tie.Need-cast-t75
+cast-t75 c = search needs
+
+cast-t78 : tie.Need-cast-t78
+cast-t78 c = search needs
+
+cast-t82 : tie.Need-cast-t82
+cast-t82 c = search needs
+
+cast-t87 : tie.Need-cast-t87
+cast-t87 c = search needs
 
 returns : tie.Need-returns
 unfolding toBytes
@@ -102,19 +114,23 @@ record-of-spec =
     kind-byte-requires
     flag-of-requires
     most-flags-requires
-    mul-t12
-    add-t13
+    mul-t13
+    add-t14
     loop-byte-requires
-    cast-t16
-    cast-t19
-    cast-t23
-    cast-t28
-    cast-t30
-    cast-t33
-    cast-t37
-    cast-t42
-    cast-t48
-    cast-t55
-    cast-t63
-    cast-t72
+    cast-t17
+    cast-t20
+    cast-t24
+    cast-t29
+    cast-t31
+    cast-t34
+    cast-t38
+    cast-t43
+    cast-t49
+    cast-t56
+    cast-t64
+    cast-t73
+    cast-t75
+    cast-t78
+    cast-t82
+    cast-t87
     returns)

@@ -8,14 +8,14 @@ use lib.ListN.{getD, length, set, take}
 use lib.Seq.{length-paste, paste, paste-suc, paste-zero, take-paste}
 use Rattle.table.specs.Numbers.{recordLength}
 use Rattle.table.specs.Bytes.{toBytes}
-use Rattle.table.specs.Table.{flag, kindByte, limitNum, loopByte, mostField, mostFlags, raw, recordBytes, valueNum}
+use Rattle.table.specs.Table.{filler, flag, kindByte, limitNum, loopByte, mostField, mostFlags, raw, recordBytes, valueNum}
 use Rattle.table.specs.declared.Node.{Node}
 use Rattle.writing.specs.Records.{front}
 
 -- ---- a record's bytes
 
 pub record-parts : (n : Node) (c : ℕ) {b f g k v m : ℕ} → b ≡ kindByte (n .kind) → f ≡ flag (valueNum (n .kind)) → g ≡ mostFlags (limitNum (n .limit)) → k ≡ loopByte (n .limit)
-    → v ≡ raw (valueNum (n .kind)) → m ≡ mostField (limitNum (n .limit)) → (b ∷ (f + 2 * g) ∷ c ∷ k ∷ []) ++ toBytes 4 m ++ toBytes 8 v ≡ recordBytes n c
+    → v ≡ raw (valueNum (n .kind)) → m ≡ mostField (limitNum (n .limit)) → (b ∷ (f + 2 * g) ∷ c ∷ k ∷ []) ++ toBytes 4 m ++ toBytes 8 v ++ toBytes 4 (n .address) ++ filler ≡ recordBytes n c
 unfolding recordBytes
 record-parts n c eb ef eg ek ev em = rw (eb, ef, eg, ek, ev, em) refl
 
