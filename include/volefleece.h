@@ -80,6 +80,19 @@ typedef struct {
 vf_grafted vf_graft(const uint8_t *host, size_t host_len, const uint8_t *sent, size_t sent_len, uint64_t symbol, uint8_t *out,
                     size_t out_len);
 
+/* What converting a former table answers. */
+typedef struct {
+    uint64_t refused; /* 0 if a table was written, else the number of the question that says no, 1 or 8 */
+    uint64_t length;  /* how many bytes were written, 0 if it is refused */
+} vf_converted;
+
+/* Former tables had records of 16 bytes, without an address. Writes the table of a former one over the front of out: each record
+   with address 0 and the four bytes of 255 behind it, so that the table is half as long again. Puts question 1 as it was, the length
+   is a multiple of 16 from 16 to 8,192; and 8, out is at least as long as the result. Nothing else is asked: every byte of the former
+   records is kept, and checking, the figure and the list answer for the written table what they did for the former one. Nothing of
+   out past the written bytes changes, and nothing at all on a refusal. */
+vf_converted vf_convert(const uint8_t *old_table, size_t old_len, uint8_t *out, size_t out_len);
+
 #ifdef __cplusplus
 }
 #endif

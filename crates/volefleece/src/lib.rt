@@ -1,4 +1,5 @@
 // The C interface: thin wrappers of the outside calls, whose answers become structs of numbers. include/volefleece.h declares them.
+use former::Conversion;
 use graft::Grafted;
 use quoting::Checked;
 use quoting::Listed;
@@ -6,6 +7,7 @@ use quoting::Quote;
 use simplifying::Ending;
 use simplifying::Simplified;
 ghost use mathlib.Core.Path.{_≡_};
+ghost use lib.Dec.{T};
 ghost use lib.ListN.{take};
 ghost use Rattle.quoting.specs.Answers.{checkAnswer, figureAnswer, listAnswer, listedRefusal, listedPairs, listWrites};
 ghost use Rattle.quoting.specs.Promises.{Listing};
@@ -16,6 +18,9 @@ ghost use Rattle.simplifying.specs.Answers.{finishedNumber, simplifyAnswer, sim
 ghost use Rattle.simplifying.specs.Demand.{Demand3};
 ghost use Rattle.graft.specs.Answers.{graftAnswer, graftWrites, graftedLength, graftedRefusal};
 ghost use Rattle.graft.specs.Promises.{GraftPromised};
+ghost use Rattle.former.specs.Former.{formerLong};
+ghost use Rattle.former.specs.Converted.{Converts, conversionLength, conversionRefusal, convertAnswer, convertWrites};
+ghost use Rattle.formerquotes.specs.Answers.{Agrees};
 ghost use Rattle.volefleece.specs.Numbers.{BranchPromised, CheckedAs, FigurePromised, FigureRises, QuotedAs, SimplifiedAs};
 ghost use Rattle.volefleece.specs.BothDesks.{AskedInC, quotedBy, simplifiedBy};
 
@@ -156,6 +161,34 @@ pub extern "C" fn vf_graft(host: &[u8], sent: &[u8], symbol: u64, out: &mut [u8]
         },
         Grafted::Refused(question) => VfGrafted {
             refused: question,
+            length: 0,
+        },
+    }
+}
+
+// ---- Former tables
+
+#[repr(C)]
+pub struct VfConverted {
+    pub refused: u64,
+    pub length: u64,
+}
+
+#[no_mangle]
+pub extern "C" fn vf_convert(old: &[u8], out: &mut [u8]) -> VfConverted
+    ensures answer { λ r. ⌜ (r .refused ≡ conversionRefusal (convertAnswer (now (old .entry)) (now (out .entry)))) × (r .length ≡ conversionLength (convertAnswer (now (old .entry)) (now (out .entry)))) ⌝ }
+    ensures written { λ _. ⌜ now (out .exit) ≡ over (convertWrites (now (old .entry)) (now (out .entry))) (now (out .entry)) ⌝ }
+    ensures promise { λ _. ⌜ Converts (now (old .entry)) ⌝ }
+    ensures quotes { λ _. ⌜ (T (formerLong (now (old .entry))) → Agrees (now (old .entry))) ⌝ }
+{
+    let answer = former::convert(old, out);
+    match answer {
+        Conversion::Written(len) => VfConverted {
+            refused: 0,
+            length: len as u64,
+        },
+        Conversion::Refused(no) => VfConverted {
+            refused: no,
             length: 0,
         },
     }

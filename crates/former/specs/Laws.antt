@@ -1,0 +1,5 @@
+-- Laws, in the order in which they lean on each other.
+pub mod Records
+pub mod Converted
+pub mod Apart
+pub mod Converting

@@ -1,0 +1,95 @@
+-- The table that is made of a former one: its tree is the former one's, and each of questions 1 to 7 says of it what it said of that.
+use mathlib.Core.Path.{_≡_, refl, ap, sym, subst, _∙_}
+use mathlib.Core.Bool.{Bool}
+use mathlib.Core.List.{List, _++_}
+use Prim.Native.Nat.{ℕ, zero, suc, _+_, _*_, _≤_, _%_}
+use native.Mathlib.Omega.{arith}
+use lib.Dec.{T, leb→le, eqb, le→leb}
+use lib.ListN.{drop, length, length-append, length-drop}
+use Rattle.booleans.specs.Laws.{T-is, both, join-and}
+use Rattle.booleans.specs.Tests.{_and_}
+use Rattle.table.specs.Asking.{firstNo}
+use Rattle.table.specs.Checking.{fieldsListed, question1, question2, question3, question4, question5, question6, question7, questions, recordInRange, recordListed, refusal}
+use Rattle.table.specs.Numbers.{mostRecords, recordLength}
+use Rattle.table.specs.Table.{decode, each, forest, formTrees, recordCount, top}
+use Rattle.former.specs.Former.{formerCount, formerEach, formerForest, formerForm, formerLength, formerLong, formerQuestions, formerRefusal, formerTree}
+use Rattle.former.specs.Converted.{newRecord, newTable, converted}
+use Rattle.former.specs.Laws.Records.{next, record-long, same-children, same-listed, same-node, same-range}
+
+fewer : (n : ℕ) (b : List ℕ) → formerLength * suc n ≤ length b → formerLength * n ≤ length (drop formerLength b)
+fewer n b l = rw length-drop (omega arith)
+
+pub converted-long : (n : ℕ) (b : List ℕ) → formerLength * n ≤ length b → length (converted n b) ≡ recordLength * n
+unfolding converted
+converted-long zero b l = refl
+converted-long (suc n) b l =
+    length-append (newRecord b) (converted n (drop formerLength b))
+    ∙ omega (arith, record-long b (omega arith), converted-long n (drop formerLength b) (fewer n b l))
+
+-- ---- record after record
+
+pub each-same : (p q : List ℕ → Bool) → ((b r : List ℕ) → formerLength ≤ length b → p (newRecord b ++ r) ≡ q b) → (n : ℕ) (b : List ℕ) → formerLength * n ≤ length b
+    → each p n (converted n b) ≡ formerEach q n b
+unfolding each formerEach converted
+each-same p q h zero b l = refl
+each-same p q h (suc n) b l =
+    let r = converted n (drop formerLength b) in
+    rw (h b r (omega arith), next b r (omega arith), each-same p q h n (drop formerLength b) (fewer n b l)) refl
+
+form-same : (n k : ℕ) (b : List ℕ) → formerLength * n ≤ length b → formTrees n k (converted n b) ≡ formerForm n k b
+unfolding formTrees formerForm converted
+form-same zero k b l = refl
+form-same (suc n) zero b l = refl
+form-same (suc n) (suc k) b l =
+    let r = converted n (drop formerLength b) in
+    rw (same-children b r (omega arith), next b r (omega arith)) (form-same n _ (drop formerLength b) (fewer n b l))
+
+forest-same : (n : ℕ) (b : List ℕ) → formerLength * n ≤ length b → forest n (converted n b) ≡ formerForest n b
+unfolding forest formerForest converted
+forest-same zero b l = refl
+forest-same (suc n) b l =
+    let r = converted n (drop formerLength b) in
+    rw (same-node b r (omega arith), same-children b r (omega arith), next b r (omega arith), forest-same n (drop formerLength b) (fewer n b l)) refl
+
+-- ---- the whole table
+
+module _ (b : List ℕ) where
+  whole : formerLength * formerCount b ≤ length b
+  whole = omega arith
+
+  pub same-count : recordCount (newTable b) ≡ formerCount b
+  same-count = rw (converted-long (formerCount b) b whole) (omega arith)
+
+  pub same-each : (p q : List ℕ → Bool) → ((c r : List ℕ) → formerLength ≤ length c → p (newRecord c ++ r) ≡ q c) → each p (recordCount (newTable b)) (newTable b) ≡ formerEach q (formerCount b) b
+  same-each p q h = rw same-count (each-same p q h (formerCount b) b whole)
+
+  pub same-tree : decode (newTable b) ≡ formerTree b
+  unfolding decode formerTree
+  same-tree = rw same-count (ap top (forest-same (formerCount b) b whole))
+
+  long-enough : T (formerLong b) → T (question1 (newTable b))
+  unfolding formerLong question1
+  long-enough h =
+      let (p, s) = both _ _ h in
+      let (z, o) = both _ _ p in
+      let w = converted-long (formerCount b) b whole in
+      let few : length b ≤ formerLength * mostRecords = leb→le _ _ s in
+      let some : formerLength ≤ length b = leb→le _ _ o in
+      let even : length (newTable b) % recordLength ≡ 0 = omega arith in
+      let least : recordLength ≤ length (newTable b) = omega arith in
+      let most : length (newTable b) ≤ recordLength * mostRecords = omega arith in
+      join-and _ _ (join-and _ _ (subst (λ x. T (eqb x 0)) (sym even) tt) (le→leb _ _ least)) (le→leb _ _ most)
+
+  pub same-questions : T (formerLong b) → questions (newTable b) ≡ formerQuestions b
+  unfolding questions formerQuestions question2 question3 question4 question5 question6 question7
+  same-questions h =
+      let one : question1 (newTable b) ≡ formerLong b = T-is _ (long-enough h) ∙ sym (T-is _ h) in
+      let two = same-each recordListed fieldsListed same-listed in
+      let three = same-each recordInRange recordInRange same-range in
+      let four : formTrees (recordCount (newTable b)) 1 (newTable b) ≡ formerForm (formerCount b) 1 b = rw same-count (form-same (formerCount b) 1 b whole) in
+      rw (one, two, three, four, same-tree) refl
+
+  -- so the refusal's number is the former one, and an accepted table stays accepted
+  pub same-refusal : T (formerLong b) → refusal (newTable b) ≡ formerRefusal b
+  unfolding refusal formerRefusal
+  same-refusal h = ap firstNo (same-questions h)

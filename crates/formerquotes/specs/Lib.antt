@@ -1,0 +1,4 @@
+-- Definitions.
+pub mod Answers
+-- What is proved of them.
+pub mod Laws

@@ -1,0 +1,4 @@
+-- Definitions.
+pub mod Buffers
+-- What is proved of them.
+pub mod Laws
