@@ -1,13 +1,20 @@
 //! Safe calls of the proved volefleece library, which quotes the most processor cycles a battery door lock can stay awake for one opening.
 //!
-//! A table is 16-byte records and values are 32 numbers; docs/FORMAT.md has all of it. Each call answers what its contract in
+//! A table is 24-byte records and values are 32 numbers; docs/FORMAT.md has all of it. Each call answers what its contract in
 //! crates/volefleece promises, or the first question that says no as a [`Refusal`]. A call wants less than 192 KiB of stack, as measured
 //! (docs/BENCHMARKS.md).
 //!
 //! ```
+//! /// A record without a limit, at address 0.
+//! fn record(kind: u8, flags: u8, children: u8, value: u8) -> [u8; volefleece::RECORD_BYTES] {
+//!     let mut record = [0; volefleece::RECORD_BYTES];
+//!     (record[0], record[1], record[2], record[8]) = (kind, flags, children, value);
+//!     record[20..].fill(255);
+//!     record
+//! }
+//!
 //! // A choice of two blocks: 7 cycles, and symbol 16.
-//! let mut table = [0; 48];
-//! (table[0], table[2], table[24], table[33], table[40]) = (2, 2, 7, 1, 16);
+//! let table = [record(2, 0, 2, 0), record(0, 0, 0, 7), record(0, 1, 0, 16)].concat();
 //! let mut values = [0; volefleece::VALUES];
 //! values[16] = 90;
 //!
@@ -24,12 +31,12 @@ mod refusal;
 #[allow(missing_docs)]
 pub mod raw;
 
-pub use refusal::Refusal;
+pub use refusal::{FormerLength, Refusal};
 
 /// The bytes of a record.
-pub const RECORD_BYTES: usize = 16;
+pub const RECORD_BYTES: usize = 24;
 /// The bytes of the longest table.
-pub const MOST_TABLE: usize = 8_192;
+pub const MOST_TABLE: usize = 12_288;
 /// How many values a quoting call wants.
 pub const VALUES: usize = 32;
 /// The first symbol that stands for a time; those before it stand for counts, as bounds and limits.
@@ -87,9 +94,10 @@ pub struct Simplified {
 /// Puts questions 1 to 7 to a table, and answers how many records it has.
 ///
 /// ```
-/// let block = [0; 16];
+/// let mut block = [0; volefleece::RECORD_BYTES];
+/// assert_eq!(volefleece::check(&block), Err(volefleece::Refusal::Fields));
+/// block[20..].fill(255);
 /// assert_eq!(volefleece::check(&block), Ok(1));
-/// assert_eq!(volefleece::check(&[9; 16]), Err(volefleece::Refusal::Fields));
 /// ```
 pub fn check(table: &[u8]) -> Result<usize, Refusal> {
     let answer = raw::check(table);
@@ -100,8 +108,9 @@ pub fn check(table: &[u8]) -> Result<usize, Refusal> {
 /// Puts questions 1 to 7, 9, 13 and 10, and answers the figure and the branch that sets it.
 ///
 /// ```
-/// let mut block = [0; 16];
+/// let mut block = [0; volefleece::RECORD_BYTES];
 /// block[8] = 7;
+/// block[20..].fill(255);
 /// let quote = volefleece::figure(&block, &[0; volefleece::VALUES])?;
 /// assert_eq!((quote.figure, quote.branch), (7, None));
 /// # Ok::<(), volefleece::Refusal>(())
@@ -120,8 +129,9 @@ pub fn figure(table: &[u8], values: &[u64]) -> Result<Quote, Refusal> {
 ///
 /// ```
 /// // A block of 7 cycles, which passes at most 3 times in a run.
-/// let mut block = [0; 16];
+/// let mut block = [0; volefleece::RECORD_BYTES];
 /// (block[3], block[4], block[8]) = (255, 3, 7);
+/// block[20..].fill(255);
 /// let list = volefleece::list(&block, &[0; volefleece::VALUES])?;
 /// let pairs: Vec<_> = list.iter().map(|members| (members.value, members.count)).collect();
 /// assert_eq!(pairs, [(7, Some(3)), (0, None)]);
@@ -143,8 +153,10 @@ pub fn list(table: &[u8], values: &[u64]) -> Result<Vec<Members>, Refusal> {
 ///
 /// ```
 /// // A sequence of two blocks, 5 and 4 cycles.
-/// let mut table = [0; 48];
-/// (table[0], table[2], table[24], table[40]) = (1, 2, 5, 4);
+/// let mut records = [[0; volefleece::RECORD_BYTES]; 3];
+/// (records[0][0], records[0][2], records[1][8], records[2][8]) = (1, 2, 5, 4);
+/// records.iter_mut().for_each(|record| record[20..].fill(255));
+/// let table = records.concat();
 /// let simplified = volefleece::simplify(&table, u64::MAX)?;
 /// assert_eq!(simplified.table[8], 9);
 /// assert_eq!((simplified.steps, simplified.finished), (1, true));
@@ -166,9 +178,10 @@ pub fn simplify(table: &[u8], allowance: u64) -> Result<Simplified, Refusal> {
 /// every block whose time is that symbol.
 ///
 /// ```
-/// let mut host = [0; 16];
+/// let mut sent = [0; volefleece::RECORD_BYTES];
+/// sent[20..].fill(255);
+/// let mut host = sent;
 /// (host[1], host[8]) = (1, 16);
-/// let sent = [0; 16];
 /// let grafted = volefleece::graft(&host, &sent, 16)?;
 /// assert_eq!(volefleece::check(&grafted), Ok(3));
 /// # Ok::<(), volefleece::Refusal>(())
@@ -177,6 +190,28 @@ pub fn graft(host: &[u8], sent: &[u8], symbol: u64) -> Result<Vec<u8>, Refusal> 
     let mut room = vec![0; MOST_TABLE];
     let answer = raw::graft(host, sent, symbol, &mut room);
     accepted(answer.refused)?;
+    room.truncate(length(answer.length));
+    Ok(room)
+}
+
+/// Puts question 1 as it was for former tables, whose records had 16 bytes, and answers the former table's records with address 0.
+///
+/// ```
+/// // A block of 7 cycles.
+/// let mut old = [0; 16];
+/// old[8] = 7;
+/// let table = volefleece::convert(&old)?;
+/// assert_eq!(volefleece::check(&table), Ok(1));
+/// assert_eq!(volefleece::figure(&table, &[0; volefleece::VALUES]).unwrap().figure, 7);
+/// # Ok::<(), volefleece::FormerLength>(())
+/// ```
+pub fn convert(old: &[u8]) -> Result<Vec<u8>, FormerLength> {
+    let mut room = vec![0; MOST_TABLE];
+    let answer = raw::convert(old, &mut room);
+    // With room for the longest table it refuses for the length alone.
+    if answer.refused != 0 {
+        return Err(FormerLength);
+    }
     room.truncate(length(answer.length));
     Ok(room)
 }

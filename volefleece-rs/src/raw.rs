@@ -73,6 +73,16 @@ pub struct Grafted {
     pub length: u64,
 }
 
+/// The answer of `vf_convert`.
+#[repr(C)]
+#[derive(Clone, Copy, Debug, PartialEq, Eq)]
+pub struct Converted {
+    /// The number of the first question answered "no", or 0.
+    pub refused: u64,
+    /// How many bytes the written table has, or 0 with a refusal.
+    pub length: u64,
+}
+
 extern "C" {
     pub fn vf_check(table: *const u8, table_len: usize) -> Checked;
 
@@ -109,6 +119,13 @@ extern "C" {
         out: *mut u8,
         out_len: usize,
     ) -> Grafted;
+
+    pub fn vf_convert(
+        old_table: *const u8,
+        old_len: usize,
+        out: *mut u8,
+        out_len: usize,
+    ) -> Converted;
 }
 
 /// Puts questions 1 to 7 to a table.
@@ -167,4 +184,10 @@ pub fn graft(host: &[u8], sent: &[u8], symbol: u64, out: &mut [u8]) -> Grafted {
             out.len(),
         )
     }
+}
+
+/// Puts question 1 as it was for 16-byte records, then 8, and writes the former table with address 0 in every record.
+pub fn convert(old: &[u8], out: &mut [u8]) -> Converted {
+    // SAFETY: the pointers and lengths are those of live slices, and only the one that is lent mutably is written.
+    unsafe { vf_convert(old.as_ptr(), old.len(), out.as_mut_ptr(), out.len()) }
 }

@@ -11,7 +11,7 @@ use std::fmt;
 /// let refusal = volefleece::check(&[]).unwrap_err();
 /// assert_eq!(refusal, Refusal::Length);
 /// assert_eq!(refusal.number(), 1);
-/// assert_eq!(refusal.to_string(), "refused 1: the length is not a multiple of 16 from 16 to 8,192");
+/// assert_eq!(refusal.to_string(), "refused 1: the length is not a multiple of 24 from 24 to 12,288");
 /// ```
 #[derive(Clone, Copy, Debug, PartialEq, Eq, Hash)]
 #[non_exhaustive]
@@ -76,8 +76,10 @@ impl Refusal {
     /// What is wrong, in the question's words.
     pub fn reason(self) -> &'static str {
         match self {
-            Refusal::Length => "the length is not a multiple of 16 from 16 to 8,192",
-            Refusal::Fields => "a record's kind, flags, children or byte 3 are not as listed, or a field that it has no use for is not 0",
+            Refusal::Length => "the length is not a multiple of 24 from 24 to 12,288",
+            Refusal::Fields => {
+                "a record's kind, flags, children or byte 3 are not as listed, a field that it has no use for is not 0, or one of its last four bytes is not 255"
+            }
             Refusal::Numbers => "a plain number or a symbol's number is out of range",
             Refusal::Shape => "the records do not form exactly one tree",
             Refusal::Depth => "the tree is more than 32 nodes deep, or more than 8 loops are around a node",
@@ -90,7 +92,7 @@ impl Refusal {
             Refusal::Ceiling => "a node's first member, before its own limit, is above 1,000,000,000,000",
             Refusal::ReplacedSymbol => "the replaced symbol is not 16 to 31, or the sent table uses it",
             Refusal::GraftedTable => {
-                "the grafted table is longer than 8,192 bytes, too deep, has too many loops around a node, or its limits weigh too much"
+                "the grafted table is longer than 12,288 bytes, too deep, has too many loops around a node, or its limits weigh too much"
             }
             Refusal::TriangularNumber => "a value whose triangular number is a limit is above 1,000",
         }
@@ -99,11 +101,37 @@ impl Refusal {
 
 impl fmt::Display for Refusal {
     fn fmt(&self, f: &mut fmt::Formatter<'_>) -> fmt::Result {
-        write!(f, "refused {}: {}", self.number(), self.reason())
+        write_refusal(f, self.number(), self.reason())
     }
 }
 
 impl Error for Refusal {}
+
+/// A refusal to convert: question 1 as it was for former tables says no.
+///
+/// ```
+/// let refusal = volefleece::convert(&[0; 24]).unwrap_err();
+/// assert_eq!(refusal.to_string(), "refused 1: the length is not a multiple of 16 from 16 to 8,192");
+/// ```
+#[derive(Clone, Copy, Debug, PartialEq, Eq, Hash)]
+pub struct FormerLength;
+
+impl FormerLength {
+    /// What is wrong, in the former question's words.
+    pub const REASON: &'static str = "the length is not a multiple of 16 from 16 to 8,192";
+}
+
+impl fmt::Display for FormerLength {
+    fn fmt(&self, f: &mut fmt::Formatter<'_>) -> fmt::Result {
+        write_refusal(f, Refusal::Length.number(), Self::REASON)
+    }
+}
+
+impl Error for FormerLength {}
+
+fn write_refusal(f: &mut fmt::Formatter<'_>, number: u64, reason: &str) -> fmt::Result {
+    write!(f, "refused {number}: {reason}")
+}
 
 #[cfg(test)]
 mod tests {
