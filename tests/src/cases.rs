@@ -78,7 +78,7 @@ pub fn cases() -> Vec<Case> {
         refused("M under 8 loops", case_m(8), 7),
         refused("M under 9 loops", case_m(9), 5),
         refused("N, 0 bytes", vec![], 1),
-        refused("N, 8,208 bytes", vec![0; 8_208], 1),
+        refused("N, 12,312 bytes", vec![0; 12_312], 1),
     ]
 }
 

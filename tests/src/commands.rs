@@ -61,9 +61,22 @@ impl Ended {
     /// It ended with 2, no line, and a message that has this in it.
     #[track_caller]
     pub fn expect_message(&self, part: &str) {
-        assert_eq!(self.status, Some(2), "{self:?}");
+        self.expect_told(2, part);
+    }
+
+    /// It ended so, with no line and a message that has this in it.
+    #[track_caller]
+    pub fn expect_told(&self, status: i32, part: &str) {
+        assert_eq!(self.status, Some(status), "{self:?}");
         assert_eq!(self.output, "", "{self:?}");
         assert!(self.error.contains(part), "{self:?}");
+    }
+
+    /// It ended with 0 and wrote nothing.
+    #[track_caller]
+    pub fn expect_silence(&self) {
+        self.expect_told(0, "");
+        assert_eq!(self.error, "");
     }
 }
 
@@ -130,12 +143,13 @@ pub struct Repository {
 }
 
 /// The commands and what they read.
-const COPIED: [&str; 14] = [
+const COPIED: [&str; 16] = [
     "KIT",
     "bench",
     "desk",
     "install",
     "quote",
+    "readdress",
     "setup",
     "simplify",
     "test",
@@ -143,13 +157,15 @@ const COPIED: [&str; 14] = [
     "scripts/commands.sh",
     "scripts/debian.toml",
     "scripts/volefleece-quote",
+    "scripts/volefleece-readdress",
     "scripts/volefleece-simplify",
     "scripts/volefleece.pc.in",
 ];
 
 /// What `rt` builds for the commands, in the folder `target`.
-const BUILT: [&str; 4] = [
+const BUILT: [&str; 5] = [
     "bin/desk",
+    "bin/readdress",
     "bin/sales",
     "staticlib/libvolefleece.a",
     "staticlib/libprobes.a",
@@ -218,7 +234,7 @@ build)
     fi
     ;;
 esac
-echo "tests ran${VOLEFLEECE_LIB_DIR-}${VOLEFLEECE_DESK-}${VOLEFLEECE_SALES-}${VOLEFLEECE_BEFORE-}""#;
+echo "tests ran${VOLEFLEECE_LIB_DIR-}${VOLEFLEECE_DESK-}${VOLEFLEECE_SALES-}${VOLEFLEECE_READDRESS-}${VOLEFLEECE_BEFORE-}""#;
 
 /// The command, which shows its arguments.
 const VOLEFLEECE: &str = r#"

@@ -18,7 +18,7 @@ pub fn second_check(table: &[u8]) -> Checked {
     }
 }
 
-/// Makes a call on a copy of the bytes whose address is `shift` past a multiple of 16, with
+/// Makes a call on a copy of the bytes that stands `shift` past a multiple of 16 in memory, with
 /// `filler` on both sides, and asserts that no byte of all this has changed.
 pub fn lend<A>(bytes: &[u8], shift: usize, filler: u8, call: impl FnOnce(&[u8]) -> A) -> A {
     let mut buffer = vec![filler; SIDE + bytes.len() + SIDE];
@@ -31,7 +31,7 @@ pub fn lend<A>(bytes: &[u8], shift: usize, filler: u8, call: impl FnOnce(&[u8]) 
     answer
 }
 
-/// Makes a call on a buffer of so many bytes at a random address. Gives its answer and the bytes that
+/// Makes a call on a buffer of so many bytes anywhere in memory. Gives its answer and the bytes that
 /// it wrote, as many from the front as `length` reads off the answer, and asserts that no other byte
 /// has changed.
 pub fn lend_out<A: Debug>(
@@ -74,7 +74,7 @@ pub struct Comparison {
 }
 
 impl Comparison {
-    /// The seed decides the addresses of the tables alone.
+    /// The seed decides where the tables are in memory alone.
     pub fn new(seed: u64) -> Self {
         Comparison {
             rng: Rng::new(!seed),

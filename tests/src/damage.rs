@@ -2,6 +2,7 @@
 
 use crate::format::*;
 use crate::rng::Rng;
+use crate::trees::Tree;
 
 pub fn records(table: &[u8]) -> usize {
     table.len() / RECORD_BYTES
@@ -20,6 +21,9 @@ pub enum Edit {
     Names(u8),
     Limit(u32),
     Value(u64),
+    Address(u32),
+    /// A byte of those behind the address, counted from 0.
+    Filler(usize, u8),
 }
 
 impl Edit {
@@ -33,6 +37,8 @@ impl Edit {
             Edit::Names(names) => record[3] = names,
             Edit::Limit(limit) => record[4..8].copy_from_slice(&limit.to_le_bytes()),
             Edit::Value(value) => record[8..16].copy_from_slice(&value.to_le_bytes()),
+            Edit::Address(address) => record[16..20].copy_from_slice(&address.to_le_bytes()),
+            Edit::Filler(byte, filler) => record[20 + byte] = filler,
         }
     }
 }
@@ -84,6 +90,12 @@ pub const VALUES: [u64; 21] = [
     u64::MAX,
 ];
 
+/// Any number is an address: both ends, and one in each byte.
+pub const ADDRESSES: [u32; 6] = [0, 1, 1 << 8, 1 << 16, 1 << 24, u32::MAX];
+
+/// What may not stand behind an address, and at last what may.
+pub const FILLERS: [u8; 5] = [0, 1, 127, 254, 255];
+
 /// Each field at and just past each of its ends.
 pub fn field_ends() -> Vec<Edit> {
     let mut edits = Vec::new();
@@ -93,6 +105,10 @@ pub fn field_ends() -> Vec<Edit> {
     edits.extend(NAMES.map(Edit::Names));
     edits.extend(LIMITS.map(Edit::Limit));
     edits.extend(VALUES.map(Edit::Value));
+    edits.extend(ADDRESSES.map(Edit::Address));
+    for byte in 0..FILLER.len() {
+        edits.extend(FILLERS.map(|filler| Edit::Filler(byte, filler)));
+    }
     edits
 }
 
@@ -114,13 +130,15 @@ pub fn joined_ends() -> Vec<Vec<Edit>> {
 }
 
 pub fn random_edit(rng: &mut Rng) -> Edit {
-    match rng.index(6) {
+    match rng.index(8) {
         0 => Edit::Kind(rng.pick(&KINDS)),
         1 => Edit::Flags(rng.pick(&FLAGS)),
         2 => Edit::Children(rng.pick(&CHILDREN)),
         3 => Edit::Names(rng.pick(&NAMES)),
         4 => Edit::Limit(rng.pick(&LIMITS)),
-        _ => Edit::Value(rng.pick(&VALUES)),
+        5 => Edit::Value(rng.pick(&VALUES)),
+        6 => Edit::Address(rng.pick(&ADDRESSES)),
+        _ => Edit::Filler(rng.index(FILLER.len()), rng.pick(&FILLERS)),
     }
 }
 
@@ -150,7 +168,7 @@ pub fn drop_records(table: &mut Vec<u8>, records: usize) {
 
 /// Adds blocks of time 0 at the end.
 pub fn add_blocks(table: &mut Vec<u8>, blocks: usize) {
-    table.resize(table.len() + blocks * RECORD_BYTES, 0);
+    table.extend(Tree::block(0).encode().repeat(blocks));
 }
 
 pub fn flip_bits(rng: &mut Rng, table: &mut [u8], bits: usize) {

@@ -42,7 +42,7 @@ pub fn table(rng: &mut Rng, tree: &Tree, faults: &[u64]) -> Vec<u8> {
     let around = trees::loops_around(tree);
     let mut table = tree.encode();
     let mut blocks: Vec<usize> = (0..around.len())
-        .filter(|&record| table[record * 16] == 0 && around[record] < 8)
+        .filter(|&record| table[record * 24] == 0 && around[record] < 8)
         .collect();
     rng.shuffle(&mut blocks);
     for &question in faults {
@@ -63,10 +63,11 @@ pub fn table(rng: &mut Rng, tree: &Tree, faults: &[u64]) -> Vec<u8> {
 
 /// What makes a block with so many loops around it fail that question.
 fn block_fault(rng: &mut Rng, question: u64, around: usize) -> Vec<Edit> {
-    match (question, rng.index(4)) {
+    match (question, rng.index(5)) {
         (2, 0) => vec![Edit::Kind(4)],
         (2, 1) => vec![Edit::Flags(rng.pick(&[4, 5, 8, 12, 128]))],
         (2, 2) => vec![Edit::Children(1)],
+        (2, 3) => vec![Edit::Filler(rng.index(4), rng.pick(&[0, 127, 254]))],
         (2, _) => vec![Edit::Names(9)],
         (3, 0) => {
             let past = rng.pick(&[16, 31, 32, 1_000, u32::MAX]);
@@ -80,7 +81,7 @@ fn block_fault(rng: &mut Rng, question: u64, around: usize) -> Vec<Edit> {
 
 fn fail_length(rng: &mut Rng, table: &mut Vec<u8>) {
     if rng.once_in(2) {
-        table.resize(table.len() + rng.size(1..=15), 0);
+        table.resize(table.len() + rng.size(1..=23), 0);
     } else {
         damage::add_blocks(table, 512);
     }

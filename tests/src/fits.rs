@@ -86,8 +86,10 @@ impl<'t> Nodes<'t> {
         record..self.places[record].end
     }
 
-    fn bytes(&self, records: Range<usize>) -> &[u8] {
-        &self.table[records.start * RECORD_BYTES..records.end * RECORD_BYTES]
+    /// The bytes of some records without their addresses.
+    fn bytes(&self, records: Range<usize>) -> Vec<u8> {
+        let fields = |record| (0..16).map(move |byte| self.byte(record, byte));
+        records.flat_map(fields).collect()
     }
 
     fn is_unlimited(&self, record: usize) -> bool {
@@ -103,7 +105,7 @@ impl<'t> Nodes<'t> {
     }
 
     fn has_value_0(&self, record: usize) -> bool {
-        (8..RECORD_BYTES).all(|byte| self.byte(record, byte) == 0)
+        (8..16).all(|byte| self.byte(record, byte) == 0)
     }
 
     /// An unlimited plain block.
@@ -185,7 +187,8 @@ impl<'t> Nodes<'t> {
             && count <= MOST_CHILDREN
     }
 
-    /// Whether these are unlimited two-child sequences with byte-equal, closed second children.
+    /// Whether these are unlimited two-child sequences with closed second children that are byte-equal
+    /// but for their addresses.
     fn end_alike(&self, pairs: &[usize]) -> bool {
         let is_pair = |&pair: &usize| {
             self.byte(pair, 0) == SEQUENCE

@@ -3,7 +3,11 @@
 
 use std::ops::RangeInclusive;
 
-pub const RECORD_BYTES: usize = 16;
+pub const RECORD_BYTES: usize = 24;
+/// The bytes of a record before its address, which was all of it in a former table.
+pub const FORMER_RECORD_BYTES: usize = 16;
+/// The bytes of a record behind its address.
+pub const FILLER: [u8; 4] = [255; 4];
 pub const MOST_RECORDS: usize = 512;
 
 pub const BLOCK: u8 = 0;

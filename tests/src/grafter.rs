@@ -1,6 +1,6 @@
-//! The second grafter: CR 1 of document 02, written apart from the library and in its own way. The loop
-//! around the sent table is made once, and a copy of it stands in for every block of the symbol. It is
-//! plain Rust, fast enough to be measured against the library.
+//! The second grafter: CR 1 of document 02 with CR 6's addresses, written apart from the library and in
+//! its own way. The loop around the sent table is made once, and a copy of it stands in for every block
+//! of the symbol. It is plain Rust, fast enough to be measured against the library.
 
 use crate::format::*;
 use crate::reader;
@@ -34,8 +34,8 @@ pub fn graft(host: &[u8], sent: &[u8], symbol: u64, out_len: usize) -> Result<Ve
     Ok(table)
 }
 
-/// A loop of bound 1 around the sent table, with a zero block as exit. The sent table's whole-run
-/// limits name that loop.
+/// A loop of bound 1 around the sent table, with a zero block at address 0 as exit. The sent table's
+/// whole-run limits name that loop.
 fn in_new_loop(mut sent: Tree) -> Tree {
     name_new_loop(&mut sent, 0);
     Tree::new(Kind::Loop(Amount::Plain(1)), vec![sent, Tree::block(0)])
@@ -60,12 +60,11 @@ fn name_new_loop(node: &mut Tree, around: u8) {
     }
 }
 
-/// Replaces every block of the symbol by the graft, with the block's limit on it.
+/// Replaces every block of the symbol by the graft, with the block's limit and address on it.
 fn put(graft: &Tree, node: &mut Tree, symbol: u64) {
     if node.kind == Kind::Block(Amount::Symbol(symbol)) {
-        let limit = node.limit;
-        *node = graft.clone();
-        node.limit = limit;
+        node.kind = graft.kind;
+        node.children = graft.children.clone();
         return;
     }
     for child in &mut node.children {

@@ -33,6 +33,24 @@ pub fn graft(
     }
 }
 
+/// Both grafters write that table for symbol 16, and want exactly the room for it.
+#[track_caller]
+pub fn writes(host: &[u8], sent: &[u8], expected: &[u8]) {
+    let mut grafts = Grafts::new(0);
+    let length = expected.len();
+    let written = match grafts.answer(host, sent, 16, length) {
+        Ok(written) => written,
+        Err(question) => panic!("refused {question}, not {}", shown(expected)),
+    };
+    assert!(
+        written == expected,
+        "{}is not {}",
+        shown(&written),
+        shown(expected)
+    );
+    assert_eq!(grafts.answer(host, sent, 16, length - 1), Err(8));
+}
+
 /// Compares grafts and counts the answers, so that a test can assert what it has reached.
 #[derive(Debug)]
 pub struct Grafts {
@@ -44,7 +62,7 @@ pub struct Grafts {
 }
 
 impl Grafts {
-    /// The seed decides the addresses and buffers alone.
+    /// The seed decides where all is in memory, and the buffers alone.
     pub fn new(seed: u64) -> Self {
         Grafts {
             rng: Rng::new(!seed),

@@ -3,10 +3,11 @@
 //!
 //! - `format`: the numbers of the table's format, each behind one name.
 //! - `trees`: a plain tree, its encoder and its random generators.
-//! - `reader`: the second reader, questions 1 to 7.
+//! - `reader`: the second reader, questions 1 to 7, of former tables too.
 //! - `evaluator`: the second evaluator, questions 8 to 10 and 13, and the branch.
 //! - `simplifier`: the second simplifier.
 //! - `grafter`: the second grafter, questions 11 and 12.
+//! - `converter`: the second converter of former tables.
 //! - `fits`: where the rules of simplifying fit, for small tables.
 //! - `members`, `runs`: lists member by member with their branches, and the dearest run, both for small
 //!   trees.
@@ -27,6 +28,7 @@
 pub mod cases;
 pub mod commands;
 pub mod compare;
+pub mod converter;
 pub mod damage;
 pub mod evaluator;
 pub mod faults;

@@ -4,7 +4,7 @@ use crate::format::*;
 use crate::rng::Rng;
 
 /// Longer than any table that question 1 lets through.
-const LONGEST: usize = 9_000;
+const LONGEST: usize = 13_500;
 
 /// Every kind, those the more often that get furthest.
 pub const KINDS: [fn(&mut Rng) -> Vec<u8>; 7] = [
@@ -22,19 +22,32 @@ pub fn bytes(rng: &mut Rng) -> Vec<u8> {
     (0..length).map(|_| rng.byte()).collect()
 }
 
-/// Raw bytes of some whole records, often a single one, so that question 2 lets some through.
+/// Raw bytes of some whole records, often a single one, as a rule with the right bytes behind their
+/// addresses, so that question 2 lets some through.
 pub fn whole_records(rng: &mut Rng) -> Vec<u8> {
     let most = rng.pick(&[1, 4, LONGEST / RECORD_BYTES]);
     let length = rng.size(0..=most) * RECORD_BYTES;
-    (0..length).map(|_| rng.byte()).collect()
+    let bytes = (0..length).map(|_| rng.byte()).collect();
+    often_filled(rng, bytes)
 }
 
-/// Mostly zeros, the rest small.
+/// The table with the right bytes behind its addresses, and at times as it was.
+fn often_filled(rng: &mut Rng, mut table: Vec<u8>) -> Vec<u8> {
+    if !rng.once_in(8) {
+        for record in table.chunks_exact_mut(RECORD_BYTES) {
+            record[20..].copy_from_slice(&FILLER);
+        }
+    }
+    table
+}
+
+/// Mostly zeros, the rest small, but for what is behind the addresses as a rule.
 pub fn small_bytes(rng: &mut Rng) -> Vec<u8> {
     let most = rng.pick(&[3, 8, 40]);
     let length = rng.size(1..=most) * RECORD_BYTES;
     let zeros = rng.within(4..=40);
-    (0..length).map(|_| small_byte(rng, zeros)).collect()
+    let bytes = (0..length).map(|_| small_byte(rng, zeros)).collect();
+    often_filled(rng, bytes)
 }
 
 fn small_byte(rng: &mut Rng, zeros: u64) -> u8 {
@@ -108,6 +121,9 @@ fn good_record(rng: &mut Rng, mix: &Mix) -> [u8; RECORD_BYTES] {
         record[3] = names(rng, mix);
         record[4] = rng.within(COUNT_SYMBOLS) as u8;
     }
+    let address = rng.number() as u32;
+    record[16..20].copy_from_slice(&address.to_le_bytes());
+    record[20..].copy_from_slice(&FILLER);
     record
 }
 

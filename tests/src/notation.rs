@@ -1,8 +1,9 @@
-//! Trees as docs/FORMAT.md writes them on a line, which are document 01's words with three signs more:
-//! `X16` is symbol 16, `T0` as a limit is the triangular number of symbol 0, and braces hold a node
-//! together.
+//! Trees as docs/FORMAT.md writes them on a line, which are document 01's words with four signs more:
+//! `X16` is symbol 16, `T0` as a limit is the triangular number of symbol 0, braces hold a node
+//! together, and square brackets hold its address.
 
 use crate::trees::{Amount, Kind, Limit, Tree};
+use std::mem;
 
 /// The tree of such a line, or what is wrong with it.
 pub fn tree(text: &str) -> Result<Tree, String> {
@@ -59,8 +60,22 @@ impl<'t> Words<'t> {
         }
     }
 
-    /// `NODE` or `NODE/LIMIT@BYTE3`.
+    /// `NODE` or `NODE/LIMIT@BYTE3`, and then perhaps `[ADDRESS]`.
     fn node(&mut self) -> Result<Tree, String> {
+        let mut tree = self.limited()?;
+        if self.take("[") {
+            let word = self.next()?;
+            let address = u32::from_str_radix(word, 16);
+            let address = address.map_err(|_| format!("{word} is no address"))?;
+            self.want("]")?;
+            if mem::replace(&mut tree.address, address) != 0 {
+                return Err("a node has two addresses".into());
+            }
+        }
+        Ok(tree)
+    }
+
+    fn limited(&mut self) -> Result<Tree, String> {
         let mut tree = self.unlimited()?;
         if self.take("/") {
             let amount = limit_amount(self.next()?)?;

@@ -1,6 +1,8 @@
 //! The programs as processes, each in a folder of its own.
 
 use std::ffi::OsStr;
+use std::os::unix::fs::MetadataExt;
+use std::os::unix::process::CommandExt;
 use std::path::{Path, PathBuf};
 use std::process::{Command, Stdio};
 use std::sync::atomic::{AtomicUsize, Ordering};
@@ -8,6 +10,8 @@ use std::{env, fs, process};
 
 pub const TREE: &str = "tree.tab";
 pub const VALUES: &str = "values.tab";
+/// A table of 16-byte records.
+pub const FORMER: &str = "old.tab";
 
 /// No argument.
 pub const NONE: [&str; 0] = [];
@@ -133,6 +137,14 @@ pub fn written(command: &mut Command) -> Written {
     }
 }
 
+/// Root may read and write everywhere: for root the command runs as another user.
+pub fn restrict(command: &mut Command) -> &mut Command {
+    if fs::metadata("/proc/self").expect("Linux has it").uid() == 0 {
+        command.uid(65_534).gid(65_534);
+    }
+    command
+}
+
 /// It writes one message, which starts so, on standard error, and nothing to standard output.
 #[track_caller]
 pub fn complains(command: &mut Command, start: &str) {
@@ -175,6 +187,24 @@ fn find(name: &str) -> PathBuf {
 pub fn sample(house: &str, file: &str) -> Vec<u8> {
     let path = project().join("samples").join(house).join(file);
     fs::read(path).expect("a sample")
+}
+
+/// What simplifying makes of the workshop's sample: the sample house's tree with the addresses of records that stay.
+pub fn simplified_workshop() -> Vec<u8> {
+    let mut tree = sample("house", TREE);
+    for (record, address) in [
+        (0, 0x0800_0400_u32),
+        (2, 0x0800_0448),
+        (3, 0x0800_044c),
+        (4, 0x0800_044c),
+        (5, 0x0800_0470),
+        (6, 0x0800_0474),
+        (9, 0x0800_04b0),
+        (10, 0x0800_04b4),
+    ] {
+        tree[24 * record + 16..][..4].copy_from_slice(&address.to_le_bytes());
+    }
+    tree
 }
 
 /// The repository's folder.

@@ -69,7 +69,7 @@ pub fn list(rng: &mut Rng, table: &[u8], values: &[u64], room: usize) -> Result<
     }
 }
 
-/// Lends both at random addresses, between random fillers.
+/// Lends both anywhere in memory, between random fillers.
 fn lend_all<A>(
     rng: &mut Rng,
     table: &[u8],
@@ -123,7 +123,7 @@ pub struct Quotes {
 }
 
 impl Quotes {
-    /// The seed decides the addresses and buffers alone.
+    /// The seed decides where all is in memory, and the buffers alone.
     pub fn new(seed: u64) -> Self {
         Quotes {
             rng: Rng::new(!seed),

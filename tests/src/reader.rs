@@ -1,15 +1,26 @@
 //! The second reader: document 01's questions 1 to 7 in its words and order, each put to the whole
-//! input before the next, with the flag that CR 3 of document 02 adds.
+//! input before the next, with the flag that CR 3 of document 02 adds and the address of CR 6. Former
+//! tables, from before CR 6, are read as well.
 
 use crate::format::*;
 use crate::trees::{Amount, Kind, Limit, Tree};
 
 /// The table's tree, or the number of the first question answered "no".
 pub fn check(table: &[u8]) -> Result<Tree, u64> {
-    if !is_length_right(table) {
+    check_records(table, RECORD_BYTES, record)
+}
+
+/// The same of a former table. Its tree has address 0 at every node.
+pub fn check_former(table: &[u8]) -> Result<Tree, u64> {
+    check_records(table, FORMER_RECORD_BYTES, former_record)
+}
+
+/// The same of a table whose records have so many bytes and are read so.
+fn check_records(table: &[u8], bytes: usize, read: fn(&[u8]) -> Record) -> Result<Tree, u64> {
+    if !is_length_right(table, bytes) {
         return Err(1);
     }
-    let records = records(table);
+    let records: Vec<Record> = table.chunks_exact(bytes).map(read).collect();
     if !records.iter().all(is_as_listed) {
         return Err(2);
     }
@@ -46,13 +57,20 @@ struct Record {
     names: u8,
     limit: u64,
     value: u64,
-}
-
-fn records(table: &[u8]) -> Vec<Record> {
-    table.chunks_exact(RECORD_BYTES).map(record).collect()
+    address: u32,
+    /// Bytes 20 to 23, which a former record does not have, are each 255.
+    is_filled: bool,
 }
 
 fn record(bytes: &[u8]) -> Record {
+    Record {
+        address: little_endian(&bytes[16..20]) as u32,
+        is_filled: bytes[20..] == FILLER,
+        ..former_record(bytes)
+    }
+}
+
+fn former_record(bytes: &[u8]) -> Record {
     Record {
         kind: bytes[0],
         flags: bytes[1],
@@ -60,6 +78,8 @@ fn record(bytes: &[u8]) -> Record {
         names: bytes[3],
         limit: little_endian(&bytes[4..8]),
         value: little_endian(&bytes[8..16]),
+        address: 0,
+        is_filled: true,
     }
 }
 
@@ -70,15 +90,16 @@ fn little_endian(bytes: &[u8]) -> u64 {
         .fold(0, |number, &byte| number << 8 | u64::from(byte))
 }
 
-/// Question 1: is the length a multiple of 16 from 16 to 8,192?
-fn is_length_right(table: &[u8]) -> bool {
-    let longest = MOST_RECORDS * RECORD_BYTES;
-    table.len().is_multiple_of(RECORD_BYTES) && (RECORD_BYTES..=longest).contains(&table.len())
+/// Question 1: is the length a multiple of 24 from 24 to 12,288? A former table's is one of 16 from 16
+/// to 8,192.
+fn is_length_right(table: &[u8], record: usize) -> bool {
+    let longest = MOST_RECORDS * record;
+    table.len().is_multiple_of(record) && (record..=longest).contains(&table.len())
 }
 
 /// Question 2: are kind, flags, children and byte 3 as listed, flag 1 only on blocks and loops,
 /// flag 2 only with a limit, limit 0 where byte 3 is 0, value 0 in sequences and choices? Flag 4
-/// without 2 is not listed.
+/// without 2 is not listed, nor are bytes 20 to 23 other than 255.
 fn is_as_listed(record: &Record) -> bool {
     let children_as_listed = match record.kind {
         BLOCK => record.children == 0,
@@ -98,6 +119,7 @@ fn is_as_listed(record: &Record) -> bool {
         && (!limit_is_symbol(record) || has_limit)
         && (record.limit == 0 || has_limit)
         && (record.value == 0 || has_value)
+        && record.is_filled
 }
 
 fn value_is_symbol(record: &Record) -> bool {
@@ -181,15 +203,13 @@ fn tree_at_front(records: &[Record]) -> Option<(Tree, &[Record])> {
         CHOICE => Kind::Choice,
         _ => Kind::Loop(value(top)),
     };
-    let limit = limit(top);
-    Some((
-        Tree {
-            kind,
-            limit,
-            children,
-        },
-        rest,
-    ))
+    let tree = Tree {
+        kind,
+        limit: limit(top),
+        address: top.address,
+        children,
+    };
+    Some((tree, rest))
 }
 
 /// A node with its place in the tree.

@@ -1,6 +1,6 @@
 //! Tables record by record, whatever their fields hold, from plain literals.
 
-/// Kind, flags, children, byte 3, limit, value.
+/// Kind, flags, children, byte 3, limit, value. The address is 0.
 pub type Record = (u8, u8, u8, u8, u32, u64);
 
 pub const BLOCK: Record = (0, 0, 0, 0, 0, 7);
@@ -25,6 +25,7 @@ pub fn table(records: &[Record]) -> Vec<u8> {
         table.extend([kind, flags, children, names]);
         table.extend(limit.to_le_bytes());
         table.extend(value.to_le_bytes());
+        table.extend([0, 0, 0, 0, 255, 255, 255, 255]);
     }
     table
 }

@@ -2,8 +2,9 @@
 //! writes must be the second simplifier's, and it may change nothing but the front of its buffer.
 
 use crate::compare::{has_flag_4, lend, lend_out, shown};
+use crate::reader;
 use crate::rng::Rng;
-use crate::simplifier::{self, Simplified, Trace};
+use crate::simplifier::{self, step, Simplified, Trace};
 use crate::trees::Tree;
 use volefleece::raw;
 
@@ -42,6 +43,57 @@ pub fn simplify(
     }
 }
 
+/// What both simplifiers answer.
+#[track_caller]
+pub fn agreed(table: &[u8], allowance: u64, room: usize) -> Result<Simplified, u64> {
+    Simplifications::new(0).answer(table, allowance, room)
+}
+
+/// The first step takes that rule and makes that table.
+#[track_caller]
+pub fn becomes(before: &[u8], rule: usize, after: &[u8]) {
+    let mut tree = read(before);
+    let taken = step(&mut tree);
+    let table = tree.encode();
+    assert!(
+        taken == Some(rule) && table == after,
+        "rule {taken:?} made of {}this: {}",
+        shown(before),
+        shown(&table)
+    );
+    let answer = agreed(before, 1, before.len()).expect("small amounts");
+    assert_eq!((answer.steps, &answer.bytes[..]), (1, after));
+}
+
+/// No rule fits.
+#[track_caller]
+pub fn stays(table: &[u8]) {
+    let taken = step(&mut read(table));
+    assert_eq!(taken, None, "{}", shown(table));
+    let answer = agreed(table, u64::MAX, table.len()).expect("small amounts");
+    assert!(answer.steps == 0 && answer.finished && answer.bytes == table);
+}
+
+/// With steps enough, so many are taken and make that table, which stays.
+#[track_caller]
+pub fn ends(before: &[u8], steps: u64, after: &[u8]) {
+    let expected = Simplified {
+        bytes: after.to_vec(),
+        steps,
+        finished: true,
+    };
+    let answer = agreed(before, u64::MAX, before.len());
+    assert_eq!(answer, Ok(expected), "{}", shown(before));
+    stays(after);
+}
+
+fn read(table: &[u8]) -> Tree {
+    match reader::check(table) {
+        Ok(tree) => tree,
+        Err(question) => panic!("refused {question}: {}", shown(table)),
+    }
+}
+
 /// Compares simplifyings and counts the answers, so that a test can assert what it has reached.
 #[derive(Debug)]
 pub struct Simplifications {
@@ -57,7 +109,7 @@ pub struct Simplifications {
 }
 
 impl Simplifications {
-    /// The seed decides the addresses and buffers, and which allowances are taken of many.
+    /// The seed decides where all is in memory, the buffers, and which allowances are taken of many.
     pub fn new(seed: u64) -> Self {
         Simplifications {
             rng: Rng::new(!seed),
@@ -138,7 +190,7 @@ impl Simplifications {
 
     fn compare_traced(&mut self, trace: &Trace, allowance: u64) {
         let table = &trace.tables[0];
-        let room = table.len() + self.rng.pick(&[0, 0, 1, 16, 40]);
+        let room = table.len() + self.rng.pick(&[0, 0, 1, 24, 60]);
         self.expect(table, allowance, room, &Ok(trace.after(allowance)));
     }
 

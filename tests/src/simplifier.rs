@@ -1,7 +1,8 @@
-//! The second simplifier: document 01's nine rules and its steps under an allowance, written apart
-//! from the library and in its own way. Every step learns in one pass what the rules ask of the
-//! subtrees, then looks for the earliest record where one fits. It is plain Rust, fast enough to be
-//! measured against the library.
+//! The second simplifier: document 01's nine rules and its steps under an allowance, with the addresses
+//! of CR 6 of document 02, written apart from the library and in its own way. A block that a rule makes
+//! has address 0, and a node that stays keeps its own. Every step learns in one pass what the rules ask
+//! of the subtrees, then looks for the earliest record where one fits. It is plain Rust, fast enough to
+//! be measured against the library.
 
 use crate::evaluator;
 use crate::format::*;
@@ -226,7 +227,8 @@ fn plain_time(node: &Tree) -> Option<u64> {
 
 // The rules.
 
-/// Rule 1: a symbol-free table becomes one unlimited block of its figure, unless it is that already.
+/// Rule 1: a symbol-free table becomes one unlimited block of its figure, unless it is that already,
+/// its address aside.
 fn become_the_figure(root: &mut Tree, facts: &[Facts]) -> bool {
     let fits = facts[0].is_symbol_free && plain_time(root).is_none();
     if fits {
@@ -338,23 +340,19 @@ fn replace_plain_blocks(node: &mut Tree, place: usize, time: u64) {
 }
 
 /// Rule 8: a choice of at least two unlimited two-child sequences with byte-equal, closed second
-/// children becomes a sequence of a choice of the first children and that second child; the choice's
-/// limit goes to the sequence.
+/// children, compared without addresses, becomes a sequence of a choice of the first children and the
+/// first one's second child; the choice's limit and address go to the sequence.
 fn share_the_second_child(node: &mut Tree, facts: &[Facts]) -> bool {
     let fits = node.kind == Kind::Choice
         && node.children.len() >= 2
         && node.children.iter().all(is_unlimited_pair)
         && first_pairs_second(facts).is_closed()
-        && are_seconds_equal(&node.children);
+        && are_seconds_same(&node.children);
     if fits {
-        let mut second = None;
-        let mut firsts = Vec::with_capacity(node.children.len());
-        for mut pair in node.children.drain(..) {
-            second = pair.children.pop();
-            firsts.append(&mut pair.children);
-        }
-        let second = second.expect("a pair has two children");
-        // The limit stays where it is, as the choice itself is turned into the sequence.
+        let second = node.children[0].children.remove(1);
+        let pairs = node.children.drain(..);
+        let firsts = pairs.map(|mut pair| pair.children.remove(0)).collect();
+        // Limit and address stay where they are, as the choice itself is turned into the sequence.
         node.kind = Kind::Sequence;
         node.children = vec![Tree::new(Kind::Choice, firsts), second];
     }
@@ -371,10 +369,10 @@ fn first_pairs_second(choice: &[Facts]) -> Facts {
     first[first[0].records]
 }
 
-/// Trees are equal where their bytes are.
-fn are_seconds_equal(pairs: &[Tree]) -> bool {
+/// Trees are the same where their bytes are, those of addresses aside.
+fn are_seconds_same(pairs: &[Tree]) -> bool {
     let mut seconds = pairs.iter().map(|pair| &pair.children[1]);
-    seconds.all(|second| *second == pairs[0].children[1])
+    seconds.all(|second| second.is_same(&pairs[0].children[1]))
 }
 
 /// Rule 9: an unlimited loop of plain bound 0, whose body's list names this loop or the whole run,

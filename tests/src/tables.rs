@@ -49,6 +49,12 @@ pub fn triangular_limited(tree: Vec<u8>, symbol: u32, names: u8) -> Vec<u8> {
     tree
 }
 
+/// The tree with that address on its top.
+pub fn addressed(mut tree: Vec<u8>, address: u32) -> Vec<u8> {
+    tree[16..20].copy_from_slice(&address.to_le_bytes());
+    tree
+}
+
 /// So many loops of that bound, each the body of the one before, around `inner`. Exits cost nothing.
 pub fn in_loops(loops: usize, bound: u64, inner: Vec<u8>) -> Vec<u8> {
     (0..loops).fold(inner, |body, _| repeat(bound, body, block(0)))
@@ -68,8 +74,8 @@ pub fn long(records: usize) -> Vec<u8> {
 /// Tables that questions 1 to 7 refuse, in this order.
 pub fn refused_tables() -> Vec<Vec<u8>> {
     vec![
-        block(7)[..15].to_vec(),
-        vec![4; 16],
+        block(7)[..23].to_vec(),
+        vec![4; 24],
         block(1_000_000_000_001),
         [block(1), block(2)].concat(),
         in_loops(9, 1, block(1)),
@@ -78,14 +84,16 @@ pub fn refused_tables() -> Vec<Vec<u8>> {
     ]
 }
 
-/// A record without a limit.
+/// A record without a limit, at address 0.
 fn record(kind: u8, flags: u8, children: usize, value: u64) -> Vec<u8> {
     let children = u8::try_from(children).expect("at most 255 children");
-    let limit = [0; 4];
+    let (limit, address) = ([0; 4], [0; 4]);
     [
         &[kind, flags, children, 0],
         &limit[..],
         &value.to_le_bytes(),
+        &address,
+        &[255; 4],
     ]
     .concat()
 }

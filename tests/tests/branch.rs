@@ -267,7 +267,7 @@ fn the_last_child_of_the_longest_choice() {
     expect(&choice(&children), 8, 254);
     children[253] = limited(repeat(2, block(4), block(0)), 1, 255);
     let table = choice(&children);
-    assert_eq!(table.len(), 512 * 16);
+    assert_eq!(table.len(), 512 * 24);
     expect(&table, 8, 253);
 }
 
@@ -380,8 +380,8 @@ fn a_refusal_has_neither_figure_nor_branch() {
     let mut values = ZEROS;
     values[0] = 1_001;
     for (refused, table, values) in [
-        (1, good[..47].to_vec(), &values[..]),
-        (2, root(vec![4; 16]), &values),
+        (1, good[..71].to_vec(), &values[..]),
+        (2, root(vec![4; 24]), &values),
         (3, root(block(1_000_000_000_001)), &values),
         (4, [good.clone(), block(8)].concat(), &values),
         (5, root(in_loops(9, 3, block(8))), &values),

@@ -120,24 +120,25 @@ fn case_m_one_limit_under_loops() {
 #[test]
 fn case_n_lengths() {
     refused_bytes(1, &[]);
-    refused_bytes(1, &[0; 8_208]);
+    refused_bytes(1, &[0; 12_312]);
 }
 
 // Question 1.
 
 #[test]
 fn lengths_that_are_no_multiple_are_refused_1() {
-    for length in (0..=64).filter(|length| length % 16 != 0) {
+    for length in (0..=96).filter(|length| length % 24 != 0) {
         refused_bytes(1, &vec![0; length]);
     }
-    for length in [8_176 + 8, 8_191, 8_193, 8_200, 8_207] {
+    for length in [8_192, 12_264 + 12, 12_287, 12_289, 12_300, 12_311] {
         refused_bytes(1, &vec![0; length]);
     }
 }
 
 #[test]
 fn lengths_past_512_records_are_refused_1() {
-    for length in [8_208, 16_384, 65_536, 65_552, 131_072 + 16] {
+    // The low 16 bits of the last two alone would be in range.
+    for length in [12_312, 24_576, 65_544, 196_608 + 24, 196_608 + 12_288] {
         refused_bytes(1, &vec![0; length]);
     }
 }
@@ -160,11 +161,15 @@ fn tables_of_512_records_are_accepted() {
 #[test]
 fn raw_bytes_are_little_endian() {
     // A block of time 0x0102, limited to 0x0304 passes in the run.
-    let block = [0, 0, 0, 255, 4, 3, 0, 0, 2, 1, 0, 0, 0, 0, 0, 0];
-    expect(&block, Checked::accept(1));
+    let block = |limit: [u8; 4], time: [u8; 8]| {
+        let rest = [0, 0, 0, 0, 255, 255, 255, 255];
+        [&[0, 0, 0, 255], &limit[..], &time, &rest].concat()
+    };
+    let good = block([4, 3, 0, 0], [2, 1, 0, 0, 0, 0, 0, 0]);
+    expect(&good, Checked::accept(1));
     // These would be in range if they were read the other way round.
-    refused_bytes(3, &[0, 0, 0, 255, 0, 0, 3, 4, 2, 1, 0, 0, 0, 0, 0, 0]);
-    refused_bytes(3, &[0, 0, 0, 255, 4, 3, 0, 0, 0, 0, 0, 0, 0, 0, 1, 2]);
+    refused_bytes(3, &block([0, 0, 3, 4], [2, 1, 0, 0, 0, 0, 0, 0]));
+    refused_bytes(3, &block([4, 3, 0, 0], [0, 0, 0, 0, 0, 0, 1, 2]));
 }
 
 // Question 2.
@@ -633,15 +638,15 @@ fn records_that_fail_two_questions_answer_the_lower() {
 
 #[test]
 fn a_table_past_512_records_is_refused_1_whatever_it_holds() {
-    refused_bytes(1, &[255; 8_208]);
+    refused_bytes(1, &[255; 12_312]);
     refused(1, &vec![sequence(1); 513]);
-    refused_bytes(1, &[255; 15]);
+    refused_bytes(1, &[255; 23]);
 }
 
 // The lent bytes.
 
 #[test]
-fn every_address_serves() {
+fn every_place_in_memory_serves() {
     let good = table(&in_bodies(8, &[limited(8)]));
     let bad = table(&in_bodies(7, &[limited(8)]));
     for shift in 0..16 {
@@ -664,6 +669,8 @@ fn empty_slices_are_refused_1() {
 
 #[test]
 fn constant_tables_serve() {
-    static TABLE: [u8; 16] = [0, 0, 0, 0, 0, 0, 0, 0, 7, 0, 0, 0, 0, 0, 0, 0];
+    static TABLE: [u8; 24] = [
+        0, 0, 0, 0, 0, 0, 0, 0, 7, 0, 0, 0, 0, 0, 0, 0, 0, 0, 0, 0, 255, 255, 255, 255,
+    ];
     assert_eq!(raw::check(&TABLE), Checked::accept(1));
 }

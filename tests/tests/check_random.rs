@@ -249,13 +249,13 @@ fn truncated_tables_are_refused_1_or_4() {
     let (mut rng, mut comparison) = start(10);
     for _ in 0..1_500 {
         let table = good_table(&mut rng);
-        for missing in 1..=15 {
+        for missing in 1..=23 {
             let part = &table[..table.len() - missing];
             comparison.expect(part, Checked::refuse(1));
         }
         for left in last_few(damage::records(&table)) {
             let refused = if left == 0 { 1 } else { 4 };
-            comparison.expect(&table[..left * 16], Checked::refuse(refused));
+            comparison.expect(&table[..left * 24], Checked::refuse(refused));
         }
     }
     comparison.assert_reached(&[(1, 5_000), (4, 5_000)]);
@@ -271,12 +271,12 @@ fn extended_tables_are_refused_1_or_4() {
     let (mut rng, mut comparison) = start(11);
     for _ in 0..5_000 {
         let mut table = good_table(&mut rng);
-        let odd = rng.size(1..=15);
+        let odd = rng.size(1..=23);
         let odd_table = [&table[..], &vec![0; odd]].concat();
         comparison.expect(&odd_table, Checked::refuse(1));
 
         let again = [&table[..], &table[..]].concat();
-        let refused = if again.len() > 8_192 { 1 } else { 4 };
+        let refused = if again.len() > 12_288 { 1 } else { 4 };
         comparison.expect(&again, Checked::refuse(refused));
 
         let most = 512 - damage::records(&table);
@@ -310,7 +310,7 @@ fn child_counts_off_by_one_are_refused_2_or_4() {
     for _ in 0..40_000 {
         let mut table = good_table(&mut rng);
         let record = damage::random_record(&mut rng, &table);
-        let (kind, children) = (table[record * 16], table[record * 16 + 2]);
+        let (kind, children) = (table[record * 24], table[record * 24 + 2]);
         let wrong = if rng.once_in(2) {
             children.wrapping_add(1)
         } else {

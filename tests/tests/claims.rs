@@ -13,7 +13,7 @@ const DEMANDS: [(&str, &[&str]); 2] = [
 ];
 
 /// The other outside calls.
-const OTHERS: [(&str, &[&str]); 4] = [
+const OTHERS: [(&str, &[&str]); 5] = [
     (
         "volefleece",
         &[
@@ -22,10 +22,12 @@ const OTHERS: [(&str, &[&str]); 4] = [
             "vf_list",
             "vf_simplify",
             "vf_graft",
+            "vf_convert",
             "vf_both_desks",
         ],
     ),
     ("graft", &["graft"]),
+    ("former", &["convert"]),
     ("deskfiles", &["quote_files"]),
     ("arguments", &["allowance_of"]),
 ];

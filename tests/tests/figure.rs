@@ -850,7 +850,7 @@ fn lists_want_room_for_512_numbers() {
 fn fault(question: u64) -> Vec<u8> {
     match question {
         1 => [block(7), vec![0; 8]].concat(),
-        2 => vec![4; 16],
+        2 => vec![4; 24],
         3 => block(CEILING + 1),
         4 => [block(7), block(7)].concat(),
         5 => in_loops(9, 3, block(7)),
@@ -966,7 +966,7 @@ fn tables_of_512_records() {
         ]
         .concat(),
     );
-    assert_eq!(wide.len(), 8_192);
+    assert_eq!(wide.len(), 12_288);
     figure(&wide, 9 + 8 + 253 * 7);
 }
 
@@ -983,7 +983,7 @@ fn tables_of_depth_32() {
 // The lent bytes and numbers.
 
 #[test]
-fn every_address_serves() {
+fn every_place_in_memory_serves() {
     let good = sequence(&[run_block(5, 2), block(7)]);
     let bad = fault(10);
     for shift in 0..16 {

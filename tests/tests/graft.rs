@@ -6,7 +6,7 @@ use volefleece::raw::{self, Grafted};
 use volefleece_tests::compare::shown;
 use volefleece_tests::evaluator::Quoted;
 use volefleece_tests::grafter;
-use volefleece_tests::grafts::Grafts;
+use volefleece_tests::grafts::{writes, Grafts};
 use volefleece_tests::quotes;
 use volefleece_tests::tables::*;
 
@@ -21,32 +21,14 @@ fn graft(host: &[u8], sent: &[u8]) -> Result<Vec<u8>, u64> {
 /// The same for any symbol.
 #[track_caller]
 fn graft_for(host: &[u8], sent: &[u8], symbol: u64) -> Result<Vec<u8>, u64> {
-    Grafts::new(0).answer(host, sent, symbol, 8_192)
-}
-
-/// Both grafters write that table, and want exactly the room for it.
-#[track_caller]
-fn writes(host: &[u8], sent: &[u8], expected: &[u8]) {
-    let mut grafts = Grafts::new(0);
-    let length = expected.len();
-    let written = match grafts.answer(host, sent, 16, length) {
-        Ok(written) => written,
-        Err(question) => panic!("refused {question}, not {}", shown(expected)),
-    };
-    assert!(
-        written == expected,
-        "{}is not {}",
-        shown(&written),
-        shown(expected)
-    );
-    assert_eq!(grafts.answer(host, sent, 16, length - 1), Err(8));
+    Grafts::new(0).answer(host, sent, symbol, 12_288)
 }
 
 /// Both grafters write a table of so many records.
 #[track_caller]
 fn writes_records(host: &[u8], sent: &[u8], records: usize) {
     let length = graft(host, sent).map(|written| written.len());
-    assert_eq!(length, Ok(records * 16));
+    assert_eq!(length, Ok(records * 24));
 }
 
 #[track_caller]
@@ -74,47 +56,58 @@ fn put(tree: Vec<u8>) -> Vec<u8> {
 
 // Byte by byte.
 
-const X: [u8; 16] = [0, 1, 0, 0, 0, 0, 0, 0, 16, 0, 0, 0, 0, 0, 0, 0];
-const SEVEN: [u8; 16] = [0, 0, 0, 0, 0, 0, 0, 0, 7, 0, 0, 0, 0, 0, 0, 0];
-const ZERO: [u8; 16] = [0; 16];
+const X: [u8; 24] = record([0, 1, 0, 0, 0, 0, 0, 0, 16, 0, 0, 0, 0, 0, 0, 0]);
+const SEVEN: [u8; 24] = record([0, 0, 0, 0, 0, 0, 0, 0, 7, 0, 0, 0, 0, 0, 0, 0]);
+const ZERO: [u8; 24] = record([0; 16]);
+
+/// The record with these bytes at its front, at address 0.
+const fn record(fields: [u8; 16]) -> [u8; 24] {
+    let mut record = [255; 24];
+    let mut at = 0;
+    while at < 20 {
+        record[at] = if at < 16 { fields[at] } else { 0 };
+        at += 1;
+    }
+    record
+}
 
 #[test]
 fn a_block_becomes_a_loop() {
-    let put = [3, 0, 2, 0, 0, 0, 0, 0, 1, 0, 0, 0, 0, 0, 0, 0];
+    let put = record([3, 0, 2, 0, 0, 0, 0, 0, 1, 0, 0, 0, 0, 0, 0, 0]);
     writes(&X, &SEVEN, &[put, SEVEN, ZERO].concat());
 }
 
 #[test]
 fn the_loop_has_the_blocks_limit() {
     // 5, a million, symbol 5 and its triangular number.
-    let host = [0, 1, 0, 255, 5, 0, 0, 0, 16, 0, 0, 0, 0, 0, 0, 0];
-    let put = [3, 0, 2, 255, 5, 0, 0, 0, 1, 0, 0, 0, 0, 0, 0, 0];
+    let host = record([0, 1, 0, 255, 5, 0, 0, 0, 16, 0, 0, 0, 0, 0, 0, 0]);
+    let put = record([3, 0, 2, 255, 5, 0, 0, 0, 1, 0, 0, 0, 0, 0, 0, 0]);
     writes(&host, &SEVEN, &[put, SEVEN, ZERO].concat());
-    let host = [0, 1, 0, 255, 64, 66, 15, 0, 16, 0, 0, 0, 0, 0, 0, 0];
-    let put = [3, 0, 2, 255, 64, 66, 15, 0, 1, 0, 0, 0, 0, 0, 0, 0];
+    let host = record([0, 1, 0, 255, 64, 66, 15, 0, 16, 0, 0, 0, 0, 0, 0, 0]);
+    let put = record([3, 0, 2, 255, 64, 66, 15, 0, 1, 0, 0, 0, 0, 0, 0, 0]);
     writes(&host, &SEVEN, &[put, SEVEN, ZERO].concat());
-    let host = [0, 3, 0, 255, 5, 0, 0, 0, 16, 0, 0, 0, 0, 0, 0, 0];
-    let put = [3, 2, 2, 255, 5, 0, 0, 0, 1, 0, 0, 0, 0, 0, 0, 0];
+    let host = record([0, 3, 0, 255, 5, 0, 0, 0, 16, 0, 0, 0, 0, 0, 0, 0]);
+    let put = record([3, 2, 2, 255, 5, 0, 0, 0, 1, 0, 0, 0, 0, 0, 0, 0]);
     writes(&host, &SEVEN, &[put, SEVEN, ZERO].concat());
-    let host = [0, 7, 0, 255, 5, 0, 0, 0, 16, 0, 0, 0, 0, 0, 0, 0];
-    let put = [3, 6, 2, 255, 5, 0, 0, 0, 1, 0, 0, 0, 0, 0, 0, 0];
+    let host = record([0, 7, 0, 255, 5, 0, 0, 0, 16, 0, 0, 0, 0, 0, 0, 0]);
+    let put = record([3, 6, 2, 255, 5, 0, 0, 0, 1, 0, 0, 0, 0, 0, 0, 0]);
     writes(&host, &SEVEN, &[put, SEVEN, ZERO].concat());
 }
 
 #[test]
 fn limits_of_the_run_name_the_loop() {
     // 7, four times in the run.
-    let sent = [0, 0, 0, 255, 4, 0, 0, 0, 7, 0, 0, 0, 0, 0, 0, 0];
-    let put = [3, 0, 2, 0, 0, 0, 0, 0, 1, 0, 0, 0, 0, 0, 0, 0];
-    let named = [0, 0, 0, 1, 4, 0, 0, 0, 7, 0, 0, 0, 0, 0, 0, 0];
+    let sent = record([0, 0, 0, 255, 4, 0, 0, 0, 7, 0, 0, 0, 0, 0, 0, 0]);
+    let put = record([3, 0, 2, 0, 0, 0, 0, 0, 1, 0, 0, 0, 0, 0, 0, 0]);
+    let named = record([0, 0, 0, 1, 4, 0, 0, 0, 7, 0, 0, 0, 0, 0, 0, 0]);
     writes(&X, &sent, &[put, named, ZERO].concat());
     // The triangular number of symbol 4 as often.
-    let sent_6 = [0, 6, 0, 255, 4, 0, 0, 0, 7, 0, 0, 0, 0, 0, 0, 0];
-    let named_6 = [0, 6, 0, 1, 4, 0, 0, 0, 7, 0, 0, 0, 0, 0, 0, 0];
+    let sent_6 = record([0, 6, 0, 255, 4, 0, 0, 0, 7, 0, 0, 0, 0, 0, 0, 0]);
+    let named_6 = record([0, 6, 0, 1, 4, 0, 0, 0, 7, 0, 0, 0, 0, 0, 0, 0]);
     writes(&X, &sent_6, &[put, named_6, ZERO].concat());
     // The block's own limit still names the run.
-    let host = [0, 1, 0, 255, 5, 0, 0, 0, 16, 0, 0, 0, 0, 0, 0, 0];
-    let put = [3, 0, 2, 255, 5, 0, 0, 0, 1, 0, 0, 0, 0, 0, 0, 0];
+    let host = record([0, 1, 0, 255, 5, 0, 0, 0, 16, 0, 0, 0, 0, 0, 0, 0]);
+    let put = record([3, 0, 2, 255, 5, 0, 0, 0, 1, 0, 0, 0, 0, 0, 0, 0]);
     writes(&host, &sent, &[put, named, ZERO].concat());
 }
 
@@ -145,22 +138,26 @@ fn limits_in_a_body_count_its_loop_and_those_in_an_exit_do_not() {
         [0, 0, 0, 0, 0, 0, 0, 0, 0, 0, 0, 0, 0, 0, 0, 0],
         [0, 0, 0, 0, 0, 0, 0, 0, 7, 0, 0, 0, 0, 0, 0, 0],
     ];
-    writes(&host.concat(), &sent.concat(), &written.concat());
+    writes(
+        &host.map(record).concat(),
+        &sent.map(record).concat(),
+        &written.map(record).concat(),
+    );
 }
 
 #[test]
 fn the_second_grafter_alone() {
-    let put = [3, 0, 2, 0, 0, 0, 0, 0, 1, 0, 0, 0, 0, 0, 0, 0];
+    let put = record([3, 0, 2, 0, 0, 0, 0, 0, 1, 0, 0, 0, 0, 0, 0, 0]);
     let written = [put, SEVEN, ZERO].concat();
-    assert_eq!(grafter::graft(&X, &SEVEN, 16, 48), Ok(written.clone()));
+    assert_eq!(grafter::graft(&X, &SEVEN, 16, 72), Ok(written.clone()));
     assert_eq!(grafter::graft(&X, &SEVEN, 16, 100), Ok(written));
-    assert_eq!(grafter::graft(&X, &SEVEN, 17, 16), Ok(X.to_vec()));
-    assert_eq!(grafter::graft(&X, &SEVEN, 16, 47), Err(8));
-    assert_eq!(grafter::graft(&X, &X, 16, 48), Err(11));
-    assert_eq!(grafter::graft(&X, &SEVEN, 32, 48), Err(11));
+    assert_eq!(grafter::graft(&X, &SEVEN, 17, 24), Ok(X.to_vec()));
+    assert_eq!(grafter::graft(&X, &SEVEN, 16, 71), Err(8));
+    assert_eq!(grafter::graft(&X, &X, 16, 72), Err(11));
+    assert_eq!(grafter::graft(&X, &SEVEN, 32, 72), Err(11));
     let deep = in_sequences(31, block(7));
-    assert_eq!(grafter::graft(&X, &deep, 17, 16), Ok(X.to_vec()));
-    assert_eq!(grafter::graft(&X, &deep, 16, 8_192), Err(12));
+    assert_eq!(grafter::graft(&X, &deep, 17, 24), Ok(X.to_vec()));
+    assert_eq!(grafter::graft(&X, &deep, 16, 12_288), Err(12));
     assert_eq!(grafter::graft(&X, &[], 32, 0), Err(1));
     assert_eq!(grafter::graft(&[], &deep, 32, 0), Err(1));
 }
@@ -272,7 +269,7 @@ fn the_sent_tables_other_fields_stay() {
     };
     let mut expected = sent(|node| once(node, 2));
     // The exit's limit, in the last record.
-    let last = expected.len() - 16;
+    let last = expected.len() - 24;
     expected[last + 3] = 1;
     writes(&x(), &sent(|node| once(node, 255)), &put(expected));
 }
@@ -526,7 +523,7 @@ fn results_of_512_and_513_records() {
     let host = symbol_block(17);
     let writes_records = |host: &[u8], sent: &[u8], records: usize| {
         let length = graft_for(host, sent, 17).map(|written| written.len());
-        assert_eq!(length, Ok(records * 16));
+        assert_eq!(length, Ok(records * 24));
     };
     writes_records(&host, &long(509), 511);
     writes_records(&host, &long(510), 512);
@@ -655,46 +652,46 @@ fn questions_are_put_in_order() {
         }
         for host in all() {
             assert_eq!(grafts.answer(host, &table, 0, 0), Err(sent));
-            assert_eq!(grafts.answer(host, &table, 16, 8_192), Err(sent));
+            assert_eq!(grafts.answer(host, &table, 16, 12_288), Err(sent));
         }
     }
     for host in 1..=7 {
         let table = failing(host);
-        assert_eq!(grafts.answer(&table, &block(7), 16, 8_192), Err(host));
+        assert_eq!(grafts.answer(&table, &block(7), 16, 12_288), Err(host));
         assert_eq!(grafts.answer(&table, &x(), 16, 0), Err(host));
         assert_eq!(grafts.answer(&table, &block(7), 0, 0), Err(host));
     }
     for host in all() {
-        for room in [0, 8_192] {
+        for room in [0, 12_288] {
             assert_eq!(grafts.answer(host, &x(), 16, room), Err(11));
             assert_eq!(grafts.answer(host, &block(7), 32, room), Err(11));
         }
     }
     for host in &full {
-        for room in [0, 8_192] {
+        for room in [0, 12_288] {
             assert_eq!(grafts.answer(host, &block(7), 16, room), Err(12));
         }
     }
     // This one is written, in 5 records.
     assert_eq!(grafts.answer(&good, &block(7), 16, 0), Err(8));
-    assert_eq!(grafts.answer(&good, &block(7), 16, 79), Err(8));
-    assert!(grafts.answer(&good, &block(7), 16, 80).is_ok());
-    assert!(grafts.answer(&good, &block(7), 16, 81).is_ok());
+    assert_eq!(grafts.answer(&good, &block(7), 16, 119), Err(8));
+    assert!(grafts.answer(&good, &block(7), 16, 120).is_ok());
+    assert!(grafts.answer(&good, &block(7), 16, 121).is_ok());
 }
 
 #[test]
 fn question_8_asks_for_the_results_length() {
     let mut grafts = Grafts::new(0);
     let host = sequence(&[x(), block(0)]);
-    assert_eq!(grafts.answer(&host, &block(7), 16, 48), Err(8));
+    assert_eq!(grafts.answer(&host, &block(7), 16, 72), Err(8));
     // A host without the symbol wants its own length alone, however long the sent table.
-    assert_eq!(grafts.answer(&host, &long_of_y(512), 18, 48), Ok(host));
+    assert_eq!(grafts.answer(&host, &long_of_y(512), 18, 72), Ok(host));
 }
 
 #[test]
 fn nothing_lent() {
     let refused = |refused| Grafted { refused, length: 0 };
-    let mut out = [7; 16];
+    let mut out = [7; 24];
     for symbol in [16, 0] {
         assert_eq!(raw::graft(&[], &[], symbol, &mut []), refused(1));
         assert_eq!(raw::graft(&[], &SEVEN, symbol, &mut out), refused(1));
@@ -702,10 +699,10 @@ fn nothing_lent() {
     }
     assert_eq!(raw::graft(&SEVEN, &SEVEN, 16, &mut []), refused(8));
     assert_eq!(raw::graft(&X, &SEVEN, 16, &mut out), refused(8));
-    assert_eq!(out, [7; 16]);
+    assert_eq!(out, [7; 24]);
     let written = Grafted {
         refused: 0,
-        length: 16,
+        length: 24,
     };
     let answer = raw::graft(&SEVEN, &SEVEN, 16, &mut out);
     assert_eq!((answer, out), (written, SEVEN));
@@ -713,19 +710,19 @@ fn nothing_lent() {
 
 #[test]
 fn one_table_may_be_lent_twice() {
-    let mut out = [9; 64];
+    let mut out = [9; 96];
     let answer = raw::graft(&X, &X, 16, &mut out);
     assert_eq!((answer.refused, answer.length), (11, 0));
-    assert_eq!(out, [9; 64]);
+    assert_eq!(out, [9; 96]);
     let answer = raw::graft(&X, &X, 17, &mut out);
-    assert_eq!((answer.refused, answer.length), (0, 16));
-    assert_eq!(out[..16], X);
-    assert_eq!(out[16..], [9; 48]);
+    assert_eq!((answer.refused, answer.length), (0, 24));
+    assert_eq!(out[..24], X);
+    assert_eq!(out[24..], [9; 72]);
     // The sent table is the host's last record.
     let host = sequence(&[x(), block(7)]);
-    let mut out = [9; 96];
-    let answer = raw::graft(&host, &host[32..], 16, &mut out);
-    assert_eq!((answer.refused, answer.length), (0, 80));
-    assert_eq!(out[..80], sequence(&[put(block(7)), block(7)]));
-    assert_eq!(out[80..], [9; 16]);
+    let mut out = [9; 144];
+    let answer = raw::graft(&host, &host[48..], 16, &mut out);
+    assert_eq!((answer.refused, answer.length), (0, 120));
+    assert_eq!(out[..120], sequence(&[put(block(7)), block(7)]));
+    assert_eq!(out[120..], [9; 24]);
 }

@@ -19,7 +19,7 @@ use volefleece_tests::trees::{self, Amount, Amounts, Kind, Limit, Tree};
 const CEILING: u64 = 1_000_000_000_000;
 
 /// Room for any table.
-const ROOM: usize = 8_192;
+const ROOM: usize = 12_288;
 
 const SMALL: Amounts = Amounts {
     time: 9,
@@ -114,7 +114,7 @@ fn block_under(rng: &mut Rng, tree: &Tree, loops: usize) -> usize {
     let table = tree.encode();
     let around = trees::loops_around(tree);
     let blocks: Vec<usize> = (0..around.len())
-        .filter(|&record| table[record * 16] == 0 && around[record] == loops)
+        .filter(|&record| table[record * 24] == 0 && around[record] == loops)
         .collect();
     rng.pick(&blocks)
 }
@@ -158,6 +158,8 @@ struct Reached {
     limits: [u64; 4],
     /// Those with no limit above them, and those with some.
     above: [u64; 2],
+    /// Those at address 0, and those at another.
+    addresses: [u64; 2],
     /// The limits on places that named the run, the first loop around, the second, and further ones.
     names: [u64; 4],
     /// The sent tables' whole-run limits under no loop of their own, under one, two, and more.
@@ -171,13 +173,13 @@ impl Reached {
         self.count_places(&pair.host, 0, false, pair.symbol);
         if pair.host.places(pair.symbol) > 0 {
             let around = trees::loops_around(&pair.sent);
-            for (record, loops) in pair.sent.encode().chunks(16).zip(around) {
+            for (record, loops) in pair.sent.encode().chunks(24).zip(around) {
                 self.own_loops[loops.min(3)] += u64::from(record[3] == 255);
             }
             self.triangular[0] += u64::from(!pair.sent.triangles().is_empty());
         }
         let is_elsewhere = |record: &[u8]| record[1] & 4 != 0 && !is_place(record, pair.symbol);
-        let is_triangular = pair.host.encode().chunks(16).any(is_elsewhere);
+        let is_triangular = pair.host.encode().chunks(24).any(is_elsewhere);
         self.triangular[1] += u64::from(is_triangular);
     }
 
@@ -186,6 +188,7 @@ impl Reached {
         if node.kind == Kind::Block(Amount::Symbol(symbol)) {
             self.places[place] += 1;
             self.above[usize::from(is_limited)] += 1;
+            self.addresses[usize::from(node.address != 0)] += 1;
             match node.limit {
                 None => self.limits[0] += 1,
                 Some(Limit { names, amount }) => {
@@ -211,8 +214,16 @@ impl Reached {
     }
 
     fn assert_all(&self, times: u64) {
-        let counts = [&self.places[..], &self.limits, &self.above, &self.names];
-        let counts = [&counts.concat()[..], &self.own_loops, &self.triangular].concat();
+        let counts = [
+            &self.places[..],
+            &self.limits,
+            &self.above,
+            &self.addresses,
+            &self.names,
+            &self.own_loops,
+            &self.triangular,
+        ];
+        let counts = counts.concat();
         assert!(counts.iter().all(|&count| count >= times), "{self:?}");
     }
 }
@@ -255,7 +266,7 @@ fn limits_under_every_number_of_loops_on_both_sides() {
             names[around][usize::from(named.min(8))] += 1;
             own_loops[own] += 1;
             let mut body = pair.sent.encode();
-            body[16 * limited + 3] = own as u8 + 1;
+            body[24 * limited + 3] = own as u8 + 1;
             Ok(spliced(&pair.host.encode(), place, &body))
         };
         assert_eq!(pair.answer(&mut grafts, ROOM), expected);
@@ -270,12 +281,14 @@ fn limits_under_every_number_of_loops_on_both_sides() {
 
 /// The host with a loop around this body in place of the block at that record, byte by byte.
 fn spliced(host: &[u8], place: usize, body: &[u8]) -> Vec<u8> {
-    let (before, rest) = host.split_at(16 * place);
-    let (block, after) = rest.split_at(16);
+    let (before, rest) = host.split_at(24 * place);
+    let (block, after) = rest.split_at(24);
     let top = [3, block[1] & 6, 2];
     let limit = &block[3..8];
     let bound = [1, 0, 0, 0, 0, 0, 0, 0];
-    [before, &top, limit, &bound, body, &[0; 16], after].concat()
+    let address = &block[16..];
+    let exit = [&[0; 20][..], &[255; 4]].concat();
+    [before, &top, limit, &bound, address, body, &exit, after].concat()
 }
 
 #[test]
@@ -309,7 +322,7 @@ fn one_table_lent_twice() {
         // The whole of it, or some subtree.
         let most = rng.pick(&[1, pair.host.records()]);
         let part = fits::subtree(&host, rng.index(most));
-        let sent = &host[16 * part.start..16 * part.end];
+        let sent = &host[24 * part.start..24 * part.end];
         let symbol = rng.pick(&[pair.symbol, pair.symbol ^ 1]);
         let mut out = vec![9; ROOM];
         let answer = raw::graft(&host, sent, symbol, &mut out);
@@ -365,7 +378,7 @@ fn results_far_past_512_records() {
         });
         let places = rng.pick(&[3, 64, 128, 512]);
         let pair = Pair::new(&mut rng, host, sent, places);
-        let room = rng.pick(&[0, ROOM, 16 * pair.records()]);
+        let room = rng.pick(&[0, ROOM, 24 * pair.records()]);
         assert_eq!(pair.answer(&mut grafts, room), Err(12));
         most = most.max(pair.records());
     }
@@ -461,11 +474,11 @@ fn buffers_of_every_length() {
     let (mut rng, mut grafts) = start(510);
     for _ in 0..30_000 {
         let pair = Pair::random(&mut rng, SMALL);
-        let length = 16 * pair.records();
+        let length = 24 * pair.records();
         let room = match rng.index(4) {
-            0 => rng.pick(&[0, 1, 16, length - 16, length - 1]),
-            1 => rng.pick(&[length, length + 1, length + 16, ROOM, ROOM + 1]),
-            2 => 16 * pair.host.records(),
+            0 => rng.pick(&[0, 1, 24, length - 24, length - 1]),
+            1 => rng.pick(&[length, length + 1, length + 24, ROOM, ROOM + 1]),
+            2 => 24 * pair.host.records(),
             _ => rng.size(0..=2 * length.min(ROOM)),
         };
         match pair.answer(&mut grafts, room) {
@@ -534,7 +547,7 @@ fn expect_first(rng: &mut Rng, grafts: &mut Grafts, faults: &[usize]) {
         let places = rng.size(0..=3);
         add_places(&mut pair, places);
     }
-    let length = 16 * pair.records();
+    let length = 24 * pair.records();
     let room = if faults.contains(&BUFFER) {
         rng.pick(&[0, length / 2, length - 1])
     } else {
@@ -622,7 +635,7 @@ fn damage(rng: &mut Rng, table: &mut Vec<u8>) {
         3 => damage::duplicate_record(rng, table),
         4 => damage::remove_record(rng, table),
         _ => {
-            let length = rng.size(0..=table.len() + 20);
+            let length = rng.size(0..=table.len() + 30);
             table.resize(length, 0);
         }
     }
@@ -641,7 +654,7 @@ fn noise_of_every_kind() {
         });
         // Of the time symbols, noise has but 16 and 31.
         let symbol = rng.pick(&[16, 31, 20, 32]);
-        let room = rng.pick(&[ROOM, ROOM, 64]);
+        let room = rng.pick(&[ROOM, ROOM, 96]);
         grafts.compare(&host, &sent, symbol, room);
     }
     let answers = [(0, 3_000), (1, 3_000), (2, 3_000), (4, 2_000), (6, 500)];

@@ -44,7 +44,8 @@ fn null_with_length_0_lends_nothing_to_write_to() {
     let no_table = (null(), 0);
     let table = block(7);
     let one = (table.as_ptr(), table.len());
-    let mut buffer = [5; 8192];
+    let former = [0; 16];
+    let mut buffer = [5; 12_288];
     let room = (buffer.as_mut_ptr(), buffer.len());
 
     // SAFETY: as above.
@@ -60,6 +61,9 @@ fn null_with_length_0_lends_nothing_to_write_to() {
             assert_eq!(graft(no_table, one), 1);
             assert_eq!(graft(one, no_table), 1);
             assert_eq!(graft(one, one), refused);
+            let convert = |(old, len)| raw::vf_convert(old, len, out, out_len).refused;
+            assert_eq!(convert(no_table), 1);
+            assert_eq!(convert((former.as_ptr(), former.len())), refused);
         }
     }
 }
@@ -74,17 +78,19 @@ fn threads_may_call_at_once() {
         *number = u64::from_le_bytes(bytes);
     }
     let sent = block(90_000);
+    let former = [7; 8_192];
     let call_all = || {
         let mut list = [0; 512];
-        let (mut simple, mut whole) = ([0; 8192], [0; 8192]);
+        let (mut simple, mut whole, mut made) = ([0; 12_288], [0; 12_288], [0; 12_288]);
         let answers = (
             raw::check(&tree),
             raw::figure(&tree, &numbers),
             raw::list(&tree, &numbers, &mut list),
             raw::simplify(&tree, u64::MAX, &mut simple),
             raw::graft(&tree, &sent, 16, &mut whole),
+            raw::convert(&former, &mut made),
         );
-        (answers, list, simple, whole)
+        (answers, list, simple, whole, made)
     };
     let alone = call_all();
     let quoted = alone.0 .1;

@@ -3,67 +3,13 @@
 //! here are literals.
 
 use volefleece_tests::cases::cases;
-use volefleece_tests::compare::shown;
 use volefleece_tests::evaluator;
 use volefleece_tests::quotes;
-use volefleece_tests::reader;
-use volefleece_tests::simplifications::Simplifications;
-use volefleece_tests::simplifier::{step, Simplified};
+use volefleece_tests::simplifications::{agreed, becomes, ends, stays};
+use volefleece_tests::simplifier::Simplified;
 use volefleece_tests::tables::*;
-use volefleece_tests::trees::Tree;
 
 const ZEROS: [u64; 32] = [0; 32];
-
-fn read(table: &[u8]) -> Tree {
-    match reader::check(table) {
-        Ok(tree) => tree,
-        Err(question) => panic!("refused {question}: {}", shown(table)),
-    }
-}
-
-/// What both simplifiers answer.
-#[track_caller]
-fn simplify(table: &[u8], allowance: u64, room: usize) -> Result<Simplified, u64> {
-    Simplifications::new(0).answer(table, allowance, room)
-}
-
-/// The first step takes that rule and makes that table.
-#[track_caller]
-fn becomes(before: &[u8], rule: usize, after: &[u8]) {
-    let mut tree = read(before);
-    let taken = step(&mut tree);
-    let table = tree.encode();
-    assert!(
-        taken == Some(rule) && table == after,
-        "rule {taken:?} made of {}this: {}",
-        shown(before),
-        shown(&table)
-    );
-    let answer = simplify(before, 1, before.len()).expect("small amounts");
-    assert_eq!((answer.steps, &answer.bytes[..]), (1, after));
-}
-
-/// No rule fits.
-#[track_caller]
-fn stays(table: &[u8]) {
-    let taken = step(&mut read(table));
-    assert_eq!(taken, None, "{}", shown(table));
-    let answer = simplify(table, u64::MAX, table.len()).expect("small amounts");
-    assert!(answer.steps == 0 && answer.finished && answer.bytes == table);
-}
-
-/// With steps enough, so many are taken and make that table, which stays.
-#[track_caller]
-fn ends(before: &[u8], steps: u64, after: &[u8]) {
-    let expected = Simplified {
-        bytes: after.to_vec(),
-        steps,
-        finished: true,
-    };
-    let answer = simplify(before, u64::MAX, before.len());
-    assert_eq!(answer, Ok(expected), "{}", shown(before));
-    stays(after);
-}
 
 fn x() -> Vec<u8> {
     symbol_block(16)
@@ -105,7 +51,7 @@ fn cases_without_symbols_become_their_figures() {
     for case in cases() {
         match case.answer {
             Err(question) => {
-                let answer = simplify(&case.table, u64::MAX, case.table.len());
+                let answer = agreed(&case.table, u64::MAX, case.table.len());
                 assert_eq!(answer, Err(question), "case {}", case.name);
             }
             Ok(_) if case.name.starts_with(['J', 'K']) => {}
@@ -698,22 +644,22 @@ fn questions_are_put_in_order() {
             finished,
         })
     };
-    assert_eq!(simplify(&good, 0, 48), simplified(0, &good, false));
+    assert_eq!(agreed(&good, 0, 72), simplified(0, &good, false));
     let first = sequence(&[x()]);
-    assert_eq!(simplify(&good, 1, 48), simplified(1, &first, false));
-    assert_eq!(simplify(&good, 2, 48), simplified(2, &x(), true));
-    assert_eq!(simplify(&good, 3, 48), simplified(2, &x(), true));
-    assert_eq!(simplify(&good, 3, 100), simplified(2, &x(), true));
-    assert_eq!(simplify(&x(), 0, 16), simplified(0, &x(), true));
+    assert_eq!(agreed(&good, 1, 72), simplified(1, &first, false));
+    assert_eq!(agreed(&good, 2, 72), simplified(2, &x(), true));
+    assert_eq!(agreed(&good, 3, 72), simplified(2, &x(), true));
+    assert_eq!(agreed(&good, 3, 100), simplified(2, &x(), true));
+    assert_eq!(agreed(&x(), 0, 24), simplified(0, &x(), true));
 
-    assert_eq!(simplify(&good, 3, 47), Err(8));
-    assert_eq!(simplify(&good, 0, 0), Err(8));
+    assert_eq!(agreed(&good, 3, 71), Err(8));
+    assert_eq!(agreed(&good, 0, 0), Err(8));
     let past = sequence(&[block(1_000_000_000_000), block(1)]);
-    assert_eq!(simplify(&past, 0, 48), Err(10));
-    assert_eq!(simplify(&past, 0, 47), Err(8));
+    assert_eq!(agreed(&past, 0, 72), Err(10));
+    assert_eq!(agreed(&past, 0, 71), Err(8));
     let heavy = in_loops(8, 3, once(block(7), 255));
-    assert_eq!(simplify(&heavy, 0, 0), Err(7));
-    assert_eq!(simplify(&[], 0, 0), Err(1));
+    assert_eq!(agreed(&heavy, 0, 0), Err(7));
+    assert_eq!(agreed(&[], 0, 0), Err(1));
     // Symbols are 0 for question 10, and so are their triangular numbers.
     let one = || block(1);
     let at_ceiling = [
@@ -724,11 +670,11 @@ fn questions_are_put_in_order() {
     ];
     for node in at_ceiling {
         let table = sequence(&[block(1_000_000_000_000), node]);
-        let answer = simplify(&table, 9, table.len());
+        let answer = agreed(&table, 9, table.len());
         assert_eq!(answer, simplified(0, &table, true));
     }
     let limited = sequence(&[block(1_000_000_000_000), once(one(), 255)]);
-    assert_eq!(simplify(&limited, 9, 48), Err(10));
+    assert_eq!(agreed(&limited, 9, 72), Err(10));
 }
 
 /// Question 13 is about values, and simplifying is lent none.

@@ -25,8 +25,8 @@ fn every_step_is_the_lowest_rule_at_the_earliest_record() {
     // How often each rule was taken at the root, and below, and at a node whose limit has flag 4.
     let mut taken = [[0; 10]; 2];
     let mut triangular = [0; 10];
-    // And how often what rule 8 shares has it.
-    let mut shared = 0;
+    // And how often what rule 8 shares has it, and how often it is at other addresses elsewhere.
+    let (mut shared, mut apart) = (0, 0);
     for round in 0..36_000 {
         let records = records(&mut rng);
         let tree = match round % 6 {
@@ -41,8 +41,14 @@ fn every_step_is_the_lowest_rule_at_the_earliest_record() {
             assert_eq!(rule, lowest, "record {record} of {}", shown(&pair[0]));
             assert_changed_at(record, &pair[0], &pair[1]);
             taken[record.min(1)][rule] += 1;
-            triangular[rule] += u64::from(has_flag_4(&pair[0][16 * record..][..16]));
-            shared += u64::from(rule == 8 && has_flag_4(second_child(&pair[0], record)));
+            triangular[rule] += u64::from(has_flag_4(&pair[0][24 * record..][..24]));
+            if rule == 8 {
+                let one = record + 1;
+                let other = fits::subtree(&pair[0], one).end;
+                let seconds = [one, other].map(|record| second_child(&pair[0], record));
+                shared += u64::from(has_flag_4(seconds[0]));
+                apart += u64::from(seconds[0] != seconds[1]);
+            }
         }
         let last = &tables[rules.len()];
         assert_eq!(fits::first(last), None, "{}", shown(last));
@@ -57,21 +63,21 @@ fn every_step_is_the_lowest_rule_at_the_earliest_record() {
     assert!(lists.iter().all(|&times| times > 100), "{triangular:?}");
     let others = [1, 4, 9].map(|rule| triangular[rule]);
     assert_eq!(others, [0; 3]);
-    assert!(shared > 500, "{shared}");
+    assert!(shared > 500 && apart > 2_000, "{shared}, {apart}");
 }
 
-/// The second child of the first child of the choice at that record.
+/// The second child of the sequence of two at that record.
 fn second_child(table: &[u8], record: usize) -> &[u8] {
-    let first = fits::subtree(table, record + 2);
+    let first = fits::subtree(table, record + 1);
     let second = fits::subtree(table, first.end);
-    &table[16 * second.start..16 * second.end]
+    &table[24 * second.start..24 * second.end]
 }
 
 /// Neither what is before the subtree of that record has changed nor what is after it, but the
 /// subtree has.
 fn assert_changed_at(record: usize, before: &[u8], after: &[u8]) {
     let subtree = fits::subtree(before, record);
-    let (left, right) = (16 * subtree.start, before.len() - 16 * subtree.end);
+    let (left, right) = (24 * subtree.start, before.len() - 24 * subtree.end);
     assert!(
         before != after
             && before[..left] == after[..left]
@@ -142,7 +148,7 @@ impl Demand3 {
         self.figures += 1;
         self.triangular += u64::from(has_flag_4(&tables[0]));
         for table in some_of(rng, tables) {
-            let accepted = Checked::accept(table.len() / 16);
+            let accepted = Checked::accept(table.len() / 24);
             assert_eq!(raw::check(table), accepted, "{}", shown(table));
             let sales = figure(table, values);
             assert_eq!(sales, Some(reception), "{}", both(&tables[0], table));

@@ -268,8 +268,8 @@ fn buffers_of_every_length() {
         let table = redundant_table(&mut rng);
         let length = table.len();
         let room = match rng.index(4) {
-            0 => rng.pick(&[0, 1, length - 16, length - 1]),
-            1 => rng.pick(&[length, length + 1, length + 16, 8_192, 9_000]),
+            0 => rng.pick(&[0, 1, length - 24, length - 1]),
+            1 => rng.pick(&[length, length + 1, length + 24, 12_288, 13_000]),
             _ => rng.size(0..=2 * length),
         };
         let allowance = rng.pick(&[0, 1, 3, u64::MAX]);
@@ -290,16 +290,16 @@ fn nothing_lent() {
     };
     for allowance in [0, 1, u64::MAX] {
         assert_eq!(raw::simplify(&[], allowance, &mut []), refused(1));
-        let mut out = [7; 16];
+        let mut out = [7; 24];
         assert_eq!(raw::simplify(&[], allowance, &mut out), refused(1));
-        assert_eq!(out, [7; 16]);
+        assert_eq!(out, [7; 24]);
         assert_eq!(raw::simplify(&block(3), allowance, &mut []), refused(8));
     }
-    let mut out = [7; 16];
+    let mut out = [7; 24];
     let answer = raw::simplify(&block(3), 0, &mut out);
     let expected = Simplified {
         refused: 0,
-        length: 16,
+        length: 24,
         steps: 0,
         finished: 1,
     };
@@ -388,7 +388,7 @@ fn noise_of_every_kind() {
     for round in 0..40_000 {
         let table = noise::KINDS[round % noise::KINDS.len()](&mut rng);
         let allowance = rng.pick(&[0, 1, 3, u64::MAX]);
-        let room = table.len() + rng.pick(&[0, 0, 16]);
+        let room = table.len() + rng.pick(&[0, 0, 24]);
         simplifications.compare(&table, allowance, room);
     }
     let answers = [(0, 5_000), (1, 2_000), (2, 2_000), (4, 2_000), (6, 500)];

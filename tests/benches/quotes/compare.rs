@@ -1,5 +1,5 @@
 //! The calls of this build against those of another one, on the same tables in one run: what a change
-//! made faster or slower. Both need the same C interface.
+//! made faster or slower. Both need the same C interface and the same form of tables.
 //!
 //! Each is loaded at four places, and the means of the best times there are compared.
 

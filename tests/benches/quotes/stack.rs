@@ -1,12 +1,12 @@
-//! The stack that the calls want on the deepest tables, and grafting on the longest too. A child
-//! process makes them with less and less stack, until it no longer returns.
+//! The stack that the calls want on the deepest tables, and grafting and converting on the longest too.
+//! A child process makes them with less and less stack, until it no longer returns.
 
 use crate::quote::flat_tree;
 use std::env;
 use std::hint::black_box;
 use std::process::{Command, Stdio};
 use volefleece::raw;
-use volefleece_tests::format::{LIST_ROOM, MOST_RECORDS, RECORD_BYTES};
+use volefleece_tests::format::{FORMER_RECORD_BYTES, LIST_ROOM, MOST_RECORDS, RECORD_BYTES};
 use volefleece_tests::rng::Rng;
 use volefleece_tests::trees::{self, Amount, Amounts, Kind, Tree};
 
@@ -47,6 +47,7 @@ pub fn probe() {
     quote_and_simplify(&mut rng);
     graft_deepest(&mut rng);
     graft_longest(&mut rng);
+    convert_longest();
 }
 
 /// Quotes and simplifies tables of depth 32 with every number of loops.
@@ -117,6 +118,12 @@ fn graft_longest(rng: &mut Rng) {
     assert_eq!(graft(&Tree::symbol_block(SYMBOL), &long), 0);
     assert_eq!(graft(&many, &Tree::block(7)), 0);
     assert_eq!(graft(&most, &longest), 12);
+}
+
+fn convert_longest() {
+    let old = vec![0; MOST_RECORDS * FORMER_RECORD_BYTES];
+    let mut out = vec![0; MOST_RECORDS * RECORD_BYTES];
+    assert_eq!(raw::convert(black_box(&old), &mut out).refused, 0);
 }
 
 /// The library's answer.

@@ -1,5 +1,6 @@
-//! The comparison by words, which rule 8 makes of second children, against one byte by byte and plain
-//! Rust's own. The first two are loops of as many instructions, each measured at four places in memory.
+//! The comparison by words, which rule 8 makes of each record of second children without its address,
+//! against one byte by byte and plain Rust's own. The first two are loops of as many instructions, each
+//! measured at four places in memory.
 
 use crate::places::{Loaded, PLACES};
 use volefleece_tests::probes::Compared;

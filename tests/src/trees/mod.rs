@@ -1,6 +1,7 @@
 //! A plain tree and its encoder. The type shuts out little: numbers may be out of range, and limits
 //! may name anything.
 
+mod addresses;
 mod amounts;
 mod places;
 mod random;
@@ -43,15 +44,18 @@ pub enum Kind {
 pub struct Tree {
     pub kind: Kind,
     pub limit: Option<Limit>,
+    pub address: u32,
     /// Of a loop: its body, then its exit.
     pub children: Vec<Tree>,
 }
 
 impl Tree {
+    /// A node without a limit, at address 0.
     pub fn new(kind: Kind, children: Vec<Tree>) -> Self {
         Tree {
             kind,
             limit: None,
+            address: 0,
             children,
         }
     }
@@ -72,8 +76,9 @@ impl Tree {
 
     /// The same tree without its limits.
     pub fn unlimited(&self) -> Tree {
-        let children = self.children.iter().map(Tree::unlimited);
-        Tree::new(self.kind, children.collect())
+        let mut tree = self.clone();
+        tree.visit_mut(&mut |node| node.limit = None);
+        tree
     }
 
     /// The node at a record, counted from 0.
@@ -94,18 +99,38 @@ impl Tree {
 
     pub fn encode(&self) -> Vec<u8> {
         let mut table = Vec::with_capacity(self.records() * RECORD_BYTES);
-        self.write(&mut table);
+        self.visit(&mut |node| {
+            table.extend(node.fields());
+            table.extend(node.address.to_le_bytes());
+            table.extend(FILLER);
+        });
         table
     }
 
-    fn write(&self, table: &mut Vec<u8>) {
-        table.extend(self.record());
+    /// The tree as a former table, which has no addresses.
+    pub fn encode_former(&self) -> Vec<u8> {
+        let mut table = Vec::with_capacity(self.records() * FORMER_RECORD_BYTES);
+        self.visit(&mut |node| table.extend(node.fields()));
+        table
+    }
+
+    /// Visits every node in the order of the records.
+    fn visit(&self, visit: &mut impl FnMut(&Tree)) {
+        visit(self);
         for child in &self.children {
-            child.write(table);
+            child.visit(visit);
         }
     }
 
-    fn record(&self) -> [u8; RECORD_BYTES] {
+    fn visit_mut(&mut self, visit: &mut impl FnMut(&mut Tree)) {
+        visit(self);
+        for child in &mut self.children {
+            child.visit_mut(visit);
+        }
+    }
+
+    /// The record's bytes before its address.
+    fn fields(&self) -> [u8; FORMER_RECORD_BYTES] {
         let nothing = Amount::Plain(0);
         let (kind, value) = match self.kind {
             Kind::Block(time) => (BLOCK, time),
@@ -118,15 +143,15 @@ impl Tree {
             Some(limit) => (limit.names, limit.amount),
         };
 
-        let mut record = [0; RECORD_BYTES];
-        record[0] = kind;
-        record[1] = value_flags(value) | limit_flags(limit);
-        record[2] = u8::try_from(self.children.len()).expect("at most 255 children");
-        record[3] = names;
+        let mut fields = [0; FORMER_RECORD_BYTES];
+        fields[0] = kind;
+        fields[1] = value_flags(value) | limit_flags(limit);
+        fields[2] = u8::try_from(self.children.len()).expect("at most 255 children");
+        fields[3] = names;
         let limit = u32::try_from(number(limit)).expect("a limit of 32 bits");
-        record[4..8].copy_from_slice(&limit.to_le_bytes());
-        record[8..16].copy_from_slice(&number(value).to_le_bytes());
-        record
+        fields[4..8].copy_from_slice(&limit.to_le_bytes());
+        fields[8..].copy_from_slice(&number(value).to_le_bytes());
+        fields
     }
 }
 

@@ -1,5 +1,6 @@
 //! Random trees whose size, depth, loops and weight are known by construction.
 
+use super::addresses::put_addresses;
 use super::triangles::often_triangular;
 use super::{Amount, Kind, Limit, Tree};
 use crate::format::*;
@@ -51,6 +52,13 @@ pub fn about_question_5(rng: &mut Rng) -> (Tree, usize, usize) {
 /// loops around any node.
 pub fn grow(rng: &mut Rng, records: usize, depth: usize, loops: usize) -> Tree {
     assert!((1..=capacity(depth)).contains(&records), "no such tree");
+    let mut tree = node(rng, records, depth, loops);
+    put_addresses(rng, &mut tree);
+    tree
+}
+
+/// A node of such a tree, and all below it.
+fn node(rng: &mut Rng, records: usize, depth: usize, loops: usize) -> Tree {
     if records == 1 {
         return block(rng);
     }
@@ -59,14 +67,14 @@ pub fn grow(rng: &mut Rng, records: usize, depth: usize, loops: usize) -> Tree {
     let may_loop = loops > 0 && (LOOP_CHILDREN..=LOOP_CHILDREN * most).contains(&below);
     if may_loop && rng.once_in(3) {
         let parts = split(rng, below, LOOP_CHILDREN, most);
-        let body = grow(rng, parts[0], depth - 1, loops - 1);
-        let exit = grow(rng, parts[1], depth - 1, loops);
+        let body = node(rng, parts[0], depth - 1, loops - 1);
+        let exit = node(rng, parts[1], depth - 1, loops);
         return Tree::new(Kind::Loop(count(rng)), vec![body, exit]);
     }
     let parts = random_parts(rng, below, most);
     let children = parts
         .into_iter()
-        .map(|part| grow(rng, part, depth - 1, loops))
+        .map(|part| node(rng, part, depth - 1, loops))
         .collect();
     Tree::new(sequence_or_choice(rng), children)
 }
@@ -121,10 +129,12 @@ enum Step {
 pub fn spine(rng: &mut Rng, depth: usize, loops: usize) -> Tree {
     let steps = spine_steps(rng, depth, loops);
     let end = block(rng);
-    steps
+    let mut tree = steps
         .into_iter()
         .rev()
-        .fold(end, |below, step| step_above(rng, step, below))
+        .fold(end, |below, step| step_above(rng, step, below));
+    put_addresses(rng, &mut tree);
+    tree
 }
 
 /// The steps of a spine, from the root on.
@@ -163,14 +173,14 @@ fn step_above(rng: &mut Rng, step: Step, below: Tree) -> Tree {
     }
 }
 
-/// Puts blocks into the sequences and choices, up to that many records in all. Neither the depth
-/// nor the loops around change.
+/// Puts blocks into the sequences and choices, up to that many records in all, and gives all nodes
+/// other addresses. Neither the depth nor the loops around change.
 pub fn pad(rng: &mut Rng, tree: &mut Tree, records: usize) {
     let mut missing = records.saturating_sub(tree.records());
     for _ in 0..100 {
         pad_once(rng, tree, &mut missing);
         if missing == 0 {
-            return;
+            return put_addresses(rng, tree);
         }
     }
     panic!("no room for {missing} more blocks");

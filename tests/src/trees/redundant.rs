@@ -1,7 +1,8 @@
 //! Random trees with much to simplify: lists of the kind of the list above, lists of one child, zeros,
-//! loops that are never passed, choices whose alternatives end alike, and all of this with limits and
-//! symbols here and there.
+//! loops that are never passed, choices whose alternatives end alike but for addresses, and all of this
+//! with limits and symbols here and there.
 
+use super::addresses::put_addresses;
 use super::random::{capacity, pad, put_limits, random_parts, sequence_or_choice, spine, split};
 use super::triangles::{flip_first_triangle, often_triangular};
 use super::{Amount, Amounts, Kind, Limit, Tree};
@@ -15,7 +16,7 @@ pub fn redundant(rng: &mut Rng, records: usize) -> Tree {
     let loops = rng.size(0..=MOST_LOOPS);
     let above = sequence_or_choice(rng);
     let tree = Growth::new(rng, loops).limited_node(records, depth, 0, above);
-    lightened(tree)
+    finished(rng, tree)
 }
 
 /// A sequence or choice of about 255 children, some of them lists of its own kind, so that these fit
@@ -31,7 +32,7 @@ pub fn crowded(rng: &mut Rng) -> Tree {
         let place = growth.rng.size(0..=children.len());
         children.insert(place, growth.list(records, 3, 0, kind));
     }
-    lightened(Tree::new(kind, children))
+    finished(rng, Tree::new(kind, children))
 }
 
 /// A choice of sequences of two that end in equal loops with a limit inside, so that nothing reaches
@@ -61,7 +62,7 @@ pub fn ending_in_loops(rng: &mut Rng) -> Tree {
     if growth.rng.once_in(2) {
         choice.limit = Some(growth.limit(0));
     }
-    lightened(choice)
+    finished(rng, choice)
 }
 
 /// How a tree is grown. A chance is one in so many, and none at all if this is 0.
@@ -192,10 +193,11 @@ fn is_list(kind: Kind) -> bool {
     matches!(kind, Kind::Sequence | Kind::Choice)
 }
 
-/// The tree without the limits that are past question 7's weight.
-fn lightened(mut tree: Tree) -> Tree {
+/// The tree with addresses, and without the limits that are past question 7's weight.
+fn finished(rng: &Rng, mut tree: Tree) -> Tree {
     let mut left = MOST_WEIGHT;
     drop_heavy_limits(&mut tree, 0, &mut left);
+    put_addresses(rng, &mut tree);
     tree
 }
 
