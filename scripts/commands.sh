@@ -5,10 +5,15 @@ newline='
 # A program without standard error would take the first file that it opens for it.
 true >&2 || exec 2>/dev/null
 
-# Ends with a message and no line.
-fail() {
+# Writes a message.
+tell() {
     trap '' PIPE
     printf '%s: %s\n' "$name" "$1" >&2
+}
+
+# Ends with a message and no line.
+fail() {
+    tell "$1"
     exit 2
 }
 
@@ -75,4 +80,23 @@ simplify() {
     enter "$1"
     shift
     answer "$programs/sales" "$@"
+}
+
+# Turns the old.tab of a folder into its tree.tab: readdress DIR
+# The program does not say whether it wrote; if it did, tree.tab is another file than before. That one is kept open, so that no new file can be taken for it.
+readdress() {
+    enter "$1"
+    exec 8<&-
+    if [ -f tree.tab ]; then
+        [ -r tree.tab ] || fail 'tree.tab cannot be read'
+        exec 8<tree.tab
+    fi
+    ended=0
+    said=$("$programs/readdress" 2>&1 </dev/null) || ended=$?
+    [ "$ended" -eq 0 ] && [ -z "$said" ] || fail "${said:-readdress failed (status $ended)}"
+    if [ -f tree.tab ] && [ ! tree.tab -ef /dev/fd/8 ]; then
+        exit 0
+    fi
+    tell 'nothing is written: the length of old.tab is not a multiple of 16 from 16 to 8,192'
+    exit 1
 }

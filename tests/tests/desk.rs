@@ -6,12 +6,12 @@ use volefleece_tests::compare::shown;
 use volefleece_tests::evaluator::{self, Quoted};
 use volefleece_tests::faults;
 use volefleece_tests::programs::{
-    complains, sample, values_file, written, Folder, NONE, TREE, VALUES,
+    complains, sample, values_file, written, Folder, FORMER, NONE, TREE, VALUES,
 };
 use volefleece_tests::reader;
 use volefleece_tests::rng::Rng;
 use volefleece_tests::tables::*;
-use volefleece_tests::trees::{self, Amounts};
+use volefleece_tests::trees::{self, Amounts, Kind, Tree};
 
 const DESK: &str = "desk";
 
@@ -162,10 +162,19 @@ fn long_trees_are_refused_1() {
     quotes(&longest, &values, "figure 1 branch 255");
     quotes(&long(513), &values, "refused 1");
     quotes(&long(514), &values, "refused 1");
-    for longer in [1, 15, 16, 17, 100_000] {
+    for longer in [1, 23, 24, 25, 100_000] {
         let table = [&longest[..], &vec![0; longer]].concat();
         quotes(&table, &values, "refused 1");
     }
+}
+
+/// Three records of 16 bytes have the length of two of 24.
+#[test]
+fn former_tables_are_refused() {
+    quotes(&Tree::block(7).encode_former(), &[], "refused 1");
+    let blocks = vec![Tree::block(7), Tree::block(8)];
+    let three = Tree::new(Kind::Sequence, blocks).encode_former();
+    quotes(&three, &[], "refused 2");
 }
 
 #[test]
@@ -180,7 +189,7 @@ fn a_file_that_cannot_be_read_is_told() {
 /// Even where the tree alone would be refused.
 #[test]
 fn values_that_cannot_be_read_are_told() {
-    for tree in [block(7), block(7)[..15].to_vec(), Vec::new()] {
+    for tree in [block(7), block(7)[..23].to_vec(), Vec::new()] {
         let folder = Folder::with_tree(DESK, &tree);
         folder.put_folder(VALUES);
         folder.expect_complaint(&NONE, "values.tab: ");
@@ -517,6 +526,27 @@ fn random_tables_with_faults_are_refused() {
         let length = rng.size(0..=300);
         assert_eq!(expect(&table, &vec![0; length]), Err(question));
     }
+}
+
+/// As their tree is, whatever addresses it had.
+#[test]
+fn random_former_tables_are_quoted_once_converted() {
+    let mut rng = Rng::new(505);
+    let mut figures = 0;
+    for _ in 0..100 {
+        let records = rng.size(1..=60);
+        let mut tree = trees::within_limits(&mut rng, records);
+        MIDDLING.set(&mut rng, &mut tree);
+        let folder = Folder::new("readdress");
+        folder.write(FORMER, &tree.encode_former());
+        folder.run(&NONE);
+        let table = folder.read(TREE).expect("converted");
+        let values = MIDDLING.values(&mut rng);
+        let answer = expect(&table, &values_file(&values));
+        assert_eq!(answer, evaluator::figure(&tree.encode(), &values));
+        figures += u64::from(answer.is_ok());
+    }
+    assert!(figures > 30, "{figures}");
 }
 
 #[test]

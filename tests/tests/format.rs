@@ -6,7 +6,7 @@ use std::process::Command;
 use volefleece::raw;
 use volefleece_tests::compare::shown;
 use volefleece_tests::notation;
-use volefleece_tests::programs::{Folder, NONE, TREE, VALUES};
+use volefleece_tests::programs::{Folder, FORMER, NONE, TREE, VALUES};
 use volefleece_tests::reader;
 use volefleece_tests::simplifier;
 
@@ -14,6 +14,7 @@ const PAGE: &str = include_str!("../../docs/FORMAT.md");
 
 const DESK: &str = "desk";
 const SALES: &str = "sales";
+const READDRESS: &str = "readdress";
 const SIMPLE: &str = "simple.tab";
 
 /// What is wrong with the page.
@@ -59,13 +60,15 @@ fn without_remark(line: &str) -> String {
 // Examples.
 
 /// What an example may lend, by the names that it may have.
-const LENT: [&str; 6] = ["table", "host", TREE, "sent", VALUES, SIMPLE];
+const LENT: [&str; 7] = ["table", "host", TREE, "sent", VALUES, SIMPLE, FORMER];
 
 #[derive(Default)]
 struct Lent {
     /// The table, or a graft's host.
     table: Vec<u8>,
     sent: Vec<u8>,
+    /// A table of 16-byte records.
+    former: Vec<u8>,
     values_file: Vec<u8>,
     /// What the last run of `sales` wrote.
     simple: Option<Vec<u8>>,
@@ -111,7 +114,7 @@ fn run(example: &Example) -> Result<(), Wrong> {
                     return Err(format!("no call has the first {name}"));
                 }
                 unused.push(name);
-                lend(&mut lent, name, bytes(tree, &written)?)?;
+                lend(&mut lent, name, bytes(name, tree, &written)?)?;
             }
             Line::Bytes(line) => return Err(format!("bytes without a name: {line}")),
             Line::Command(command) => obey(&mut lent, command),
@@ -133,6 +136,7 @@ fn lend(lent: &mut Lent, name: &str, bytes: Vec<u8>) -> Result<(), Wrong> {
         SIMPLE if lent.simple.as_ref() == Some(&bytes) => {}
         SIMPLE => return Err(format!("{SIMPLE} is {:?}", lent.simple)),
         VALUES => lent.values_file = bytes,
+        FORMER => lent.former = bytes,
         "sent" => lent.sent = bytes,
         _ => lent.table = bytes,
     }
@@ -150,7 +154,7 @@ fn obey(lent: &mut Lent, command: &str) {
 }
 
 /// Bytes given as a tree, as lines of bytes, or as both.
-fn bytes(tree: &str, lines: &[&str]) -> Result<Vec<u8>, Wrong> {
+fn bytes(name: &str, tree: &str, lines: &[&str]) -> Result<Vec<u8>, Wrong> {
     let mut bytes = Vec::new();
     for line in lines {
         bytes.extend(hexadecimal(line)?);
@@ -158,7 +162,11 @@ fn bytes(tree: &str, lines: &[&str]) -> Result<Vec<u8>, Wrong> {
     if tree.is_empty() {
         return Ok(bytes);
     }
-    let table = notation::tree(tree)?.encode();
+    let parsed = notation::tree(tree)?;
+    let table = match name {
+        FORMER => parsed.encode_former(),
+        _ => parsed.encode(),
+    };
     if lines.is_empty() || table == bytes {
         Ok(table)
     } else {
@@ -193,6 +201,13 @@ struct Options {
     allowance: Option<u64>,
 }
 
+impl Options {
+    /// A buffer for a table.
+    fn buffer(&self) -> Vec<u8> {
+        vec![0; self.room.unwrap_or(12_288)]
+    }
+}
+
 /// `value 0 is 40`, `31 values`, `room 511`, `allowance 1`.
 fn options<'t>(words: impl Iterator<Item = &'t str>) -> Result<Options, Wrong> {
     let mut options = Options {
@@ -224,8 +239,10 @@ fn put(lent: &mut Lent, call: &str, said: &str) -> Result<(), Wrong> {
         "figure" => same(said, figure(lent, &options)),
         "list" => same(said, list(lent, &options)),
         "simplify" => simplify(lent, &options, said),
+        "convert" => convert(lent, &options, said),
         DESK => same(said, desk(lent)),
         SALES => same(said, sales(lent, &options)),
+        READDRESS => readdress(lent, said),
         _ => match name.strip_prefix("graft ") {
             Some(symbol) => graft(lent, number(symbol)?, &options, said),
             None => Err(format!("{name} is no call")),
@@ -285,7 +302,7 @@ fn list(lent: &Lent, options: &Options) -> String {
 
 /// Said is a refusal, or `steps 1 spent TREE`.
 fn simplify(lent: &Lent, options: &Options, said: &str) -> Result<(), Wrong> {
-    let mut out = vec![0; options.room.unwrap_or(8_192)];
+    let mut out = options.buffer();
     let allowance = options.allowance.unwrap_or(u64::MAX);
     let answer = raw::simplify(&lent.table, allowance, &mut out);
     if answer.refused != 0 {
@@ -297,14 +314,24 @@ fn simplify(lent: &Lent, options: &Options, said: &str) -> Result<(), Wrong> {
     same_table(tree, &out[..answer.length as usize])
 }
 
-/// Said is a refusal, or the written tree.
 fn graft(lent: &Lent, symbol: u64, options: &Options, said: &str) -> Result<(), Wrong> {
-    let mut out = vec![0; options.room.unwrap_or(8_192)];
+    let mut out = options.buffer();
     let answer = raw::graft(&lent.table, &lent.sent, symbol, &mut out);
-    if answer.refused != 0 {
-        return same(said, refused(answer.refused));
+    same_written(said, answer.refused, &out[..answer.length as usize])
+}
+
+fn convert(lent: &Lent, options: &Options, said: &str) -> Result<(), Wrong> {
+    let mut out = options.buffer();
+    let answer = raw::convert(&lent.former, &mut out);
+    same_written(said, answer.refused, &out[..answer.length as usize])
+}
+
+/// Said is a refusal, or the written tree.
+fn same_written(said: &str, number: u64, written: &[u8]) -> Result<(), Wrong> {
+    match number {
+        0 => same_table(said, written),
+        question => same(said, refused(question)),
     }
-    same_table(said, &out[..answer.length as usize])
 }
 
 fn same_table(tree: &str, written: &[u8]) -> Result<(), Wrong> {
@@ -329,6 +356,18 @@ fn sales(lent: &mut Lent, options: &Options) -> String {
     let line = line(&folder, &arguments);
     lent.simple = folder.read(SIMPLE);
     line
+}
+
+/// Said is the tree of the file that the program writes, or `nothing`. It prints nothing either.
+fn readdress(lent: &Lent, said: &str) -> Result<(), Wrong> {
+    let folder = Folder::new(READDRESS);
+    folder.write(FORMER, &lent.former);
+    let written = folder.run(&NONE);
+    assert_eq!(written.output + &written.error, "");
+    match folder.read(TREE) {
+        None => same(said, "nothing".into()),
+        Some(table) => same_table(said, &table),
+    }
 }
 
 /// The one line that the program prints there.
@@ -503,6 +542,17 @@ fn what_is_no_tree_is_told() {
         "{7",
         "exit 7",
         "7 exit 8",
+        "7[",
+        "7[]",
+        "7[4a0",
+        "7[4a0 4b0]",
+        "7[x]",
+        "7[-1]",
+        "7[100000000]",
+        "7[4a0][4b0]",
+        "{7[4a0]}[4b0]",
+        "7[4a0]/2@1",
+        "[4a0]",
     ];
     for text in wrong {
         assert!(notation::tree(text).is_err(), "{text}");

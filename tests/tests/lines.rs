@@ -21,7 +21,7 @@ fn lines() -> Vec<(Folder, &'static str)> {
         (Folder::with_tree("desk", &refused), "refused 10\n"),
         (
             Folder::with_tree("sales", &sequence(&[block(7)])),
-            "simplified 16 steps 1 finished\n",
+            "simplified 24 steps 1 finished\n",
         ),
         (Folder::with_tree("sales", &refused), "refused 10\n"),
     ]
@@ -78,7 +78,7 @@ fn lines_of_many_programs_stay_whole() {
     let found = |line: &str| written.lines().filter(|&found| found == line).count();
     assert_eq!(found("figure 7 branch 255"), 200);
     assert_eq!(found("refused 10"), 200);
-    assert_eq!(found("simplified 16 steps 1 finished"), 100);
+    assert_eq!(found("simplified 24 steps 1 finished"), 100);
     assert_eq!(written.lines().count(), 500 + BLOCKS);
 }
 

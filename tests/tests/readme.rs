@@ -1,10 +1,10 @@
-//! The programs in the README: they compile as it says, link with the archive and print what it says.
+//! The programs in the README: they compile as it says, link with the archive and print what it says. So do its commands for a table without addresses.
 
 use std::path::Path;
 use std::process::Command;
 use std::{env, fs};
 
-use volefleece_tests::commands::{file, Ended};
+use volefleece_tests::commands::{file, put, put_script, Ended, Repository};
 use volefleece_tests::programs::Folder;
 
 /// The indented lines after the one that begins so, without their indent.
@@ -39,7 +39,7 @@ fn compiles_and_prints(compile: &mut Command, program: &Path) {
 #[test]
 fn the_program_in_c() {
     let folder = Folder::new("desk");
-    folder.write("main.c", block("From C, all five calls:").as_bytes());
+    folder.write("main.c", block("From C, all six calls:").as_bytes());
     let program = folder.path("program");
     let mut compile = Command::new("cc");
     compile
@@ -78,4 +78,16 @@ fn the_program_in_rust() {
         .arg("-o")
         .arg(&program);
     compiles_and_prints(&mut compile, &program);
+}
+
+#[test]
+fn a_house_without_addresses() {
+    let copy = Repository::with_real_programs();
+    let old = "crates/readdress/data/old.tab";
+    put(&copy.path(old), "");
+    fs::copy(file(old), copy.path(old)).expect("copied");
+    fs::create_dir(copy.path("target")).expect("made");
+    put_script(&copy.path("house"), &block("branches and lists are those"));
+    let ended = Ended::of(copy.command("house").current_dir(copy.path(".")));
+    assert_eq!(ended.output, block("is quoted then:"), "{ended:?}");
 }

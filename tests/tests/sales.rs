@@ -8,7 +8,7 @@ use std::os::unix::fs::symlink;
 use volefleece_tests::cases::cases;
 use volefleece_tests::compare::{has_flag_4, shown};
 use volefleece_tests::faults;
-use volefleece_tests::programs::{sample, Folder, NONE, TREE, VALUES};
+use volefleece_tests::programs::{sample, simplified_workshop, Folder, NONE, TREE, VALUES};
 use volefleece_tests::rng::Rng;
 use volefleece_tests::simplifier::{simplify, Simplified};
 use volefleece_tests::tables::*;
@@ -78,7 +78,7 @@ fn without_an_argument_there_is_no_end() {
 fn the_argument_is_the_allowance() {
     let table = five_steps();
     assert_eq!(
-        simplify(&table, u64::MAX, 8_192).map(|made| made.steps),
+        simplify(&table, u64::MAX, 12_288).map(|made| made.steps),
         Ok(5)
     );
     for allowance in (0..=7).chain([10, 1_000, u64::MAX - 1, u64::MAX]) {
@@ -174,7 +174,7 @@ fn a_tree_that_cannot_be_read_is_told() {
 
 #[test]
 fn a_simple_tree_takes_the_place_of_an_old_one() {
-    for length in [0, 1, 16, 48, 100_000] {
+    for length in [0, 1, 24, 72, 100_000] {
         let folder = with_tree(&five_steps());
         folder.write(SIMPLE, &vec![7; length]);
         expect(&folder, &NONE, u64::MAX);
@@ -186,7 +186,7 @@ fn the_tree_may_be_the_simple_tree() {
     let folder = Folder::new(SALES);
     folder.write(SIMPLE, &five_steps());
     symlink(SIMPLE, folder.path(TREE)).expect("a new link");
-    let answer = simplify(&five_steps(), 2, 8_192);
+    let answer = simplify(&five_steps(), 2, 12_288);
     let written = folder.run(&["2"]);
     assert_eq!(written.output, line(&answer));
     assert_eq!(folder.read(SIMPLE), answer.ok().map(|made| made.bytes));
@@ -215,9 +215,9 @@ fn refused(question: u64, table: &[u8]) {
 #[test]
 fn refusals_leave_no_file() {
     refused(1, &[]);
-    refused(1, &block(7)[..15]);
+    refused(1, &block(7)[..23]);
     refused(1, &[&block(7)[..], &[0]].concat());
-    refused(2, &[4; 16]);
+    refused(2, &[4; 24]);
     refused(3, &block(1_000_000_000_001));
     refused(4, &[block(1), block(2)].concat());
     refused(5, &in_loops(9, 1, block(1)));
@@ -233,7 +233,7 @@ fn triangular_limits_are_kept() {
     let folder = with_tree(&sequence(&[limit(sequence(&[block(5)])), block(0)]));
     folder.write(VALUES, &[255; 256]);
     let written = folder.run(&NONE);
-    assert_eq!(written.output, "simplified 16 steps 3 finished\n");
+    assert_eq!(written.output, "simplified 24 steps 3 finished\n");
     assert_eq!(folder.read(SIMPLE), Some(limit(block(5))));
 }
 
@@ -249,11 +249,11 @@ fn values_are_not_read() {
 #[test]
 fn long_files_are_refused_1() {
     let longest = long(512);
-    assert_eq!(longest.len(), 8_192);
+    assert_eq!(longest.len(), 12_288);
     let folder = with_tree(&longest);
     expect(&folder, &NONE, u64::MAX);
     refused(1, &long(513));
-    for longer in [1, 15, 16, 17, 100_000] {
+    for longer in [1, 23, 24, 25, 100_000] {
         refused(1, &[&longest[..], &vec![0; longer]].concat());
     }
 }
@@ -261,11 +261,11 @@ fn long_files_are_refused_1() {
 // Many tables.
 
 #[test]
-fn the_workshops_sample_becomes_the_houses() {
+fn the_workshops_sample_becomes_the_houses_but_for_addresses() {
     let folder = with_tree(&sample("workshop", TREE));
     let written = folder.run(&NONE);
-    assert_eq!(written.output, "simplified 192 steps 7 finished\n");
-    assert_eq!(folder.read(SIMPLE), Some(sample("house", TREE)));
+    assert_eq!(written.output, "simplified 288 steps 7 finished\n");
+    assert_eq!(folder.read(SIMPLE), Some(simplified_workshop()));
 }
 
 #[test]

@@ -1,5 +1,5 @@
-//! The commands `./setup`, `./quote`, `./desk`, `./simplify`, `./install`, `./bench` and `./test`: their arguments, lines and exit statuses, what
-//! they build and when, and what is installed. Where the real programs are not built from the sources yet, a command builds them first, by `rt`;
+//! The commands `./setup`, `./quote`, `./desk`, `./simplify`, `./readdress`, `./install`, `./bench` and `./test`: their arguments, lines and exit
+//! statuses, what they build and when, and what is installed. What `./readdress` makes is tested in readdress.rs. Where the real programs are not built from the sources yet, a command builds them first, by `rt`;
 //! the command that cargo builds is a stand-in throughout, since these tests need no Rust package.
 
 use std::ffi::OsStr;
@@ -14,12 +14,12 @@ use std::process::Command;
 use std::{env, thread};
 
 use volefleece_tests::commands::*;
-use volefleece_tests::programs::{sample, Folder, TREE};
+use volefleece_tests::programs::{sample, simplified_workshop, Folder, FORMER, TREE};
 use volefleece_tests::tables::*;
 
 const HOUSE: &str = "figure 210910 branch 255";
 const ENTRANCE: &str = "figure 91200 branch 1";
-const SIMPLIFIED: &str = "simplified 192 steps 7 finished";
+const SIMPLIFIED: &str = "simplified 288 steps 7 finished";
 
 /// A stand-in for a program, and what it says.
 const PROGRAM: &str = "echo figure 1 branch 255";
@@ -74,7 +74,7 @@ fn the_samples() {
     run("desk", &room, &[file("samples/entrance")]).expect(0, ENTRANCE);
     run("simplify", &room, &none).expect(0, SIMPLIFIED);
     let simple = fs::read(file("target/workshop/simple.tab")).expect("written");
-    assert_eq!(simple, sample("house", TREE));
+    assert_eq!(simple, simplified_workshop());
     let readme = fs::read_to_string(file("README.md")).expect("read");
     for line in [HOUSE, ENTRANCE, SIMPLIFIED] {
         assert!(readme.contains(&format!("\n    {line}\n")), "{line}");
@@ -86,10 +86,10 @@ fn an_answer_ends_with_0_and_a_refusal_with_1() {
     let room = room();
     put_house(&room.path("h"), 7);
     run("desk", &room, &["h"]).expect(0, "figure 7 branch 255");
-    run("simplify", &room, &["h"]).expect(0, "simplified 16 steps 0 finished");
+    run("simplify", &room, &["h"]).expect(0, "simplified 24 steps 0 finished");
     room.write("h/tree.tab", &sample("workshop", TREE));
-    run("simplify", &room, &["h", "3"]).expect(0, "simplified 288 steps 3 spent");
-    room.write("h/tree.tab", &block(7)[..15]);
+    run("simplify", &room, &["h", "3"]).expect(0, "simplified 432 steps 3 spent");
+    room.write("h/tree.tab", &block(7)[..23]);
     run("desk", &room, &["h"]).expect(1, "refused 1");
     run("simplify", &room, &["h"]).expect(1, "refused 1");
 }
@@ -118,6 +118,8 @@ fn arguments_are_counted() {
     for (name, arguments) in [
         ("desk", &["samples/house", "more"][..]),
         ("simplify", &["samples/house", "1", "more"]),
+        ("readdress", &[]),
+        ("readdress", &["samples/house", "more"]),
         ("install", &[]),
         ("install", &["prefix", "more"]),
         ("bench", &["archive", "more"]),
@@ -143,6 +145,7 @@ fn empty_arguments_are_told() {
         ("simplify", &[""]),
         ("simplify", &["samples/house", ""]),
         ("simplify", &["", "1"]),
+        ("readdress", &[""]),
         ("install", &[""]),
         ("bench", &[""]),
     ] {
@@ -159,7 +162,15 @@ fn empty_arguments_are_told() {
 #[test]
 fn usage_is_told() {
     let copy = Repository::new(PROGRAM);
-    for name in ["desk", "simplify", "install", "bench", "test", "setup"] {
+    for name in [
+        "desk",
+        "simplify",
+        "readdress",
+        "install",
+        "bench",
+        "test",
+        "setup",
+    ] {
         let ended = Ended::of(copy.command(name).arg("--help"));
         assert_eq!((ended.status, &*ended.error), (Some(0), ""));
         assert!(ended.output.starts_with(&format!("usage: ./{name}")));
@@ -181,7 +192,7 @@ fn cdpath_leads_nowhere() {
             Ended::of(command.env("CDPATH", room.path("elsewhere")))
         };
         run("desk").expect(0, "figure 1 branch 255");
-        run("simplify").expect(0, "simplified 16 steps 0 finished");
+        run("simplify").expect(0, "simplified 24 steps 0 finished");
         fs::remove_file(room.path("h/simple.tab")).expect("written here");
         assert!(!room.path("elsewhere/h/simple.tab").exists());
     }
@@ -240,7 +251,7 @@ fn folders_of_any_name() {
                 Ended::of(command.env("OLDPWD", room.path("old")))
             };
             run("desk").expect(0, &format!("figure {figure} branch 255"));
-            run("simplify").expect(0, "simplified 16 steps 0 finished");
+            run("simplify").expect(0, "simplified 24 steps 0 finished");
             let simple = room.path(".").join(name).join("simple.tab");
             fs::remove_file(simple).expect("written there");
         }
@@ -265,7 +276,7 @@ fn a_path_through_a_link_leads_on_from_its_target() {
 fn a_folder_that_is_not_there_is_told() {
     let room = room();
     room.write("file", b"");
-    for name in ["desk", "simplify"] {
+    for name in ["desk", "simplify", "readdress"] {
         for missing in ["missing", "-", "-x", "missing/../here", "file"] {
             run(name, &room, &[missing]).expect_message(&format!("{missing}: no such folder"));
         }
@@ -313,7 +324,7 @@ fn the_line_is_one_write() {
     for shell in shells() {
         for (name, line) in [
             ("desk", "figure 7 branch 255\n"),
-            ("simplify", "simplified 16 steps 0 finished\n"),
+            ("simplify", "simplified 24 steps 0 finished\n"),
         ] {
             let (ours, theirs) = UnixDatagram::pair().expect("sockets");
             let mut command = by(&shell, name, &room, OsStr::new("h"));
@@ -389,9 +400,10 @@ fn what_is_not_built_needs_rt() {
     let copy = Repository::new(PROGRAM);
     let without = |name| {
         let mut command = copy.command_with(name, &["tools"]);
-        Ended::of(command.args((name == "install").then_some(copy.path("prefix"))))
+        let folder = ["install", "readdress"].contains(&name);
+        Ended::of(command.args(folder.then_some(copy.path("prefix"))))
     };
-    for name in ["desk", "simplify", "install"] {
+    for name in ["desk", "simplify", "readdress", "install"] {
         without(name).expect_message("rt must be on PATH");
     }
     copy.run("desk").expect(0, LINE);
@@ -832,7 +844,7 @@ fn two_setups_install_once() {
 fn the_gate_ends_with_the_count() {
     let copy = Repository::new(PROGRAM);
     let mut test = copy.command("test");
-    for name in ["LIB_DIR", "DESK", "SALES"] {
+    for name in ["LIB_DIR", "DESK", "SALES", "READDRESS"] {
         test.env(format!("VOLEFLEECE_{name}"), "elsewhere");
     }
     let ended = Ended::of(&mut test);
@@ -970,16 +982,18 @@ fn the_benchmark_compares_with_the_build_that_is_named() {
 
 // Installing.
 
-const INSTALLED: [(&str, u32); 12] = [
+const INSTALLED: [(&str, u32); 14] = [
     ("bin/volefleece", 0o755),
     ("share/bash-completion/completions/volefleece", 0o644),
     ("share/zsh/site-functions/_volefleece", 0o644),
     ("share/fish/vendor_completions.d/volefleece.fish", 0o644),
     ("libexec/volefleece/desk", 0o755),
     ("libexec/volefleece/sales", 0o755),
+    ("libexec/volefleece/readdress", 0o755),
     ("libexec/volefleece/commands.sh", 0o644),
     ("bin/volefleece-quote", 0o755),
     ("bin/volefleece-simplify", 0o755),
+    ("bin/volefleece-readdress", 0o755),
     ("include/volefleece.h", 0o644),
     ("lib/libvolefleece.a", 0o644),
     ("lib/pkgconfig/volefleece.pc", 0o644),
@@ -1040,7 +1054,7 @@ fn an_installed_desk_needs_no_kit() {
         |arguments: &[&str]| installed(&prefix, "volefleece-simplify", &tools, arguments);
     quote(&["h"]).expect(0, HOUSE);
     simplify(&["h"]).expect(0, SIMPLIFIED);
-    simplify(&["h", "3"]).expect(0, "simplified 288 steps 3 spent");
+    simplify(&["h", "3"]).expect(0, "simplified 432 steps 3 spent");
     simplify(&["h", "x"]).expect_message("a number of steps");
     quote(&["prefix"]).expect_message("prefix: no such folder");
     quote(&["a prefix"]).expect(1, "refused 1");
@@ -1049,6 +1063,15 @@ fn an_installed_desk_needs_no_kit() {
     simplify(&[]).expect_message("usage: volefleece-simplify DIR [ALLOWANCE]\n");
     simplify(&["h", "1", "2"]).expect_message("usage: volefleece-simplify DIR [ALLOWANCE]\n");
     assert_eq!(quote(&["--help"]).status, Some(0));
+
+    let readdress =
+        |arguments: &[&str]| installed(&prefix, "volefleece-readdress", &tools, arguments);
+    readdress(&["h"]).expect_told(1, "a multiple of 16 from 16 to 8,192");
+    fs::write(room.path("h").join(FORMER), &block(7)[..16]).expect("written");
+    readdress(&["h"]).expect_silence();
+    quote(&["h"]).expect(0, "figure 7 branch 255");
+    readdress(&[]).expect_message("usage: volefleece-readdress DIR\n");
+    room.write("h/tree.tab", &sample("workshop", TREE));
 
     fs::rename(&prefix, room.path("moved")).expect("moved");
     symlink(room.path("moved/bin/volefleece-quote"), room.path("link")).expect("linked");
@@ -1062,6 +1085,8 @@ fn the_command_is_installed_with_its_completions() {
     let install = |prefix: &Path| Ended::of(copy.command("install").arg(prefix));
     let prefix = copy.path("prefix");
     expect_installed(&install(&prefix), &prefix);
+    let programs = ["check desk", "check sales", "check readdress"];
+    assert_eq!(copy.calls(), [&programs[..], &BUILT].concat());
     let read = |name| fs::read(prefix.join(name)).expect("installed");
     assert_eq!(
         read("bin/volefleece"),

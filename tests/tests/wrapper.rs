@@ -3,7 +3,7 @@
 
 use std::collections::BTreeMap;
 
-use volefleece::{raw, Refusal};
+use volefleece::{raw, FormerLength, Refusal};
 use volefleece_tests::compare::shown;
 use volefleece_tests::damage;
 use volefleece_tests::faults;
@@ -227,4 +227,21 @@ fn graft() {
     }
     let refused = [1, 2, 3, 4, 5, 6, 7, 11, 12].map(|number| (number, 50));
     assert_reached(&reached, &[&refused[..], &[(0, 1_000)]].concat());
+}
+
+#[test]
+fn convert() {
+    let (mut rng, mut reached) = (Rng::new(6), Reached::new());
+    for _ in 0..3_000 {
+        let records = rng.size(0..=520);
+        let past = rng.pick(&[0, 0, 0, 1, 8, 15]);
+        let old: Vec<u8> = (0..16 * records + past).map(|_| rng.byte()).collect();
+        let mut room = vec![0; volefleece::MOST_TABLE];
+        let answer = raw::convert(&old, &mut room);
+        room.truncate(answer.length as usize);
+        let raw = accepted(answer.refused, room);
+        let safe = volefleece::convert(&old).map_err(|FormerLength| Refusal::Length);
+        agree(&mut reached, &old, safe, raw);
+    }
+    assert_reached(&reached, &[(0, 1_000), (1, 1_000)]);
 }
