@@ -7,6 +7,7 @@ use clap_complete::Shell;
 
 use crate::failure::Outcome;
 use crate::house::{House, Setting};
+use crate::text;
 
 /// Quotes the most processor cycles a battery door lock can stay awake for one opening.
 #[derive(Debug, Parser)]
@@ -17,7 +18,7 @@ pub struct Cli {
 }
 
 const STATUS: &str = "\
-Exit status: 0 answered, 1 refused, 2 used wrongly or a file that cannot be read or written.
+Exit status: 0 answered, 1 refused or not found, 2 used wrongly or a file that cannot be read or written.
 
 A path that ends in .txt is a text, any other a table; a folder stands for the tree in it.
 Names come from names.txt beside a tree and from a text's header.";
@@ -49,13 +50,19 @@ pub enum Command {
     Show(Source),
     /// Make a table from a tree's text
     #[command(after_help = "Example:\n  volefleece make samples/supplier/tree.txt -o tree.tab")]
-    Make(Converted),
+    Make(Made),
     /// Print values as text, or make them from text
     #[command(
         subcommand,
         after_help = "Example:\n  volefleece values show samples/house/values.tab >values.txt"
     )]
     Values(Values),
+    /// Find the records with an address, and the way down to each from the root
+    #[command(after_help = "Example:\n  volefleece find samples/workshop 0x8000474")]
+    Find(Find),
+    /// Make a table from a former one, whose records had 16 bytes and no addresses
+    #[command(after_help = "Example:\n  volefleece convert old.tab -o tree.tab")]
+    Convert(Convert),
     /// Draw a tree as a picture
     #[command(
         after_help = "Example:\n  volefleece draw samples/house -o house.svg --set cards=40"
@@ -120,7 +127,7 @@ pub struct Source {
 }
 
 #[derive(Debug, Args)]
-pub struct Converted {
+pub struct Made {
     /// A text
     pub text: PathBuf,
     /// The file to write, replaced whole or not at all
@@ -146,7 +153,29 @@ pub enum Values {
     },
     /// Make a file of values from text
     #[command(after_help = "Example:\n  volefleece values make values.txt -o values.tab")]
-    Make(Converted),
+    Make(Made),
+}
+
+#[derive(Debug, Args)]
+pub struct Find {
+    #[command(flatten)]
+    pub source: Source,
+    /// An address, as 0x4a0
+    #[arg(value_parser = address)]
+    pub address: u32,
+}
+
+fn address(text: &str) -> Result<u32, String> {
+    text::address(text).ok_or_else(|| format!("expected {}", text::ADDRESS))
+}
+
+#[derive(Debug, Args)]
+pub struct Convert {
+    /// A former table
+    pub old: PathBuf,
+    /// The file to write, replaced whole or not at all
+    #[arg(short, long, value_name = "TREE")]
+    pub output: PathBuf,
 }
 
 #[derive(Debug, Args)]

@@ -3,6 +3,8 @@
 mod contract;
 mod convert;
 mod draw;
+mod find;
+mod forms;
 mod list;
 mod quote;
 mod quotes;
@@ -32,15 +34,15 @@ pub fn run(command: &Command) -> Outcome<Answer> {
         Command::Quotes { folder } => quotes::run(folder),
         Command::Contract(counted) => contract::run(counted).map(Answer::from),
         Command::List(counted) => list::run(counted).map(Answer::from),
-        Command::Check(source) => convert::check(source).map(Answer::from),
-        Command::Show(source) => convert::show(source),
-        Command::Make(converted) => convert::make(converted).map(Answer::from),
+        Command::Check(source) => forms::check(source).map(Answer::from),
+        Command::Show(source) => forms::show(source),
+        Command::Make(made) => forms::make(made).map(Answer::from),
         Command::Values(Values::Show { values, names }) => {
-            convert::show_values(values, names.as_deref())
+            forms::show_values(values, names.as_deref())
         }
-        Command::Values(Values::Make(converted)) => {
-            convert::make_values(converted).map(Answer::from)
-        }
+        Command::Values(Values::Make(made)) => forms::make_values(made).map(Answer::from),
+        Command::Find(arguments) => find::run(arguments),
+        Command::Convert(arguments) => convert::run(arguments),
         Command::Draw(arguments) => draw::run(arguments).map(Answer::from),
         Command::Simplify(arguments) => rewrite::simplify(arguments).map(Answer::from),
         Command::Graft(arguments) => rewrite::graft(arguments).map(Answer::from),

@@ -2,10 +2,11 @@
 
 use std::path::Path;
 
-use volefleece::{ceiling, Refusal, RECORD_BYTES, VALUES};
+use volefleece::{ceiling, Refusal, VALUES};
 
 use crate::failure::Outcome;
 use crate::names::Names;
+use crate::table::{Amount, Kind, Node};
 use crate::{files, text};
 
 const VALUE_BYTES: usize = 8;
@@ -92,8 +93,8 @@ impl Counts {
 
     /// The library's refusal of these values whatever the tree: by a block of no time, which no other question refuses.
     pub fn refusal(&self) -> Option<Refusal> {
-        let block = [0; RECORD_BYTES];
-        volefleece::figure(&block, &self.lent()).err()
+        let block = Node::new(Kind::Block(Amount::Plain(0))).record();
+        volefleece::figure(&block.bytes(), &self.lent()).err()
     }
 
     /// Whether these come from a file of a length that no file of values has.

@@ -24,6 +24,7 @@ text{font-family:'DejaVu Sans Mono','Liberation Mono',Menlo,Consolas,monospace;f
 .small{font-size:11px;fill:#374151}
 .branch{font-weight:bold}
 .limit{fill:#5b21b6}
+.address{fill:#374151}
 .block rect{fill:#f3f4f6;stroke:#4b5563}
 .sequence rect{fill:#dbeafe;stroke:#1d4ed8}
 .choice polygon{fill:#fef3c7;stroke:#b45309}

@@ -72,7 +72,7 @@ pub fn is_text(path: &Path) -> bool {
     path.extension().is_some_and(|extension| extension == "txt")
 }
 
-/// Refuses to write bytes to a path of a text, which would be read as one.
+/// Refuses a path of a text for bytes, which would be read as one.
 pub fn expect_bytes_at(path: &Path) -> Outcome {
     if !is_text(path) {
         return Ok(());
@@ -123,7 +123,7 @@ fn is_standard_output(path: &Path) -> bool {
 }
 
 /// Whether both paths lead to one file.
-fn is_same(path: &Path, other: &Path) -> bool {
+pub fn is_same(path: &Path, other: &Path) -> bool {
     let file = |path: &Path| fs::metadata(path).map(|found| (found.dev(), found.ino()));
     match (file(path), file(other)) {
         (Ok(file), Ok(other)) => file == other,

@@ -2,10 +2,11 @@
 
 use std::ops::Range;
 
-use volefleece::{ceiling, Refusal, FIRST_TIME, VALUES};
+use volefleece::{ceiling, Refusal, FIRST_TIME, RECORD_BYTES, VALUES};
 
 use crate::table::{
-    places, records, Amount, Ending, Kind, Node, Place, Record, Scope, BLOCK, LOOP, MOST_LOOPS,
+    places, records, Amount, Ending, Kind, Node, Place, Record, Scope, BLOCK, FILLER, LOOP,
+    MOST_LOOPS,
 };
 use crate::words::KINDS;
 
@@ -63,6 +64,7 @@ fn field_fault(record: Record) -> Option<String> {
             let is_unused = !has_value(record) && value > 0;
             is_unused.then(|| format!("a {kind} has the value {value} and can only have 0"))
         })
+        .or_else(|| filler_fault(record))
 }
 
 fn has_value(record: Record) -> bool {
@@ -111,6 +113,14 @@ fn limit_fault(record: Record) -> Option<String> {
             "byte 3 is {names}, which is none of 0 (no limit), 1 to 8 (a loop around) and 255 (the whole run)"
         )),
     }
+}
+
+/// Which of a record's last bytes is wrong, the first of them.
+fn filler_fault(record: Record) -> Option<String> {
+    let at = (0..FILLER.len()).find(|&at| record.filler[at] != FILLER[at])?;
+    let (byte, found) = (RECORD_BYTES - FILLER.len() + at, record.filler[at]);
+    let right = FILLER[at];
+    Some(format!("byte {byte} is {found} and can only be {right}"))
 }
 
 /// Which number is out of range, the first of them in the order of the bytes.

@@ -11,7 +11,7 @@ use crate::files;
 use crate::table::{self, Amount, Kind, Node};
 use crate::text::digits;
 use crate::tree::{self, read_names, Tree};
-use crate::words::{node_words, on_one_line};
+use crate::words::{on_one_line, unaddressed_words};
 
 const TABLE: &str = "values.tab";
 const TEXT: &str = "values.txt";
@@ -192,7 +192,7 @@ impl House {
             .and_then(|at| records[at].node())
             .expect("a child of the root");
         let names = &self.tree.names;
-        (names.branch(child), node_words(&node, names))
+        (names.branch(child), unaddressed_words(&node, names))
     }
 }
 

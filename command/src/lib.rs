@@ -1,5 +1,5 @@
-//! What the command `volefleece` is made of. It reads, asks, shows and draws; every acceptance, figure, list, branch, simplification and
-//! graft comes from the library's calls.
+//! What the command `volefleece` is made of. It reads, asks, shows and draws; every acceptance, figure, list, branch, simplification,
+//! graft and conversion comes from the library's calls.
 
 pub mod cli;
 pub mod commands;

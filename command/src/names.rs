@@ -26,7 +26,8 @@ pub enum Named {
 }
 
 /// The words that a text has a meaning for, which are no symbol's name.
-const WORDS: [&str; 14] = [
+const WORDS: [&str; 15] = [
+    "address",
     "at",
     "block",
     "body",

@@ -1,6 +1,8 @@
 //! A table's records as nodes, and where each stands in the tree. This reads and writes the format; whether a table is accepted is the
 //! library's to say.
 
+use std::iter::successors;
+
 use volefleece::RECORD_BYTES;
 
 pub const BLOCK: u8 = 0;
@@ -13,6 +15,8 @@ const LIMIT_IS_SYMBOL: u8 = 2;
 const LIMIT_IS_TRIANGULAR: u8 = 4;
 const NO_LIMIT: u8 = 0;
 const WHOLE_RUN: u8 = 255;
+/// The last bytes of every record.
+pub const FILLER: [u8; 4] = [255; 4];
 
 /// The most loops that a limit can count outward.
 pub const MOST_LOOPS: u8 = 8;
@@ -27,6 +31,8 @@ pub struct Record {
     pub names: u8,
     pub limit: u32,
     pub value: u64,
+    pub address: u32,
+    pub filler: [u8; 4],
 }
 
 /// A time, a bound or a limit.
@@ -78,6 +84,8 @@ pub struct Node {
     pub kind: Kind,
     pub children: u8,
     pub limit: Option<Limit>,
+    /// Where it stands in the firmware, or 0.
+    pub address: u32,
 }
 
 /// The records of a table; what is left at its end and is no whole record is no part of them.
@@ -95,14 +103,17 @@ pub fn nodes(table: &[u8]) -> Vec<Node> {
 
 impl Record {
     fn read(bytes: &[u8]) -> Self {
-        let (limit, value) = bytes[4..].split_at(4);
+        let four = |at: usize| bytes[at..at + 4].try_into().expect("four bytes");
+        let [kind, flags, children, names] = four(0);
         Record {
-            kind: bytes[0],
-            flags: bytes[1],
-            children: bytes[2],
-            names: bytes[3],
-            limit: u32::from_le_bytes(limit.try_into().expect("four bytes")),
-            value: u64::from_le_bytes(value.try_into().expect("eight bytes")),
+            kind,
+            flags,
+            children,
+            names,
+            limit: u32::from_le_bytes(four(4)),
+            value: u64::from_le_bytes(bytes[8..16].try_into().expect("eight bytes")),
+            address: u32::from_le_bytes(four(16)),
+            filler: four(20),
         }
     }
 
@@ -110,7 +121,9 @@ impl Record {
         let mut bytes = [0; RECORD_BYTES];
         bytes[..4].copy_from_slice(&[self.kind, self.flags, self.children, self.names]);
         bytes[4..8].copy_from_slice(&self.limit.to_le_bytes());
-        bytes[8..].copy_from_slice(&self.value.to_le_bytes());
+        bytes[8..16].copy_from_slice(&self.value.to_le_bytes());
+        bytes[16..20].copy_from_slice(&self.address.to_le_bytes());
+        bytes[20..].copy_from_slice(&self.filler);
         bytes
     }
 
@@ -131,6 +144,7 @@ impl Record {
             kind,
             children: self.children,
             limit: self.limit()?,
+            address: self.address,
         };
         (node.has_its_children() && node.record() == self).then_some(node)
     }
@@ -154,6 +168,16 @@ impl Record {
 }
 
 impl Node {
+    /// A node that has as yet no children, and neither limit nor address.
+    pub fn new(kind: Kind) -> Self {
+        Node {
+            kind,
+            children: 0,
+            limit: None,
+            address: 0,
+        }
+    }
+
     fn has_its_children(self) -> bool {
         match self.kind {
             Kind::Block(_) => self.children == 0,
@@ -192,6 +216,8 @@ impl Node {
             },
             limit: u32::try_from(limit).expect("a limit that fits its field"),
             value,
+            address: self.address,
+            filler: FILLER,
         }
     }
 
@@ -269,6 +295,14 @@ pub fn places(records: &[Record]) -> (Vec<Place>, Ending) {
         Some(&(at, has)) => Ending::Wanting(at, usize::from(records[at].children) - has),
     };
     (places, ending)
+}
+
+/// The records from the root down to the parent of that one.
+pub fn way_down(places: &[Place], record: usize) -> Vec<usize> {
+    let parent = |record: &usize| places[*record].parent.map(|(parent, _)| parent);
+    let mut way: Vec<usize> = successors(parent(&record), parent).collect();
+    way.reverse();
+    way
 }
 
 /// The symbols that nodes use, in order.

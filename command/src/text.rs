@@ -6,4 +6,4 @@ pub mod names;
 pub mod tree;
 pub mod values;
 
-pub use lines::{digits, no_utf8, Problem, Problems};
+pub use lines::{address, digits, no_utf8, Problem, Problems, ADDRESS};

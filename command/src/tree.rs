@@ -10,6 +10,7 @@ use crate::hint;
 use crate::names::Names;
 use crate::table::{self, Node};
 use crate::text;
+use crate::words::address_words;
 
 pub const NAMES: &str = "names.txt";
 pub const TABLE: &str = "tree.tab";
@@ -90,7 +91,8 @@ impl Tree {
         }
     }
 
-    fn from_file(path: &Path, table: Vec<u8>, names: Names) -> Self {
+    /// What a file has, or is to have.
+    pub fn from_file(path: &Path, table: Vec<u8>, names: Names) -> Self {
         Tree {
             table,
             names,
@@ -125,6 +127,9 @@ impl Tree {
     }
 
     fn hint(&self, refusal: Refusal) -> Option<String> {
+        if let Some(former) = self.former() {
+            return Some(former);
+        }
         match refusal {
             Refusal::Length => return Some(self.wrong_length()),
             // Of simplifying, which asks it so. A house has more to say.
@@ -132,13 +137,34 @@ impl Tree {
             _ => {}
         }
         let hint = hint::find(&self.table, refusal)?;
-        let (record, byte) = (hint.record, hint.record * RECORD_BYTES);
+        let record = self.record_words(hint.record);
         let place = match &self.source {
-            Source::Text(path, lines) => format!("{}:{}", path.display(), lines[record]),
-            Source::Table(path) => format!("{}: record {record} (byte {byte})", path.display()),
-            Source::Answer | Source::Missing(_) => format!("record {record} (byte {byte})"),
+            Source::Text(path, lines) => format!("{}:{}", path.display(), lines[hint.record]),
+            Source::Table(path) => format!("{}: {record}", path.display()),
+            Source::Answer | Source::Missing(_) => record,
         };
         Some(format!("{place}: {}", hint.what))
+    }
+
+    /// A record by its number, its first byte and its address.
+    fn record_words(&self, record: usize) -> String {
+        let byte = record * RECORD_BYTES;
+        let address = table::records(&self.table)[record].address;
+        let address = address_words(address).map_or(String::new(), |words| format!(", {words}"));
+        format!("record {record} (byte {byte}{address})")
+    }
+
+    /// That the file holds a former table, where what it is converted to is accepted: no table of today's is taken for one.
+    fn former(&self) -> Option<String> {
+        let Source::Table(path) = &self.source else {
+            return None;
+        };
+        let converted = volefleece::convert(&self.table).ok()?;
+        volefleece::check(&converted).ok()?;
+        Some(format!(
+            "{} is a former table, with 16 bytes a record: `volefleece convert` makes a table of it",
+            path.display()
+        ))
     }
 
     /// That the tree is too large with such values, if it uses any.
@@ -153,10 +179,7 @@ impl Tree {
 
     fn wrong_length(&self) -> String {
         let most = MOST_TABLE / RECORD_BYTES;
-        let length = match self.table.len() {
-            length if length > MOST_TABLE => format!("more than {MOST_TABLE} bytes"),
-            length => format!("{length} bytes"),
-        };
+        let length = length_words(&self.table);
         match &self.source {
             Source::Answer => format!("the table has {length}"),
             Source::Table(path) => format!("{} has {length}", path.display()),
@@ -178,6 +201,14 @@ impl Tree {
         } else {
             files::replace(path, &self.table, said)
         }
+    }
+}
+
+/// How long a file's table is, of which no more was read than tells.
+pub fn length_words(table: &[u8]) -> String {
+    match table.len() {
+        length if length > MOST_TABLE => format!("more than {MOST_TABLE} bytes"),
+        length => format!("{length} bytes"),
     }
 }
 

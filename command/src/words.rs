@@ -5,6 +5,20 @@ use crate::table::{Amount, Kind, Limit, Node, Scope};
 
 /// A node's line without what it is to its parent.
 pub fn node_words(node: &Node, names: &Names) -> String {
+    let words = unaddressed_words(node, names);
+    match address_words(node.address) {
+        None => words,
+        Some(address) => format!("{words} {address}"),
+    }
+}
+
+/// An address where there is one.
+pub fn address_words(address: u32) -> Option<String> {
+    (address != 0).then(|| format!("address {address:#x}"))
+}
+
+/// A node's line without its address either, for those who do not read the firmware.
+pub fn unaddressed_words(node: &Node, names: &Names) -> String {
     let kind = kind_words(node.kind, names);
     match node.limit {
         None => kind,

@@ -154,7 +154,7 @@ fn simplify_writes_what_the_call_writes() {
     let mut rng = Rng::new(904);
     let mut answers = Answers::default();
     let (mut finished, mut spent) = (0, 0);
-    for _ in 0..200 {
+    for _ in 0..400 {
         let folder = folder();
         let mut table = random::table(&mut rng);
         if rng.once_in(2) {

@@ -70,7 +70,7 @@ fn random_case(rng: &mut Rng, tree: Tree) -> Case {
 #[test]
 fn random_trees() {
     let mut rng = Rng::new(1);
-    let (mut marked, mut limited) = (0, 0);
+    let (mut marked, mut limited, mut addressed) = (0, 0, 0);
     for _ in 0..250 {
         let most = rng.pick(&[6, 20, 20, 60, 150]);
         let records = rng.size(1..=most);
@@ -79,8 +79,12 @@ fn random_trees() {
         check(&case);
         marked += usize::from(!case.marked().is_empty());
         limited += usize::from(case.tree != case.tree.unlimited());
+        addressed += usize::from(case.tree != case.tree.unaddressed());
     }
-    assert!(marked >= 30 && limited >= 120, "{marked} {limited}");
+    assert!(
+        marked >= 30 && limited >= 120 && (120..250).contains(&addressed),
+        "{marked} {limited} {addressed}"
+    );
 }
 
 #[test]
@@ -214,6 +218,19 @@ fn sample_house() {
     ];
     assert_eq!(labels, expected.map(squeezed));
     assert_eq!(picture.title, "tree: 12 records, 5 deep");
+}
+
+#[test]
+fn sample_workshop_with_its_addresses() {
+    let picture = check(&sample("workshop"));
+    let node = &picture.nodes[10];
+    let lines: Vec<&str> = node
+        .texts
+        .iter()
+        .map(|text| text.content.as_str())
+        .collect();
+    let expected = ["block radio", "at most 2 per loop 1", "address 0x8000474"];
+    assert_eq!(lines, expected);
 }
 
 #[test]

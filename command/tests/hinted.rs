@@ -9,9 +9,11 @@ use volefleece_command::hint;
 use volefleece_command::names::Names;
 use volefleece_command::text::tree::print;
 use volefleece_tests::faults;
+use volefleece_tests::format::RECORD_BYTES;
 use volefleece_tests::programs::{values_file, Folder, TREE, VALUES};
 use volefleece_tests::rng::Rng;
 use volefleece_tests::tables::*;
+use volefleece_tests::trees;
 
 const BAD: &str = "bad.tab";
 const BAD_TEXT: &str = "bad.txt";
@@ -43,9 +45,16 @@ impl Refused {
 
     /// What is said of it as that file.
     fn said(&self, file: &str) -> String {
-        let (record, byte) = (self.record, self.record * 16);
-        let place = format!("{file}: record {record} (byte {byte})");
-        self.said_at(&place)
+        let byte = self.record * RECORD_BYTES;
+        let address = &self.table[byte + 16..byte + 20];
+        let address = match u32::from_le_bytes(address.try_into().expect("four bytes")) {
+            0 => String::new(),
+            address => format!(", address {address:#x}"),
+        };
+        self.said_at(&format!(
+            "{file}: record {} (byte {byte}{address})",
+            self.record
+        ))
     }
 
     fn said_at(&self, place: &str) -> String {
@@ -66,7 +75,7 @@ impl Refused {
                 at.push(lines.len());
             }
         }
-        assert_eq!(at.len() * 16, self.table.len());
+        assert_eq!(at.len() * RECORD_BYTES, self.table.len());
         (lines.join("\n"), at[self.record])
     }
 }
@@ -102,8 +111,8 @@ fn of_a_table_its_record_and_byte() {
     let mut rng = Rng::new(1);
     let folder = folder();
     folder.write(GOOD, &symbol_block(16));
-    let mut records = Vec::new();
-    for round in 0..18 {
+    let (mut records, mut addressed) = (Vec::new(), 0);
+    for round in 0..24 {
         let refused = Refused::random(&mut rng, 2 + round % 6);
         let said = refused.said(BAD);
         folder.write(BAD, &refused.table);
@@ -116,12 +125,34 @@ fn of_a_table_its_record_and_byte() {
             says(&folder, &[command, "."], &refused.said("./tree.tab"));
         }
         says(&folder, &["draw", BAD, "-o", "out.svg"], &said);
-        shows(&folder, BAD, &said, refused.table.len() / 16);
+        shows(&folder, BAD, &said, refused.table.len() / RECORD_BYTES);
         records.push(refused.record);
+        addressed += usize::from(said.contains(", address 0x"));
     }
     records.sort_unstable();
     records.dedup();
     assert!(records.len() >= 15, "{records:?}");
+    assert!((5..=20).contains(&addressed), "{addressed}");
+}
+
+#[test]
+fn of_a_record_its_address() {
+    let folder = folder();
+    let fields = Refusal::Fields;
+    for (address, words) in [
+        (0, ""),
+        (1, ", address 0x1"),
+        (0x0800_04a0, ", address 0x80004a0"),
+        (u32::MAX, ", address 0xffffffff"),
+    ] {
+        let mut bad = addressed(block(7), address);
+        bad[23] = 0;
+        let others = addressed(block(7), 5);
+        folder.write(BAD, &addressed(sequence(&[others, bad]), 6));
+        let what = "byte 23 is 0 and can only be 255";
+        let said = format!("{fields}\nhint: {BAD}: record 2 (byte 48{words}): {what}\n");
+        says(&folder, &["check", BAD], &said);
+    }
 }
 
 /// Among others, after the house's name; and as JSON.
@@ -188,7 +219,7 @@ fn of_a_text_its_line() {
         says(&folder, &graft(GOOD, BAD_TEXT), &said);
         let of_house = refused.said_at(&format!("./{TREE_TEXT}:{line}"));
         says(&folder, &["quote", "."], &of_house);
-        shows(&folder, BAD_TEXT, &said, refused.table.len() / 16);
+        shows(&folder, BAD_TEXT, &said, refused.table.len() / RECORD_BYTES);
     }
 }
 
@@ -201,18 +232,20 @@ fn of_length(hint: &str) -> String {
 #[test]
 fn of_a_length_its_bytes() {
     let folder = folder();
-    let more = "more than 8192 bytes";
+    let more = "more than 12288 bytes";
     for (bytes, has) in [
         (0, "0 bytes"),
-        (15, "15 bytes"),
-        (17, "17 bytes"),
-        (8_191, "8191 bytes"),
-        (8_193, more),
-        (8_208, more),
+        (16, "16 bytes"),
+        (23, "23 bytes"),
+        (25, "25 bytes"),
+        (8_192, "8192 bytes"),
+        (12_287, "12287 bytes"),
+        (12_289, more),
+        (12_312, more),
         (20_000, more),
     ] {
-        folder.write(BAD, &vec![0; bytes]);
-        folder.write(TREE, &vec![0; bytes]);
+        folder.write(BAD, &vec![4; bytes]);
+        folder.write(TREE, &vec![4; bytes]);
         let said = of_length(&format!("{BAD} has {has}"));
         says(&folder, &["check", BAD], &said);
         says(&folder, &["simplify", BAD, "-o", OUT], &said);
@@ -221,6 +254,36 @@ fn of_a_length_its_bytes() {
         says(&folder, &["quote", "."], &of_house);
         says(&folder, &["check", "."], &of_house);
     }
+}
+
+/// A former table is told as one, whether its length is that of a table too or not; one that was never accepted is not, nor is a text.
+#[test]
+fn of_a_former_table_what_makes_a_table_of_it() {
+    let mut rng = Rng::new(5);
+    let folder = folder();
+    let is_former =
+        "is a former table, with 16 bytes a record: `volefleece convert` makes a table of it";
+    let mut refusals = [0; 2];
+    for records in (1..=16).chain([511, 512]) {
+        let tree = trees::within_limits(&mut rng, records);
+        let former = tree.encode_former();
+        let refusal = volefleece::check(&former).expect_err("a former table");
+        refusals[refusal.number() as usize - 1] += 1;
+        folder.write(BAD, &former);
+        folder.write(TREE, &former);
+        let said = format!("{refusal}\nhint: {BAD} {is_former}\n");
+        says(&folder, &["check", BAD], &said);
+        says(&folder, &["find", BAD, "0x0"], &said);
+        let of_house = format!("{refusal}\nhint: ./{TREE} {is_former}\n");
+        says(&folder, &["quote", "."], &of_house);
+        let mut damaged = former.clone();
+        damaged[0] = 9;
+        folder.write(BAD, &damaged);
+        let written = ends(folder.command().args(["check", BAD]), 1);
+        assert!(!written.output.contains("former"), "{}", written.output);
+    }
+    // Every third length is that of a table too.
+    assert_eq!(refusals, [13, 5]);
 }
 
 #[test]
@@ -300,19 +363,23 @@ fn of_question_13_the_triangular_symbol() {
 fn a_refused_table_has_its_records_numbers_and_names() {
     let folder = house("house");
     let body = triangular_limited(symbol_block(16), 1, 1);
-    let mut bad = block(7);
-    bad[0] = 9;
-    let children = [symbol_repeat(0, body, symbol_block(17)), bad];
+    let mut kind = addressed(block(7), 0x4a0);
+    kind[0] = 9;
+    let mut filler = block(7);
+    filler[20] = 254;
+    let exit = addressed(symbol_block(17), 0x4b0);
+    let children = [symbol_repeat(0, addressed(body, 0x4a8), exit), kind, filler];
     let table = sequence(&children);
     folder.write(BAD, &table);
     let hint = hint::find(&table, Refusal::Fields).expect("a hint");
     let expected = format!(
-        "# {}\n# hint: {BAD}: record 4 (byte 64): {}\n\
+        "# {}\n# hint: {BAD}: record 4 (byte 96, address 0x4a0): {}\n\
          sequence # record 0\n\
          \x20 loop cards # record 1\n\
-         \x20   body block radio at most triangular retries per loop 1 # record 2\n\
-         \x20   exit block time-17 # record 3\n\
-         \x20 bytes 09 00 00 00 00 00 00 00 07 00 00 00 00 00 00 00 # record 4\n",
+         \x20   body block radio at most triangular retries per loop 1 address 0x4a8 # record 2\n\
+         \x20   exit block time-17 address 0x4b0 # record 3\n\
+         \x20 bytes 09 00 00 00 00 00 00 00 07 00 00 00 00 00 00 00 a0 04 00 00 ff ff ff ff # record 4\n\
+         \x20 bytes 00 00 00 00 00 00 00 00 07 00 00 00 00 00 00 00 00 00 00 00 fe ff ff ff # record 5\n",
         Refusal::Fields,
         hint.what
     );

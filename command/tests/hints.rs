@@ -9,6 +9,7 @@ use volefleece_command::hint::{find, Hint};
 use volefleece_tests::compare::shown;
 use volefleece_tests::damage::{self, Edit};
 use volefleece_tests::faults;
+use volefleece_tests::format::RECORD_BYTES;
 use volefleece_tests::noise;
 use volefleece_tests::reader;
 use volefleece_tests::records::*;
@@ -20,13 +21,17 @@ use volefleece_tests::trees::{self, Tree};
 /// The library refuses the table so, and the hint is that record with those words.
 #[track_caller]
 fn hints(refusal: Refusal, records: &[Record], record: usize, what: &str) {
-    let table = table(records);
-    assert_eq!(check(&table), Err(refusal), "{}", shown(&table));
+    hints_of(&table(records), refusal, record, what);
+}
+
+#[track_caller]
+fn hints_of(table: &[u8], refusal: Refusal, record: usize, what: &str) {
+    assert_eq!(check(table), Err(refusal), "{}", shown(table));
     let hint = Hint {
         record,
         what: what.into(),
     };
-    assert_eq!(find(&table, refusal), Some(hint), "{}", shown(&table));
+    assert_eq!(find(table, refusal), Some(hint), "{}", shown(table));
 }
 
 /// The same for each of these lines, a record and its words: where it stands between good records and one that is refused likewise.
@@ -67,6 +72,24 @@ const FIELDS: &str = "
 #[test]
 fn words_for_fields() {
     hints_of_lines(Refusal::Fields, FIELDS, (9, 0, 0, 0, 0, 0));
+}
+
+/// The first wrong one of a record's last four bytes, where nothing before them is wrong.
+#[test]
+fn words_for_last_bytes() {
+    let good = table(&[sequence(3), BLOCK, BLOCK, BLOCK]);
+    for first in 0..4 {
+        let mut table = good.clone();
+        for byte in first..4 {
+            Edit::Filler(byte, byte as u8).apply(&mut table, 2);
+        }
+        Edit::Filler(0, 0).apply(&mut table, 3);
+        let words = format!("byte {} is {first} and can only be 255", 20 + first);
+        hints_of(&table, Refusal::Fields, 2, &words);
+        Edit::Flags(9).apply(&mut table, 2);
+        let words = "byte 1 is 9, which is no sum of the flags 1, 2 and 4";
+        hints_of(&table, Refusal::Fields, 2, words);
+    }
 }
 
 const NUMBERS: &str = "
@@ -211,12 +234,16 @@ fn agrees(table: &[u8], refusal: Refusal, hint: &Hint) -> bool {
     match refusal {
         Refusal::Fields | Refusal::Numbers => {
             is_first(table, refusal, record, with_blocks_from)
-                && words_lead(&table[record * 16..][..16], refusal, what)
+                && words_lead(
+                    &table[record * RECORD_BYTES..][..RECORD_BYTES],
+                    refusal,
+                    what,
+                )
         }
         Refusal::Shape => ends_there(table, record, what),
         Refusal::Depth => is_first_too_deep(table, record, what),
         Refusal::NamedLoop => {
-            let names = u64::from(table[record * 16 + 3]);
+            let names = u64::from(table[record * RECORD_BYTES + 3]);
             let mut words = vec![names, loops_around(table)[record]];
             words.retain(|&number| number > 0);
             is_first(table, refusal, record, without_limits_from) && numbers(what) == words
@@ -245,15 +272,15 @@ fn is_refused(table: &[u8], refusal: Refusal) -> bool {
 
 /// The table with blocks in place of the records from that one on.
 fn with_blocks_from(table: &[u8], record: usize) -> Vec<u8> {
-    let mut table = table.to_vec();
-    table[record * 16..].fill(0);
-    table
+    let mut blocks = table[..record * RECORD_BYTES].to_vec();
+    damage::add_blocks(&mut blocks, damage::records(table) - record);
+    blocks
 }
 
 /// The table without the limits of the records from that one on.
 fn without_limits_from(table: &[u8], record: usize) -> Vec<u8> {
     let mut table = table.to_vec();
-    for record in table.chunks_exact_mut(16).skip(record) {
+    for record in table.chunks_exact_mut(RECORD_BYTES).skip(record) {
         record[1] &= 1;
         record[3..8].fill(0);
     }
@@ -290,7 +317,7 @@ fn differences(record: &[u8], other: &[u8]) -> Vec<u8> {
 fn mending(record: &[u8], what: &str) -> Option<Edit> {
     let [kind, flags, children, names] = [0, 1, 2, 3].map(|byte: usize| record[byte]);
     let limit = u32::from_le_bytes(record[4..8].try_into().ok()?);
-    let value = u64::from_le_bytes(record[8..].try_into().ok()?);
+    let value = u64::from_le_bytes(record[8..16].try_into().ok()?);
     let (a_kind, right) = match kind {
         0 => ("a block", 0),
         1 => ("a sequence", 1),
@@ -320,14 +347,18 @@ fn mending(record: &[u8], what: &str) -> Option<Edit> {
         (format!("limit {limit} is above"), Edit::Limit(0)),
         (format!("limit symbol {limit} "), Edit::Limit(0)),
     ];
-    let mut mendings = mendings.into_iter();
+    let fillers = [20, 21, 22, 23].map(|byte| {
+        let words = format!("byte {byte} is {} and can only be", record[byte]);
+        (words, Edit::Filler(byte - 20, 255))
+    });
+    let mut mendings = mendings.into_iter().chain(fillers);
     mendings.find_map(|(words, edit)| what.starts_with(&words).then_some(edit))
 }
 
 /// Whether the records before that one are a whole tree; or else no records before it are, and those from it on would be one if it wanted
 /// no more children than the words say that it has.
 fn ends_there(table: &[u8], record: usize, what: &str) -> bool {
-    let (before, after) = table.split_at(record * 16);
+    let (before, after) = table.split_at(record * RECORD_BYTES);
     if what == "the tree ends before this record" {
         return is_tree(before);
     }
@@ -335,11 +366,11 @@ fn ends_there(table: &[u8], record: usize, what: &str) -> bool {
         return false;
     };
     let top = if has == 0 { BLOCK } else { sequence(has as u8) };
-    let with_what_it_has = [self::table(&[top]).as_slice(), &after[16..]].concat();
+    let with_what_it_has = [self::table(&[top]).as_slice(), &after[RECORD_BYTES..]].concat();
     wanted == u64::from(after[2])
         && wanted > has
         && is_tree(&with_what_it_has)
-        && (1..=record).all(|records| !is_tree(&table[..records * 16]))
+        && (1..=record).all(|records| !is_tree(&table[..records * RECORD_BYTES]))
 }
 
 /// Whether questions 1 to 4 say yes.
@@ -361,8 +392,10 @@ fn is_first_too_deep(table: &[u8], record: usize, what: &str) -> bool {
 
 /// The records before that one, and blocks for the children that they still want.
 fn down_to(table: &[u8], record: usize) -> Vec<u8> {
-    let mut table = table[..record * 16].to_vec();
-    let children = table.chunks_exact(16).map(|record| usize::from(record[2]));
+    let mut table = table[..record * RECORD_BYTES].to_vec();
+    let children = table
+        .chunks_exact(RECORD_BYTES)
+        .map(|record| usize::from(record[2]));
     let children: usize = children.sum();
     damage::add_blocks(&mut table, 1 + children - record);
     table
@@ -370,10 +403,13 @@ fn down_to(table: &[u8], record: usize) -> Vec<u8> {
 
 fn with_sequences_for_loops(table: &[u8]) -> Vec<u8> {
     let mut table = table.to_vec();
-    for record in table.chunks_exact_mut(16).filter(|record| record[0] == 3) {
+    for record in table
+        .chunks_exact_mut(RECORD_BYTES)
+        .filter(|record| record[0] == 3)
+    {
         record[0] = 1;
         record[1] &= !1;
-        record[8..].fill(0);
+        record[8..16].fill(0);
     }
     table
 }
@@ -387,7 +423,7 @@ fn loops_around(table: &[u8]) -> Vec<u64> {
 
 /// What each record's limit weighs.
 fn weights(table: &[u8]) -> Vec<u64> {
-    let names = table.chunks_exact(16).map(|record| record[3]);
+    let names = table.chunks_exact(RECORD_BYTES).map(|record| record[3]);
     let weigh = |(names, around)| match names {
         0 => 0,
         255 => 1_u64 << around,
@@ -450,7 +486,7 @@ fn each_field_at_its_ends() {
 #[test]
 fn several_fields_and_random_bits() {
     let (mut rng, mut judge) = start(2);
-    for _ in 0..40_000 {
+    for _ in 0..45_000 {
         let mut table = good_table(&mut rng);
         let mut flipped = table.clone();
         for _ in 0..rng.size(1..=4) {
@@ -476,7 +512,7 @@ fn records_too_many_and_too_few() {
             1 => damage::duplicate_record(&mut rng, &mut table),
             2 => damage::remove_record(&mut rng, &mut table),
             3 => damage::add_blocks(&mut table, 1 + record % 16),
-            4 => table.truncate((record + 1) * 16),
+            4 => table.truncate((record + 1) * RECORD_BYTES),
             _ => Edit::Children(rng.pick(&damage::CHILDREN)).apply(&mut table, record),
         }
         judge.judge(&table);

@@ -40,6 +40,9 @@ const KIND: &str = "expected \"block\", \"sequence\", \"choice\" or \"loop\"";
 const TIME: &str = "expected a time from 0 to 1000000000000 or the name of one (symbols 16 to 31)";
 const COUNT: &str = "expected a count from 0 to 1000000 or the name of one (symbols 0 to 15)";
 const HEADER: &str = "expected \"symbol\", \"branch\" or \"house\" and a name";
+const LIMIT: &str =
+    "expected \"at most\" and a limit, \"address\" and an address, or the end of the line";
+const ADDRESS: &str = "expected 0x and 1 to 8 hexadecimal digits";
 const LOOPS: &str =
     "expected 1 for the innermost loop around the node, 2 for the next one outward, up to 8";
 
@@ -100,14 +103,13 @@ fn times_and_counts() {
 
 #[test]
 fn limits() {
-    let limit = "expected \"at most\" and a limit, or the end of the line";
     tree(
         "block 7 most 3",
-        &[&format!("1:9: {limit}, found \"most\"")],
+        &[&format!("1:9: {LIMIT}, found \"most\"")],
     );
     tree(
         "sequence 3\n  block 1",
-        &[&format!("1:10: {limit}, found \"3\"")],
+        &[&format!("1:10: {LIMIT}, found \"3\"")],
     );
     tree("block 7 at 3", &["1:12: expected \"most\", found \"3\""]);
     tree(
@@ -150,7 +152,7 @@ fn what_limits_name() {
     );
     tree(
         "block 7 at most 3 per run 2",
-        &["1:27: expected the end of the line, found \"2\""],
+        &["1:27: expected \"address\" and an address, or the end of the line, found \"2\""],
     );
     let name = "expected the name of a count (symbols 0 to 15)";
     tree(
@@ -160,6 +162,51 @@ fn what_limits_name() {
     tree(
         "block 7 at most triangular time-16 per run",
         &[&format!("1:28: {name}, found \"time-16\"")],
+    );
+}
+
+#[test]
+fn addresses() {
+    for wrong in [
+        "x",
+        "1184",
+        "4a0",
+        "0x",
+        "0x123456789",
+        "0x000000001",
+        "0X4a0",
+        "0x4g0",
+        "0x-1",
+        "0x+1",
+        "0x4a0,",
+        "0x４",
+    ] {
+        for (line, column) in [
+            ("block 7 address", 17),
+            ("block 7 at most 3 per run address", 35),
+        ] {
+            tree(
+                &format!("{line} {wrong}"),
+                &[&format!("1:{column}: {ADDRESS}, found \"{wrong}\"")],
+            );
+        }
+    }
+    tree(
+        "block 7 address",
+        &[&format!("1:16: {ADDRESS}, and the line ends")],
+    );
+    tree(
+        "block 7 0x4a0",
+        &[&format!("1:9: {LIMIT}, found \"0x4a0\"")],
+    );
+    tree(
+        "sequence adress 0x4a0\n  block 1 address 4a0\n  loop 3 address 0x4a0 at most 3 per run\n    body block 1\n    exit block 1 address 0x1 0x2",
+        &[
+            &format!("1:10: {LIMIT}, found \"adress\""),
+            &format!("2:19: {ADDRESS}, found \"4a0\""),
+            "3:24: expected the end of the line, found \"at\"",
+            "5:30: expected the end of the line, found \"0x2\"",
+        ],
     );
 }
 
@@ -256,7 +303,7 @@ fn every_line_is_told() {
             &format!("6:18: {COUNT}, and the line ends"),
             "7:1: expected a node: names stand before the first one",
             "8:1: expected one root, and this is a second",
-            "8:9: expected \"at most\" and a limit, or the end of the line, found \"9\"",
+            &format!("8:9: {LIMIT}, found \"9\""),
         ],
     );
 }
@@ -339,6 +386,7 @@ fn names_that_are_none() {
         );
     }
     for word in [
+        "address",
         "at",
         "block",
         "body",
@@ -446,12 +494,13 @@ fn values_of_symbols() {
     );
 }
 
-/// What a text may have besides: comments, empty lines, any deeper indent, another system's line ends, names that are given twice alike.
+/// What a text may have besides: comments, empty lines, any deeper indent, another system's line ends, names that are given twice alike,
+/// addresses in capitals or with zeros before them.
 #[test]
 fn right_texts() {
     let plain =
-        "sequence\n  block 1\n  choice\n    block 2\n    block time-16 at most count-0 per run\n";
-    let same = "# a tree\r\nsymbol 0 cards # the count\r\nsymbol 0 cards\r\n\r\n   sequence\r\n         block 1\r\n\r\n         choice # here\r\n          block 2\r\n          block   time-16  at most cards per run\r\n";
+        "sequence\n  block 1\n  choice\n    block 2 address 0xabc\n    block time-16 at most count-0 per run address 0xabcdef01\n";
+    let same = "# a tree\r\nsymbol 0 cards # the count\r\nsymbol 0 cards\r\n\r\n   sequence\r\n         block 1 address 0x0\r\n\r\n         choice # here\r\n          block 2   address  0x00000ABC\r\n          block   time-16  at most cards per run address 0xABCdef01# there\r\n";
     let read = |text| text::tree::parse(text, &mut Names::default()).expect("a tree");
     assert_eq!(read(plain).table, read(same).table);
     assert_eq!(read(plain).lines, [1, 2, 3, 4, 5]);

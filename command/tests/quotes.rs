@@ -143,7 +143,7 @@ fn the_status_is_the_worst_houses() {
     answers(&folder, &QUOTES, "good: figure 7 branch 255\n");
     put(&folder, &format!("bad/{TREE}"), "");
     let said = quotes(&folder, 1);
-    let refused = "bad: refused 1: the length is not a multiple of 16 from 16 to 8,192\n";
+    let refused = "bad: refused 1: the length is not a multiple of 24 from 24 to 12,288\n";
     let both = format!("{refused}good: figure 7 branch 255\n");
     assert_eq!(said.output, both);
     assert!(said.error.starts_with("bad: hint: "), "{}", said.error);
@@ -370,7 +370,7 @@ time radio 90000 cycles
 No opening that this tree admits with these counts keeps the lock's processor awake for more cycles than the figure.
 The figure is exactly what the published method gives for this tree and these counts, no lower and no higher.
 
-tree sha256 01faf270b2ba44b5df7f94350411713c48e5b97bd37321ebf8bc6ae5cd8d5e67 (the table's bytes)
+tree sha256 c08cbb6ea3451c30c816f725f9e5295953c514d013217ee203edb720eebf039a (the table's bytes)
 counts sha256 6c69caec53ebd845e63bb3a989fc45b4c794043b24e6b355f8c8920b44c73052 (all 32 values, 8 bytes each)
 ";
 
@@ -434,11 +434,14 @@ fn each_input_changes_the_page() {
     }
     let tree = sample("entrance", TREE);
     // The card's time, which does not set the figure.
-    let other = [&tree[..40], &341_u64.to_le_bytes(), &tree[48..]].concat();
+    let other = [&tree[..56], &341_u64.to_le_bytes(), &tree[64..]].concat();
+    // Nor does where it stands in the firmware.
+    let moved = addressed(tree, 0x4a0);
     let names = String::from_utf8(sample("entrance", NAMES)).expect("text");
     let renamed = |from, to| names.replace(from, to).into_bytes();
     for (file, bytes) in [
         (TREE, other),
+        (TREE, moved),
         (NAMES, renamed("symbol 0 cards", "symbol 0 tags")),
         (NAMES, renamed("branch 1 radio", "branch 1 wireless")),
         (NAMES, renamed("Lakeside", "Seaside")),

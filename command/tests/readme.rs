@@ -1,4 +1,4 @@
-//! The quotes on README.md's first page are what the command prints, and its version is the library's.
+//! The examples on README.md's first pages are what the command prints, and its version is the library's.
 
 use assert_cmd::Command;
 
@@ -20,28 +20,37 @@ fn blocks() -> Vec<String> {
         .collect()
 }
 
-/// A `./quote` on the page, and the block after it.
+/// A line on the page, and the block after it, which is what the command prints for it.
 #[track_caller]
-fn quoted(command: &str) {
+fn printed(line: &str) {
     let blocks = blocks();
     let at = blocks
         .iter()
-        .position(|block| *block == format!("{command}\n"));
-    let expected = &blocks[at.expect("the command on the page") + 1];
-    let words = command.split(' ').skip(1);
-    let mut quote = Command::cargo_bin("volefleece").expect("the command");
-    quote.current_dir("..").arg("quote").args(words);
-    quote.assert().success().stdout(expected.clone()).stderr("");
+        .position(|block| *block == format!("{line}\n"));
+    let expected = &blocks[at.expect("the line on the page") + 1];
+    let words = line.replace("./quote", "volefleece quote");
+    let mut command = Command::cargo_bin("volefleece").expect("the command");
+    command.current_dir("..").args(words.split(' ').skip(1));
+    command
+        .assert()
+        .success()
+        .stdout(expected.clone())
+        .stderr("");
 }
 
 #[test]
 fn a_first_quote() {
-    quoted("./quote samples/house --set cards=40 --set retries=3");
+    printed("./quote samples/house --set cards=40 --set retries=3");
 }
 
 #[test]
 fn a_choice() {
-    quoted("./quote samples/entrance");
+    printed("./quote samples/entrance");
+}
+
+#[test]
+fn a_block_by_its_address() {
+    printed("volefleece find samples/workshop 0x8000474");
 }
 
 #[test]

@@ -16,11 +16,12 @@ const OUT: &str = "out";
 const OLD: &[u8] = b"old";
 
 /// Every way to write a file, without the file's name.
-const WAYS: [&[&str]; 6] = [
+const WAYS: [&[&str]; 7] = [
     &["make", "tree.txt", "-o"],
     &["values", "make", "values.txt", "-o"],
     &["simplify", "tree.tab", "-o"],
     &["graft", "tree.tab", "sent.tab", "--symbol", "radio", "-o"],
+    &["convert", "former.tab", "-o"],
     &["draw", "tree.tab", "-o"],
     // A house: its files, its names and its counts.
     &["draw", ".", "--set", "cards=4", "--set", "radio=9", "-o"],
@@ -37,7 +38,14 @@ const CALLS: [(&str, i32, &str); 6] = [
 ];
 const NO_SPACE: &str = "No space left on device";
 
-const READ: [&str; 5] = [NAMES, "sent.tab", TREE, TREE_TEXT, VALUES_TEXT];
+const READ: [&str; 6] = [
+    "former.tab",
+    NAMES,
+    "sent.tab",
+    TREE,
+    TREE_TEXT,
+    VALUES_TEXT,
+];
 const TEXT: &str = "choice\n  loop cards\n    body block 340\n    exit loop 0\n      body block 1\n      exit block radio\n  block 7\n";
 
 /// The text's table.
@@ -52,6 +60,7 @@ fn with_files(old: Option<&[u8]>) -> Folder {
     folder.write(TREE, &table());
     folder.write(NAMES, &sample("workshop", NAMES));
     folder.write("sent.tab", &block(7));
+    folder.write("former.tab", &FORMER_BLOCK);
     folder.write(TREE_TEXT, TEXT.as_bytes());
     folder.write(VALUES_TEXT, b"cards 40\nretries 3\n");
     if let Some(old) = old {
@@ -356,7 +365,7 @@ fn a_line_that_cannot_be_written_leaves_the_new_file() {
 fn nothing_is_written_without_an_answer() {
     for way in WAYS {
         let folder = with_files(Some(OLD));
-        for file in [TREE, TREE_TEXT, VALUES_TEXT] {
+        for file in [TREE, TREE_TEXT, VALUES_TEXT, "former.tab"] {
             folder.write(file, b"loop\n");
         }
         let output = folder

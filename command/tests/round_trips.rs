@@ -1,8 +1,11 @@
 //! What is shown as text and made again is the same, byte for byte: hundreds of thousands of accepted tables, and of values.
 
+use std::collections::BTreeSet;
+
 use volefleece_command::counts::Counts;
 use volefleece_command::names::{Named, Names};
 use volefleece_command::{table, text};
+use volefleece_tests::format::RECORD_BYTES;
 use volefleece_tests::rng::Rng;
 use volefleece_tests::trees;
 
@@ -44,13 +47,14 @@ fn returns(table: &[u8], names: &Names) {
     // Only plain names may be lost, and those are the same again.
     assert_eq!(text::tree::print(&parsed.table, &read), shown);
     let node_lines = shown.lines().rev().take(parsed.lines.len()).count();
-    assert_eq!(node_lines * 16, table.len());
+    assert_eq!(node_lines * RECORD_BYTES, table.len());
 }
 
 #[test]
 fn trees_return() {
     let mut rng = Rng::new(1);
     let (mut tables, mut records, mut limited, mut triangular) = (0, 0, 0, 0);
+    let mut addresses = BTreeSet::new();
     while tables < 200_000 {
         let most = rng.pick(&[3, 8, 8, 15, 30]);
         let size = rng.size(1..=most);
@@ -61,12 +65,17 @@ fn trees_return() {
         records += size;
         let nodes = table::nodes(&table);
         limited += nodes.iter().filter(|node| node.limit.is_some()).count();
-        triangular += table.chunks(16).filter(|record| record[1] & 4 != 0).count();
+        let records = table.chunks(RECORD_BYTES);
+        triangular += records.clone().filter(|record| record[1] & 4 != 0).count();
+        addresses.extend(records.map(|record| record[16..20].to_vec()));
     }
     assert!(
         records > 1_000_000 && limited > 100_000 && triangular > 10_000,
         "{records} {limited} {triangular}"
     );
+    assert!(addresses.len() > 50_000, "{}", addresses.len());
+    let ends = [[0; 4], [255; 4]];
+    assert!(ends.iter().all(|end| addresses.contains(&end[..])));
 }
 
 #[test]
@@ -76,6 +85,19 @@ fn large_trees_return() {
         let table = trees::within_limits(&mut rng, size).encode();
         returns(&table, &names(&mut rng));
     }
+}
+
+/// The record's bytes are those of what it is read as. Whether that is a node, which is exactly where question 2 accepts it.
+#[track_caller]
+fn is_node(record: &[u8; RECORD_BYTES]) -> bool {
+    let fields = table::records(record)[0];
+    assert_eq!(&fields.bytes(), record);
+    let is_node = fields.node().is_some();
+    let question = volefleece::check(record)
+        .err()
+        .map_or(0, |refusal| refusal.number());
+    assert_eq!(is_node, question != 2, "{record:?}");
+    is_node
 }
 
 /// Every record that question 2 accepts is the node's that it is read as, and no other is read as a node: over all kinds, flags, children
@@ -89,16 +111,11 @@ fn nodes_are_what_question_2_accepts() {
             for children in near {
                 for names in near {
                     for (limit, value) in [(0, 0), (1, 0), (0, 1), (1, 1), (u8::MAX, u8::MAX)] {
-                        let mut record = [0; 16];
+                        let mut record = [0; RECORD_BYTES];
                         record[..5].copy_from_slice(&[kind, flags, children, names, limit]);
                         record[15] = value;
-                        let fields = table::records(&record)[0];
-                        assert_eq!(fields.bytes(), record);
-                        let is_node = fields.node().is_some();
-                        let question = volefleece::check(&record)
-                            .err()
-                            .map_or(0, |refusal| refusal.number());
-                        assert_eq!(is_node, question != 2, "{record:?}");
+                        record[20..].fill(255);
+                        let is_node = is_node(&record);
                         read += usize::from(is_node);
                         refused += usize::from(!is_node);
                     }
@@ -107,6 +124,19 @@ fn nodes_are_what_question_2_accepts() {
         }
     }
     assert!(read > 500 && refused > 50_000, "{read} {refused}");
+}
+
+/// The same over all that a record's last four bytes may each be; before them any address will do.
+#[test]
+fn nodes_have_last_bytes_of_255() {
+    for byte in 16..RECORD_BYTES {
+        for value in 0..=u8::MAX {
+            let mut record = [0; RECORD_BYTES];
+            record[20..].fill(255);
+            record[byte] = value;
+            assert_eq!(is_node(&record), byte < 20 || value == 255, "{record:?}");
+        }
+    }
 }
 
 fn value(rng: &mut Rng, symbol: usize) -> u64 {

@@ -5,7 +5,8 @@ mod common;
 
 use common::*;
 use volefleece::ceiling;
-use volefleece_tests::programs::{values_file, Folder, TREE, VALUES};
+use volefleece_tests::format::RECORD_BYTES;
+use volefleece_tests::programs::{sample, values_file, Folder, TREE, VALUES};
 use volefleece_tests::rng::Rng;
 use volefleece_tests::tables::*;
 use volefleece_tests::trees;
@@ -41,7 +42,7 @@ fn made(folder: &Folder, arguments: &[&str]) -> Vec<u8> {
         0,
     );
     let table = folder.read("made.tab").expect("a table");
-    let said = match table.len() / 16 {
+    let said = match table.len() / RECORD_BYTES {
         1 => "made 1 record\n".into(),
         records => format!("made {records} records\n"),
     };
@@ -92,6 +93,40 @@ fn show_names_what_a_file_names() {
     folder.write("shown.txt", renamed(HOUSE_TEXT).as_bytes());
     let arguments = ["shown.txt", "--names", OTHER];
     assert_eq!(Some(made(&folder, &arguments)), folder.read(TREE));
+}
+
+/// The workshop's tree has addresses, the house's none.
+const WORKSHOP_NODES: &str = "
+sequence address 0x8000400
+  block 700 address 0x8000400
+  sequence address 0x800041c
+    block 500 address 0x800041c
+    block 0 address 0x8000440
+  loop cards address 0x8000448
+    body sequence address 0x800044c
+      sequence address 0x800044c
+        block 340 address 0x800044c
+      choice address 0x8000470
+        block radio at most 2 per loop 1 address 0x8000474
+        block 25 address 0x8000480
+        block 10 address 0x800048c
+    exit sequence address 0x8000494
+      block 20 address 0x8000494
+      block 40 address 0x80004a0
+  loop retries address 0x80004b0
+    body block 5000 address 0x80004b4
+    exit loop 0 address 0x80004d0
+      body block 7 address 0x80004d4
+      exit block 100 address 0x80004e0
+";
+
+#[test]
+fn show_tells_addresses_last() {
+    let folder = house("workshop");
+    let shown = output(&folder, &["show", TREE]);
+    assert!(shown.ends_with(WORKSHOP_NODES), "{shown}");
+    folder.write("shown.txt", shown.as_bytes());
+    assert_eq!(made(&folder, &["shown.txt"]), sample("workshop", TREE));
 }
 
 #[test]
@@ -171,6 +206,24 @@ fn each_branch_has_its_name() {
         let branch = serde_json::json!({"child": child, "name": name, "node": "block time-16"});
         assert_eq!(json["branch"], branch);
     }
+}
+
+/// Reception reads a branch, and has no use for its address.
+#[test]
+fn a_branch_goes_without_its_address() {
+    let folder = folder();
+    let child = limited(addressed(symbol_block(16), 0x4a0), 9, 255);
+    folder.write(TREE, &choice(&[child]));
+    folder.write(NAMES, b"house H\n");
+    let words = "block time-16 at most 9 per run";
+    let said = output(&folder, &["quote", ".", "--set", "16=5"]);
+    assert!(
+        said.contains(&format!("\nbranch {words} (child 0 ")),
+        "{said}"
+    );
+    let said = output(&folder, &["quote", ".", "--set", "16=5", "--json"]);
+    let json: serde_json::Value = serde_json::from_str(&said).expect("JSON");
+    assert_eq!(json["branch"]["node"], words);
 }
 
 /// A child of the root is meant, whatever stands at the same place below others.

@@ -1,4 +1,4 @@
-//! How the command ends: 0 answered, 1 refused, 2 used wrongly or a file that cannot be read or written, for each subcommand; and its help.
+//! How the command ends: 0 answered, 1 refused or not found, 2 used wrongly or a file that cannot be read or written, for each subcommand; and its help.
 
 mod common;
 
@@ -11,7 +11,7 @@ use volefleece_tests::programs::{project, values_file, Folder, TREE, VALUES};
 use volefleece_tests::tables::*;
 
 /// Each subcommand, answered in a folder with all that is read.
-const ANSWERED: [&[&str]; 15] = [
+const ANSWERED: [&[&str]; 17] = [
     &["quote", "."],
     &["quote", ".", "--line"],
     &["quote", ".", "--json"],
@@ -27,12 +27,14 @@ const ANSWERED: [&[&str]; 15] = [
     &[
         "graft", "tree.tab", "sent.tab", "--symbol", "16", "-o", "out.tab",
     ],
+    &["find", "tree.tab", "0x0"],
+    &["convert", "old.tab", "-o", "out.tab"],
     &["draw", ".", "-o", "out.svg"],
     &["completions", "bash"],
 ];
 
 /// Those that read a tree, and say so where it is refused.
-const OF_A_TREE: [&[&str]; 7] = [
+const OF_A_TREE: [&[&str]; 8] = [
     &["quote", "."],
     &["contract", "."],
     &["list", "."],
@@ -42,6 +44,7 @@ const OF_A_TREE: [&[&str]; 7] = [
         "graft", "tree.tab", "sent.tab", "--symbol", "16", "-o", "out.tab",
     ],
     &["draw", "tree.tab", "-o", "out.svg"],
+    &["find", "tree.tab", "0x0"],
 ];
 
 const OF_COUNTS: [&[&str]; 3] = [&["quote", "."], &["contract", "."], &["list", "."]];
@@ -51,6 +54,7 @@ fn with_files() -> Folder {
     folder.write("tree.text", b"block 7\n");
     folder.write("values.text", b"cards 4\n");
     folder.write("sent.tab", &block(7));
+    folder.write("old.tab", &FORMER_BLOCK);
     folder
 }
 
@@ -197,6 +201,11 @@ fn wrong_use_ends_with_2() {
         2,
     );
     ends(folder.command().args(["completions", "none"]), 2);
+    for wrong in ["4a0", "0X4a0", "0x", "1184", "0x100000000", ""] {
+        let written = ends(folder.command().args(["find", TREE, wrong]), 2);
+        let told = "expected 0x and 1 to 8 hexadecimal digits";
+        assert!(written.error.contains(told), "{}", written.error);
+    }
     for arguments in ANSWERED {
         for more in ["--nonsense", "too-many"] {
             let written = ends(folder.command().args(arguments).arg(more), 2);
@@ -249,7 +258,7 @@ fn a_file_that_cannot_be_read_ends_with_2() {
 fn names_that_cannot_be_read_end_with_2() {
     for arguments in ANSWERED {
         if [
-            "check", "show", "make", "values", "simplify", "graft", "draw",
+            "check", "show", "make", "values", "simplify", "graft", "draw", "find",
         ]
         .contains(&arguments[0])
         {
@@ -319,7 +328,7 @@ fn a_closed_standard_error_changes_nothing() {
 
 // Help.
 
-const SUBCOMMANDS: [&[&str]; 12] = [
+const SUBCOMMANDS: [&[&str]; 14] = [
     &["quote"],
     &["quotes"],
     &["contract"],
@@ -329,6 +338,8 @@ const SUBCOMMANDS: [&[&str]; 12] = [
     &["make"],
     &["values", "show"],
     &["values", "make"],
+    &["find"],
+    &["convert"],
     &["draw"],
     &["simplify"],
     &["graft"],
@@ -350,7 +361,10 @@ fn help_names_every_subcommand_and_status() {
         let name = format!("\n  {} ", arguments.last().expect("a name"));
         assert!(top.contains(&name), "{name}");
     }
-    assert!(top.contains("0 answered, 1 refused, 2 "), "{top}");
+    assert!(
+        top.contains("0 answered, 1 refused or not found, 2 "),
+        "{top}"
+    );
     let version = ends(folder().command().arg("--version"), 0).output;
     assert_eq!(
         version,

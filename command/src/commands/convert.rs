@@ -1,85 +1,56 @@
-//! `volefleece check`, `show`, `make` and `values`.
+//! `volefleece convert`.
 
 use std::path::Path;
 
+use volefleece::{FormerLength, MOST_TABLE, RECORD_BYTES};
+
 use super::Answer;
-use crate::cli::{Converted, Source};
-use crate::counts::Counts;
+use crate::cli::Convert;
 use crate::failure::{note, Failure, Outcome};
 use crate::files;
-use crate::house::not_given;
 use crate::names::Names;
-use crate::table;
-use crate::text;
-use crate::tree::{read_names, Tree};
+use crate::tree::{length_words, Tree};
 use crate::words::counted;
 
-pub fn check(source: &Source) -> Outcome<String> {
-    let tree = Tree::read(&source.tree, source.names.as_deref())?;
-    let nodes = tree.check()?;
-    let (places, _) = table::places(&table::records(&tree.table));
-    let depth = places
-        .iter()
-        .map(|place| place.depth)
-        .max()
-        .unwrap_or_default();
-    let mut lines = format!("accepted\nrecords {}\ndepth {depth}\n", nodes.len());
-    for symbol in table::symbols(&nodes) {
-        lines += &format!("symbol {symbol} {}\n", tree.names.symbol(symbol));
+/// Makes a table of a former one. One that is refused later is made all the same, as the program in Rattle makes it, and told; but no table that is
+/// accepted as it is gives way to that.
+pub fn run(arguments: &Convert) -> Outcome<Answer> {
+    let Convert { old, output } = arguments;
+    files::expect_bytes_at(old)?;
+    files::expect_bytes_at(output)?;
+    let former = files::read(old, MOST_TABLE)?;
+    let table = match volefleece::convert(&former) {
+        Ok(table) => table,
+        Err(refusal) => return Ok(refused(refusal, old, &former)),
+    };
+    let needless = needless(old, &former);
+    if let Some(needless) = needless.as_ref().filter(|_| files::is_same(old, output)) {
+        return Err(Failure::Problem(format!("{needless}, and would be lost")));
     }
-    Ok(lines)
+    let made = Tree::from_file(output, table, Names::default());
+    let records = made.table.len() / RECORD_BYTES;
+    let said = made.write(output, format!("made {}", counted(records, "record")))?;
+    if let Err(refused) = made.check() {
+        note(&format!("made, but no call accepts it: {refused}"));
+    }
+    needless.iter().for_each(|line| note(line));
+    Ok(said.into())
 }
 
-/// A table as text, or, where it is refused, as far as it can be read.
-pub fn show(source: &Source) -> Outcome<Answer> {
-    let tree = Tree::read(&source.tree, source.names.as_deref())?;
-    match tree.check() {
-        Ok(_) => Ok(text::tree::print(&tree.table, &tree.names).into()),
-        Err(refused) => Ok(Answer {
-            text: text::tree::print_refused(&tree.table, &tree.names, &refused),
-            status: refused.status(),
-        }),
+fn refused(refusal: FormerLength, old: &Path, former: &[u8]) -> Answer {
+    let length = || format!("{} has {}", old.display(), length_words(former));
+    let hint = needless(old, former).unwrap_or_else(length);
+    Answer {
+        text: format!("{refusal}\nhint: {hint}\n"),
+        status: 1,
     }
 }
 
-pub fn make(converted: &Converted) -> Outcome<String> {
-    files::expect_bytes_at(&converted.output)?;
-    let tree = Tree::read_text(&converted.text, converted.names.as_deref())?;
-    let said = format!("made {}", counted(tree.check()?.len(), "record"));
-    files::replace(&converted.output, &tree.table, said)
-}
-
-/// Values as text, or, where they are refused, as far as they can be read.
-pub fn show_values(values: &Path, names: Option<&Path>) -> Outcome<Answer> {
-    let mut names = read_names(names, files::folder_of(values))?;
-    let counts = Counts::read(values, &mut names)?;
-    Ok(match accept(&counts, &names) {
-        Ok(()) => text::values::print(&counts, &names).into(),
-        Err(refused) => Answer {
-            text: text::values::print_refused(&counts, &names, &refused),
-            status: refused.status(),
-        },
-    })
-}
-
-pub fn make_values(converted: &Converted) -> Outcome<String> {
-    files::expect_bytes_at(&converted.output)?;
-    let path = &converted.text;
-    let mut names = read_names(converted.names.as_deref(), files::folder_of(path))?;
-    let counts = Counts::from_text(path, &files::read_text(path)?, &mut names)?;
-    accept(&counts, &names)?;
-    let bytes = counts.bytes();
-    let values = bytes.len() / 8;
-    for symbol in (0..values).filter(|&symbol| counts.given(symbol).is_none()) {
-        note(&not_given(&names.symbol(symbol), symbol));
-    }
-    let said = format!("made {}", counted(values, "value"));
-    files::replace(&converted.output, &bytes, said)
-}
-
-fn accept(counts: &Counts, names: &Names) -> Outcome {
-    counts.refusal().map_or(Ok(()), |refusal| {
-        let hint = counts.fault(names);
-        Err(Failure::Refused { refusal, hint })
-    })
+/// That a table is no former one.
+fn needless(old: &Path, former: &[u8]) -> Option<String> {
+    volefleece::check(former).ok()?;
+    Some(format!(
+        "{} needs no converting: `volefleece check` accepts it as it is",
+        old.display()
+    ))
 }

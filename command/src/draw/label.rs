@@ -4,7 +4,7 @@ use super::layout::Size;
 use super::text::{cells, wrapped, CELL};
 use crate::names::Names;
 use crate::table::Node;
-use crate::words::{kind_words, limit_words};
+use crate::words::{address_words, kind_words, limit_words};
 
 pub const LINE_HEIGHT: usize = 16;
 /// From a box's edge to its text. A choice's points and a loop's ends take up the sides.
@@ -33,7 +33,8 @@ impl Label {
         let limit = node
             .limit
             .map(|limit| (Some("limit"), limit_words(limit, names)));
-        let parts = branch.into_iter().chain([what]).chain(limit);
+        let address = address_words(node.address).map(|words| (Some("address"), words));
+        let parts = branch.into_iter().chain([what]).chain(limit).chain(address);
         let lines = parts.flat_map(|(class, text)| {
             let lines = wrapped(&text, MOST_CELLS).into_iter();
             lines.map(move |text| Line { text, class })

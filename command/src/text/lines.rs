@@ -166,6 +166,18 @@ pub fn number(word: &Word, most: u64) -> Option<u64> {
     digits(word.text, most)
 }
 
+/// How an address is written.
+pub const ADDRESS: &str = "0x and 1 to 8 hexadecimal digits";
+
+/// The address that is written so.
+pub fn address(text: &str) -> Option<u32> {
+    let digits = text.strip_prefix("0x")?;
+    let is_address = digits.len() <= 8 && digits.bytes().all(|digit| digit.is_ascii_hexdigit());
+    is_address
+        .then(|| u32::from_str_radix(digits, 16).ok())
+        .flatten()
+}
+
 /// The number of these digits, up to a largest one. A sign is none.
 pub fn digits(text: &str, most: u64) -> Option<u64> {
     let is_number = !text.is_empty() && text.bytes().all(|byte| byte.is_ascii_digit());

@@ -8,7 +8,7 @@ use super::lines::{lines, Line, Problem, Problems, Word};
 use crate::names::Names;
 use crate::table::{Kind, Node};
 
-pub use print::{print, print_refused};
+pub use print::{print, print_refused, print_ways};
 
 /// The most children that a record can have.
 const MOST_CHILDREN: usize = 255;

@@ -16,6 +16,9 @@ pub const NAMES: &str = "names.txt";
 pub const TREE_TEXT: &str = "tree.txt";
 pub const VALUES_TEXT: &str = "values.txt";
 
+/// A former table: a block of 7 cycles.
+pub const FORMER_BLOCK: [u8; 16] = [0, 0, 0, 0, 0, 0, 0, 0, 7, 0, 0, 0, 0, 0, 0, 0];
+
 /// An empty folder for the command to run in.
 pub fn folder() -> Folder {
     Folder::of(VOLEFLEECE.into())

@@ -58,7 +58,7 @@ impl Case {
         branch.map_or(0..0, |node| node.records.clone())
     }
 
-    /// A node's words: its branch's, its own and its limit's.
+    /// A node's words: its branch's, its own, its limit's and its address.
     pub fn words(&self, node: &Expected) -> String {
         let branch = match node.parent {
             Some((0, child)) if self.tree.kind == Kind::Choice => match self.names.branch(child) {
@@ -81,7 +81,11 @@ impl Case {
             };
             format!("at most {} per {scope}", self.amount(limit.amount))
         });
-        [branch, kind, limit].join(" ")
+        let address = match node.tree.address {
+            0 => String::new(),
+            address => format!("address 0x{address:x}"),
+        };
+        [branch, kind, limit, address].join(" ")
     }
 
     fn amount(&self, amount: Amount) -> String {

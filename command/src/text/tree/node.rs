@@ -2,7 +2,7 @@
 
 use volefleece::{FIRST_TIME, MOST_COUNT, MOST_TIME};
 
-use super::super::lines::{number, Line, Problem, Word};
+use super::super::lines::{self, number, Line, Problem, Word};
 use crate::names::Names;
 use crate::table::{Amount, Kind, Limit, Node, Scope, MOST_LOOPS};
 
@@ -10,11 +10,7 @@ use crate::table::{Amount, Kind, Limit, Node, Scope, MOST_LOOPS};
 /// lines below can be judged too.
 pub fn read(line: &mut Line, names: &Names) -> (Option<Node>, Option<Problem>) {
     let mut node = match kind(line) {
-        Ok(kind) => Node {
-            kind,
-            children: 0,
-            limit: None,
-        },
+        Ok(kind) => Node::new(kind),
         Err(problem) => return (None, Some(problem)),
     };
     let read = rest(line, names, &mut node);
@@ -35,7 +31,7 @@ fn kind(line: &mut Line) -> Result<Kind, Problem> {
     }
 }
 
-/// What follows the kind: the value and the limit.
+/// What follows the kind: the value, the limit and the address.
 fn rest(line: &mut Line, names: &Names, node: &mut Node) -> Result<(), Problem> {
     match &mut node.kind {
         Kind::Block(value) => *value = time(line, names)?,
@@ -43,6 +39,7 @@ fn rest(line: &mut Line, names: &Names, node: &mut Node) -> Result<(), Problem> 
         Kind::Sequence | Kind::Choice => {}
     }
     node.limit = limit(line, names)?;
+    node.address = address(line)?;
     line.want_end()
 }
 
@@ -81,16 +78,17 @@ fn count_symbol(word: &Word, names: &Names) -> Option<u64> {
     symbol.map(|symbol| symbol as u64)
 }
 
+const ADDRESS_OR_END: &str = "\"address\" and an address, or the end of the line";
+
 /// `at most 3 per loop 1`, `at most triangular retries per run`, or nothing.
 fn limit(line: &mut Line, names: &Names) -> Result<Option<Limit>, Problem> {
-    if line.peek().text.is_empty() {
-        return Ok(None);
-    }
-    if line.peek().text != "at" {
-        return Err(Problem::expected(
-            &line.next(),
-            "\"at most\" and a limit, or the end of the line",
-        ));
+    match line.peek().text {
+        "" | "address" => return Ok(None),
+        "at" => {}
+        _ => {
+            let expected = format!("\"at most\" and a limit, {ADDRESS_OR_END}");
+            return Err(Problem::expected(&line.next(), &expected));
+        }
     }
     line.want("at most")?;
     let amount = if line.take("triangular") {
@@ -104,6 +102,18 @@ fn limit(line: &mut Line, names: &Names) -> Result<Option<Limit>, Problem> {
     line.want("per")?;
     let scope = scope(line)?;
     Ok(Some(Limit { amount, scope }))
+}
+
+/// `address 0x4a0`, or nothing, which is 0.
+fn address(line: &mut Line) -> Result<u32, Problem> {
+    if line.peek().text.is_empty() {
+        return Ok(0);
+    }
+    if !line.take("address") {
+        return Err(Problem::expected(&line.next(), ADDRESS_OR_END));
+    }
+    let word = line.next();
+    lines::address(word.text).ok_or_else(|| Problem::expected(&word, lines::ADDRESS))
 }
 
 fn scope(line: &mut Line) -> Result<Scope, Problem> {

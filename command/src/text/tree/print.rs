@@ -25,12 +25,25 @@ pub fn print(table: &[u8], names: &Names) -> String {
         lines.push(String::new());
     }
     for (place, node) in places.iter().zip(&nodes) {
-        lines.push(format!(
-            "{}{}{}",
-            indent(place),
-            role(&records, place),
-            node_words(node, names)
-        ));
+        let line = node_line(&records, place, node, names);
+        lines.push(format!("{}{line}", indent(place)));
+    }
+    whole(&lines)
+}
+
+/// Some records of a table that the library accepts: of each its number and line, and below that the lines from the root down to it.
+pub fn print_ways(table: &[u8], names: &Names, found: &[usize]) -> String {
+    let records = table::records(table);
+    let nodes = table::nodes(table);
+    let (places, _) = table::places(&records);
+    let line = |at: usize| node_line(&records, &places[at], &nodes[at], names);
+    let mut lines = Vec::new();
+    for &at in found {
+        lines.push(format!("record {at}: {}", line(at)));
+        for above in table::way_down(&places, at) {
+            let indent = indent(&places[above]);
+            lines.push(format!("  {indent}{} # record {above}", line(above)));
+        }
     }
     whole(&lines)
 }
@@ -56,6 +69,11 @@ pub fn print_refused(table: &[u8], names: &Names, failure: &Failure) -> String {
         lines.push(format!("{} # no whole record", hexadecimal(left)));
     }
     failure.commented() + &whole(&lines)
+}
+
+/// The line of a node without its indent.
+fn node_line(records: &[Record], place: &Place, node: &Node, names: &Names) -> String {
+    format!("{}{}", role(records, place), node_words(node, names))
 }
 
 fn whole(lines: &[String]) -> String {
