@@ -1,14 +1,14 @@
 -- A former table with address 0 at every record, and what the call that makes it answers for any input.
 use mathlib.Core.Path.{_≡_}
 use mathlib.Core.List.{List, [], _∷_, _++_}
-use Prim.Native.Nat.{ℕ, zero, suc, _*_}
-use lib.Dec.{T, leb}
+use Prim.Native.Nat.{ℕ, zero, suc, _*_, _%_}
+use lib.Dec.{leb}
 use lib.ListN.{drop, length, take}
 use Rattle.table.specs.Asking.{_asks_, byRefusal, firstNo}
 use Rattle.table.specs.Checking.{refusal}
 use Rattle.table.specs.Numbers.{recordLength}
 use Rattle.table.specs.Table.{decode, noAddress}
-use Rattle.former.specs.Former.{formerCount, formerLength, formerLong, formerRefusal, formerTree}
+use Rattle.former.specs.Former.{formerCount, formerLength, formerQuestion1, formerRefusal, formerTree}
 use Rattle.former.specs.declared.Conversion.{Conversion}
 
 -- the record of b's first one
@@ -27,7 +27,7 @@ newTable b = converted (formerCount b) b
 -- ---- the call: question 1 of former tables, and 8 of the output buffer
 
 unfoldable pub convertRefusal : (former out : List ℕ) → ℕ
-convertRefusal b out = firstNo (1 asks formerLong b ∷ 8 asks leb (recordLength * formerCount b) (length out) ∷ [])
+convertRefusal b out = firstNo (1 asks formerQuestion1 b ∷ 8 asks leb (recordLength * formerCount b) (length out) ∷ [])
 
 unfoldable pub convertAnswer : (former out : List ℕ) → Conversion
 convertAnswer b out = byRefusal (convertRefusal b out) (Conversion.Written (recordLength * formerCount b)) Conversion.Refused
@@ -45,9 +45,9 @@ unfoldable pub conversionLength : Conversion → ℕ
 conversionLength (Conversion.Written n) = n
 conversionLength (Conversion.Refused q) = 0
 
--- what is promised: questions 1 to 7 say of the new table what they said of the former one, so that an accepted one stays accepted; its tree is the former
--- one's, with address 0; and a former table that was accepted does not pass as a table itself
+-- what is promised: of whole records, questions 1 to 7 say of the new table what they said of the former one, so that an accepted one stays accepted; its tree
+-- is the former one's, with address 0; and a former table that was accepted does not pass as a table itself
 pub record Converts (b : List ℕ) : Type 0 where
-  pub sameRefusal : T (formerLong b) → refusal (newTable b) ≡ formerRefusal b
+  pub sameRefusal : length b % formerLength ≡ 0 → refusal (newTable b) ≡ formerRefusal b
   pub sameTree : decode (newTable b) ≡ formerTree b
   pub apart : formerRefusal b ≡ 0 → refusal b ≡ 0 → ⊥

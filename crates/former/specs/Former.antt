@@ -1,5 +1,5 @@
 -- Tables as they were before firmware addresses (document 02, CR 6): records of 16 bytes, which are now those before a record's address.
--- Questions 1 to 7 of them, and their tree, as document 01 has them.
+-- Questions 1 to 7 of them, and their tree, as document 01 and its requests before that one have them.
 use mathlib.Core.Bool.{Bool, false, true}
 use mathlib.Core.List.{List, [], _∷_}
 use Prim.Native.Nat.{ℕ, zero, suc, _+_, _*_, _/_, _%_}
@@ -44,21 +44,21 @@ formerEach p zero b = true
 formerEach p (suc n) b = p b and formerEach p n (drop formerLength b)
 
 -- the first n records of b are exactly k trees
-unfoldable pub formerForm : ℕ → ℕ → List ℕ → Bool
-formerForm zero k b = eqb k 0
-formerForm (suc n) zero b = false
-formerForm (suc n) (suc k) b = formerForm n (k + childByte b) (drop formerLength b)
+unfoldable pub formerFormTrees : ℕ → ℕ → List ℕ → Bool
+formerFormTrees zero k b = eqb k 0
+formerFormTrees (suc n) zero b = false
+formerFormTrees (suc n) (suc k) b = formerFormTrees n (k + childByte b) (drop formerLength b)
 
 -- 1. a multiple of 16 from 16 to 8,192
-unfoldable pub formerLong : List ℕ → Bool
-formerLong b = eqb (length b % formerLength) 0 and leb formerLength (length b) and leb (length b) (formerLength * mostRecords)
+unfoldable pub formerQuestion1 : List ℕ → Bool
+formerQuestion1 b = eqb (length b % formerLength) 0 and leb formerLength (length b) and leb (length b) (formerLength * mostRecords)
 
 unfoldable pub formerQuestions : List ℕ → List Question
 formerQuestions b =
-    1 asks formerLong b
+    1 asks formerQuestion1 b
     ∷ 2 asks formerEach fieldsListed (formerCount b) b
     ∷ 3 asks formerEach recordInRange (formerCount b) b
-    ∷ 4 asks formerForm (formerCount b) 1 b
+    ∷ 4 asks formerFormTrees (formerCount b) 1 b
     ∷ 5 asks (leb (depth (formerTree b)) mostDepth and leb (loops (formerTree b) 0) mostLoops)
     ∷ 6 asks named (formerTree b) 0
     ∷ 7 asks leb (weight (formerTree b) 0) mostWeight

@@ -6,7 +6,7 @@ ghost use lib.ListN.{drop, length, take};
 ghost use Rattle.table.specs.Numbers.{recordLength};
 ghost use Rattle.writing.specs.Over.{over};
 ghost use Rattle.writing.specs.Records.{front};
-ghost use Rattle.former.specs.Former.{formerLength, formerLong};
+ghost use Rattle.former.specs.Former.{formerLength, formerQuestion1};
 ghost use Rattle.former.specs.Converted.{Converts, newRecord, convertAnswer, convertWrites, converted};
 use table::FILL;
 use table::MOST_RECORDS;
@@ -23,7 +23,7 @@ pub enum Conversion {
 
 // Question 1 of former tables.
 fn length_allowed(old: &[u8]) -> bool
-    ensures { λ r. ⌜ r ≡ formerLong (now (old .entry)) ⌝ }
+    ensures { λ r. ⌜ r ≡ formerQuestion1 (now (old .entry)) ⌝ }
 {
     let n = old.len();
     (n % FORMER_LENGTH == 0) & (FORMER_LENGTH <= n) & (n <= FORMER_LENGTH * MOST_RECORDS)

@@ -5,9 +5,9 @@ use Rattle.table.specs.Trees.{Tree, around, rest}
 use Rattle.table.specs.Notation.{_addressed_, _/_at_, block, both, either, loop, sequence, symbol}
 use Rattle.splice.specs.Graft.{graft, inPlace, isSymbol, rename, renamedLimit}
 
--- (X/2@255, loop 3 of (X, 5)), X symbol 20, of which the second stands at address 96
+-- (X/2@255, loop 3 of (X, 5)), X symbol 20, at addresses 95 and 96
 pub host : (x : Tree) → Tree
-host x = both (x / 2 at 255) (loop 3 (both (x addressed 96) (block 5 addressed 97)) (block 0 addressed 98))
+host x = both (x / 2 at 255 addressed 95) (loop 3 (both (x addressed 96) (block 5 addressed 97)) (block 0 addressed 98))
 
 -- loop 2 of C(10/1@i | 4/3@1) exit 7/1@j, its addresses 1 to 5: whole-run limits in its body and on its exit
 pub sent : (i j : ℕ) → Tree

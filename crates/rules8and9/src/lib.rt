@@ -87,7 +87,7 @@ fn is_pair(table: &[u8], p: usize) -> bool
         & (table::children_at(table, p) == 2)
 }
 
-// Is it one whose second child is the same as the subtree at record `second`?
+// Is it one whose second child is the same, but for its addresses, as the subtree at record `second`?
 fn pair_shares(table: &[u8], extents: &[usize], p: usize, second: usize) -> bool
     requires { ⌜ Extents (now table) (now extents) ⌝ ∗ ⌜ p < recordCount (now table) ⌝ ∗ ⌜ second < recordCount (now table) ⌝ }
     ensures { λ r. ⌜ r ≡ sharing (subtree (now (table .entry)) second) (subtree (now (table .entry)) p) ⌝ }

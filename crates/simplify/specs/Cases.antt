@@ -10,12 +10,12 @@ use Rattle.lists.specs.Streams.{S, const, add, cap, group, shift, merge, next, 
 use Rattle.evaluate.specs.Evaluate.{allowed, amount, inner, outward, seen, name, limit, rounds, turns, join, start, list, figure}
 use Rattle.evaluate.specs.Closed.{stays, closed, isPlain, plainKind, plainMost, plainLimit, symbolFree, isUnlimited}
 use Rattle.simplify.specs.Same.{sameNumber, sameMost, sameLimit, sameKind, same}
-use Rattle.simplify.specs.Rules.{isBlock, isSum, limitOf, children, relimit, leaf, bare, timeOfKind, timeOf, when, rule1, gives, anyGives, giveWay, rule2, alone, rule3, rule4, isZero, anyZero, without, rule5, bares, others, total, largest, rule6, atFirst, rule7, isPair, headOf, tailOf, firstOf, secondOf, allPairs, firsts, shares, sharedOut, rule8, exit, rule9}
+use Rattle.simplify.specs.Rules.{isBlock, isSum, limitOf, addressOf, children, relimit, leaf, bare, timeOfKind, timeOf, when, rule1, gives, anyGives, giveWay, rule2, alone, rule3, rule4, isZero, anyZero, without, rule5, bares, others, total, largest, rule6, atFirst, rule7, isPair, headOf, tailOf, firstOf, secondOf, allPairs, firsts, shares, sharedOut, rule8, exit, rule9}
 use Rattle.simplify.specs.Steps.{orElse, also, rule, inside, step, isNone, onward, steps}
 
 -- to unfold this is to unfold all that steps compute with
 unfoldable pub computedSteps : ℕ
-unfolding block symbol _/_at_ _addressed_ sequence both either loop _and_ _⧺_ size rest mostFlags S const add cap group shift merge next taken allowed amount inner outward seen name limit rounds turns join start list figure stays closed isPlain plainKind plainMost plainLimit symbolFree isUnlimited sameNumber sameMost sameLimit sameKind same isBlock isSum limitOf children relimit leaf bare timeOfKind timeOf when rule1 gives anyGives giveWay rule2 alone rule3 rule4 isZero anyZero without rule5 bares others total largest rule6 atFirst rule7 isPair headOf tailOf firstOf secondOf allPairs firsts shares sharedOut rule8 exit rule9 orElse also rule inside step isNone onward steps
+unfolding block symbol _/_at_ _addressed_ sequence both either loop _and_ _⧺_ size rest mostFlags S const add cap group shift merge next taken allowed amount inner outward seen name limit rounds turns join start list figure stays closed isPlain plainKind plainMost plainLimit symbolFree isUnlimited sameNumber sameMost sameLimit sameKind same isBlock isSum limitOf addressOf children relimit leaf bare timeOfKind timeOf when rule1 gives anyGives giveWay rule2 alone rule3 rule4 isZero anyZero without rule5 bares others total largest rule6 atFirst rule7 isPair headOf tailOf firstOf secondOf allPairs firsts shares sharedOut rule8 exit rule9 orElse also rule inside step isNone onward steps
 computedSteps = 0
 
 -- a time symbol at an address
@@ -47,6 +47,7 @@ record Examples : Type 0 where
   -- 8: second children that agree but for their addresses, of which the first one's stay; the sequence takes the choice's, and the new choice has 0
   shared-out : step (either (both (time 17 1) (shared 2 3 4) addressed 5) (both (time 18 6) (shared 7 8 9) addressed 10) / 6 at 255 addressed 11)
       ≡ some (both (either (time 17 1) (time 18 6)) (shared 2 3 4) / 6 at 255 addressed 11)
+  shared-out-unlimited : step (either (both (time 17 1) (time 16 2)) (both (time 18 3) (time 16 4)) addressed 5) ≡ some (both (either (time 17 1) (time 18 3)) (time 16 2) addressed 5)
   -- 9
   never-passed : step (loop 0 (time 17 1) (time 16 2) addressed 3) ≡ some (time 16 2)
 
@@ -64,5 +65,6 @@ examples-hold = record {
   summed = refl;
   largest-one = refl;
   shared-out = refl;
+  shared-out-unlimited = refl;
   never-passed = refl;
 }

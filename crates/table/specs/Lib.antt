@@ -11,5 +11,6 @@ pub mod Checking
 pub mod Survey
 -- Trees as examples write them.
 pub mod Notation
+pub mod Cases
 -- What is proved of them.
 pub mod Laws

@@ -4,7 +4,7 @@ use Prim.Native.Nat.{ℕ, suc, max, _-_, _^_, _+_, _≤_}
 use lib.Dec.{leb, eqb, ltb, T}
 use Rattle.table.specs.Nodes.{Kind, Block, Sequence, Choice, Loop, Number, Plain, Symbol, Most, Limit, Unlimited, AtMost, Node}
 use Rattle.booleans.specs.Tests.{_and_}
-use Rattle.table.specs.Numbers.{addresses, mostChildren, mostTime, firstTimeSymbol, howManySymbols, mostCount, wholeRun, mostLoops, mostRecords, mostDepth, mostWeight}
+use Rattle.table.specs.Numbers.{howManyAddresses, mostChildren, mostTime, firstTimeSymbol, howManySymbols, mostCount, wholeRun, mostLoops, mostRecords, mostDepth, mostWeight}
 use Rattle.table.specs.Trees.{Tree, node, Forest, nil, _▸_, size, rest, around, records}
 
 -- ---- 2 and 3: each node by itself
@@ -42,7 +42,7 @@ limitInRange (AtMost k m) = ((leb 1 k and leb k mostLoops) || eqb k wholeRun) an
 
 -- An address is any number of 32 bits. No question asks for it, since its four bytes hold no other.
 unfoldable pub isAddress : ℕ → Bool
-isAddress a = ltb a addresses
+isAddress a = ltb a howManyAddresses
 
 abbrev pub nodeInRange : Node → Bool
 nodeInRange n = isAddress (n .address) and kindInRange (n .kind) and limitInRange (n .limit)

@@ -7,8 +7,8 @@ use quoting::Quote;
 use simplifying::Ending;
 use simplifying::Simplified;
 ghost use mathlib.Core.Path.{_≡_};
-ghost use lib.Dec.{T};
-ghost use lib.ListN.{take};
+ghost use Prim.Native.Nat.{_%_};
+ghost use lib.ListN.{length, take};
 ghost use Rattle.quoting.specs.Answers.{checkAnswer, figureAnswer, listAnswer, listedRefusal, listedPairs, listWrites};
 ghost use Rattle.quoting.specs.Promises.{Listing};
 ghost use Rattle.evaluate.specs.Evaluate.{valuesOf};
@@ -18,7 +18,7 @@ ghost use Rattle.simplifying.specs.Answers.{finishedNumber, simplifyAnswer, sim
 ghost use Rattle.simplifying.specs.Demand.{Demand3};
 ghost use Rattle.graft.specs.Answers.{graftAnswer, graftWrites, graftedLength, graftedRefusal};
 ghost use Rattle.graft.specs.Promises.{GraftPromised};
-ghost use Rattle.former.specs.Former.{formerLong};
+ghost use Rattle.former.specs.Former.{formerLength};
 ghost use Rattle.former.specs.Converted.{Converts, conversionLength, conversionRefusal, convertAnswer, convertWrites};
 ghost use Rattle.formerquotes.specs.Answers.{Agrees};
 ghost use Rattle.volefleece.specs.Numbers.{BranchPromised, CheckedAs, FigurePromised, FigureRises, QuotedAs, SimplifiedAs};
@@ -179,7 +179,7 @@ pub extern "C" fn vf_convert(old: &[u8], out: &mut [u8]) -> VfConverted
     ensures answer { λ r. ⌜ (r .refused ≡ conversionRefusal (convertAnswer (now (old .entry)) (now (out .entry)))) × (r .length ≡ conversionLength (convertAnswer (now (old .entry)) (now (out .entry)))) ⌝ }
     ensures written { λ _. ⌜ now (out .exit) ≡ over (convertWrites (now (old .entry)) (now (out .entry))) (now (out .entry)) ⌝ }
     ensures promise { λ _. ⌜ Converts (now (old .entry)) ⌝ }
-    ensures quotes { λ _. ⌜ (T (formerLong (now (old .entry))) → Agrees (now (old .entry))) ⌝ }
+    ensures quotes { λ _. ⌜ (length (now (old .entry)) % formerLength ≡ 0 → Agrees (now (old .entry))) ⌝ }
 {
     let answer = former::convert(old, out);
     match answer {

@@ -16,7 +16,7 @@ use Rattle.table.specs.Table.{each, field, firstNode, limitFrom, mostFrom, reco
 use Rattle.table.specs.Laws.Asking.{Yes, all-yes, numbered}
 use Rattle.table.specs.Laws.Canonical.{listed-parts}
 use Rattle.table.specs.Laws.Reading.{field-4}
-use Rattle.former.specs.Former.{formerCount, formerEach, formerLength, formerLong, formerQuestions, formerRefusal}
+use Rattle.former.specs.Former.{formerCount, formerEach, formerLength, formerQuestion1, formerQuestions, formerRefusal}
 
 -- a limit's field that questions 2 and 3 let pass
 most-low : (s m : ℕ) → T (mostInRange (mostFrom s m)) → m ≤ mostCount
@@ -50,8 +50,8 @@ second-each p (suc zero) b l h = absurd (omega arith)
 second-each p (suc (suc n)) b l h = both _ _ (both _ _ h .1) .0
 
 -- what a length that both first questions let pass is at least
-two-records : (b : List ℕ) → T (question1 b) → T (formerLong b) → (1 ≤ recordCount b) × (2 ≤ formerCount b)
-unfolding question1 formerLong
+two-records : (b : List ℕ) → T (question1 b) → T (formerQuestion1 b) → (1 ≤ recordCount b) × (2 ≤ formerCount b)
+unfolding question1 formerQuestion1
 two-records b h i =
     let (p, s) = both _ _ h in
     let (q, r) = both _ _ i in

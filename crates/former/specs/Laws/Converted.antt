@@ -6,13 +6,13 @@ use Prim.Native.Nat.{ℕ, zero, suc, _+_, _*_, _≤_, _%_}
 use native.Mathlib.Omega.{arith}
 use lib.Dec.{T, leb→le, eqb, le→leb}
 use lib.ListN.{drop, length, length-append, length-drop}
-use Rattle.booleans.specs.Laws.{T-is, both, join-and}
+use Rattle.booleans.specs.Laws.{both, join-and, same-test}
 use Rattle.booleans.specs.Tests.{_and_}
 use Rattle.table.specs.Asking.{firstNo}
 use Rattle.table.specs.Checking.{fieldsListed, question1, question2, question3, question4, question5, question6, question7, questions, recordInRange, recordListed, refusal}
 use Rattle.table.specs.Numbers.{mostRecords, recordLength}
 use Rattle.table.specs.Table.{decode, each, forest, formTrees, recordCount, top}
-use Rattle.former.specs.Former.{formerCount, formerEach, formerForest, formerForm, formerLength, formerLong, formerQuestions, formerRefusal, formerTree}
+use Rattle.former.specs.Former.{formerCount, formerEach, formerForest, formerFormTrees, formerLength, formerQuestion1, formerQuestions, formerRefusal, formerTree}
 use Rattle.former.specs.Converted.{newRecord, newTable, converted}
 use Rattle.former.specs.Laws.Records.{next, record-long, same-children, same-listed, same-node, same-range}
 
@@ -36,8 +36,8 @@ each-same p q h (suc n) b l =
     let r = converted n (drop formerLength b) in
     rw (h b r (omega arith), next b r (omega arith), each-same p q h n (drop formerLength b) (fewer n b l)) refl
 
-form-same : (n k : ℕ) (b : List ℕ) → formerLength * n ≤ length b → formTrees n k (converted n b) ≡ formerForm n k b
-unfolding formTrees formerForm converted
+form-same : (n k : ℕ) (b : List ℕ) → formerLength * n ≤ length b → formTrees n k (converted n b) ≡ formerFormTrees n k b
+unfolding formTrees formerFormTrees converted
 form-same zero k b l = refl
 form-same (suc n) zero b l = refl
 form-same (suc n) (suc k) b l =
@@ -67,8 +67,8 @@ module _ (b : List ℕ) where
   unfolding decode formerTree
   same-tree = rw same-count (ap top (forest-same (formerCount b) b whole))
 
-  long-enough : T (formerLong b) → T (question1 (newTable b))
-  unfolding formerLong question1
+  long-enough : T (formerQuestion1 b) → T (question1 (newTable b))
+  unfolding formerQuestion1 question1
   long-enough h =
       let (p, s) = both _ _ h in
       let (z, o) = both _ _ p in
@@ -80,16 +80,28 @@ module _ (b : List ℕ) where
       let most : length (newTable b) ≤ recordLength * mostRecords = omega arith in
       join-and _ _ (join-and _ _ (subst (λ x. T (eqb x 0)) (sym even) tt) (le→leb _ _ least)) (le→leb _ _ most)
 
-  pub same-questions : T (formerLong b) → questions (newTable b) ≡ formerQuestions b
+  long-before : length b % formerLength ≡ 0 → T (question1 (newTable b)) → T (formerQuestion1 b)
+  unfolding formerQuestion1 question1
+  long-before even h =
+      let (p, s) = both _ _ h in
+      let (z, o) = both _ _ p in
+      let w = converted-long (formerCount b) b whole in
+      let few : length (newTable b) ≤ recordLength * mostRecords = leb→le _ _ s in
+      let some : recordLength ≤ length (newTable b) = leb→le _ _ o in
+      let least : formerLength ≤ length b = omega arith in
+      let most : length b ≤ formerLength * mostRecords = omega arith in
+      join-and _ _ (join-and _ _ (subst (λ x. T (eqb x 0)) (sym even) tt) (le→leb _ _ least)) (le→leb _ _ most)
+
+  pub same-questions : length b % formerLength ≡ 0 → questions (newTable b) ≡ formerQuestions b
   unfolding questions formerQuestions question2 question3 question4 question5 question6 question7
   same-questions h =
-      let one : question1 (newTable b) ≡ formerLong b = T-is _ (long-enough h) ∙ sym (T-is _ h) in
+      let one : question1 (newTable b) ≡ formerQuestion1 b = same-test _ _ (long-before h) long-enough in
       let two = same-each recordListed fieldsListed same-listed in
       let three = same-each recordInRange recordInRange same-range in
-      let four : formTrees (recordCount (newTable b)) 1 (newTable b) ≡ formerForm (formerCount b) 1 b = rw same-count (form-same (formerCount b) 1 b whole) in
+      let four : formTrees (recordCount (newTable b)) 1 (newTable b) ≡ formerFormTrees (formerCount b) 1 b = rw same-count (form-same (formerCount b) 1 b whole) in
       rw (one, two, three, four, same-tree) refl
 
   -- so the refusal's number is the former one, and an accepted table stays accepted
-  pub same-refusal : T (formerLong b) → refusal (newTable b) ≡ formerRefusal b
+  pub same-refusal : length b % formerLength ≡ 0 → refusal (newTable b) ≡ formerRefusal b
   unfolding refusal formerRefusal
   same-refusal h = ap firstNo (same-questions h)

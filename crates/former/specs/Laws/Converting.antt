@@ -15,7 +15,7 @@ use Rattle.table.specs.Laws.Reading.{next-count, none-left}
 use Rattle.writing.specs.Over.{over}
 use Rattle.writing.specs.Records.{front}
 use Rattle.writing.specs.Laws.Records.{Copied}
-use Rattle.former.specs.Former.{formerCount, formerLength, formerLong}
+use Rattle.former.specs.Former.{formerCount, formerLength, formerQuestion1}
 use Rattle.former.specs.Converted.{Converts, newRecord, convertAnswer, convertRefusal, convertWrites, converted}
 use Rattle.former.specs.declared.Conversion.{Conversion}
 use Rattle.former.specs.Laws.Apart.{never-both}
@@ -87,17 +87,17 @@ module _ (b : List ℕ) (n : ℕ) (out₀ : List ℕ) (i : ℕ) (out : List ℕ)
 -- ---- the answer
 
 module _ (b out : List ℕ) where
-  pub too-odd : (r : Bool) → r ≡ formerLong b → not r ≡ true → (Conversion.Refused 1 ≡ convertAnswer b out) × (out ≡ over (convertWrites b out) out)
+  pub too-odd : (r : Bool) → r ≡ formerQuestion1 b → not r ≡ true → (Conversion.Refused 1 ≡ convertAnswer b out) × (out ≡ over (convertWrites b out) out)
   unfolding convertAnswer convertWrites convertRefusal firstNo byRefusal over
   too-odd r e t = (rw (← e, not-true r t) refl, rw (← e, not-true r t) refl)
 
-  pub too-short : (r : Bool) → r ≡ formerLong b → not r ≡ false → length out < recordLength * formerCount b → (Conversion.Refused 8 ≡ convertAnswer b out) × (out ≡ over (convertWrites b out) out)
+  pub too-short : (r : Bool) → r ≡ formerQuestion1 b → not r ≡ false → length out < recordLength * formerCount b → (Conversion.Refused 8 ≡ convertAnswer b out) × (out ≡ over (convertWrites b out) out)
   unfolding convertAnswer convertWrites convertRefusal firstNo byRefusal over
   too-short r e t l =
       let f = lt-leb (recordLength * formerCount b) (length out) l in
       (rw (← e, not-false r t, f) refl, rw (← e, not-false r t, f) refl)
 
-  pub made-whole : (r : Bool) → r ≡ formerLong b → not r ≡ false → recordLength * formerCount b ≤ length out
+  pub made-whole : (r : Bool) → r ≡ formerQuestion1 b → not r ≡ false → recordLength * formerCount b ≤ length out
       → (Conversion.Written (recordLength * formerCount b) ≡ convertAnswer b out) × (converted (formerCount b) b ≡ convertWrites b out)
   unfolding convertAnswer convertWrites convertRefusal firstNo byRefusal
   made-whole r e t l =

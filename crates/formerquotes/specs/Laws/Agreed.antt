@@ -1,14 +1,13 @@
--- Every former table whose length question 1 let pass is answered as before, once it is made into a table with address 0.
+-- Every former table of whole records is answered as before, once it is made into a table with address 0.
 use mathlib.Core.Path.{_≡_, refl, ap}
 use mathlib.Core.List.{List, _++_}
-use Prim.Native.Nat.{ℕ, _≤_}
-use lib.Dec.{T}
+use Prim.Native.Nat.{ℕ, _≤_, _%_}
 use lib.ListN.{length}
 use Rattle.table.specs.Limits.{mostHolds}
 use Rattle.evaluate.specs.Evaluate.{Values, valuesOf}
 use Rattle.values.specs.Values.{question13, recordSmall, triangleSmall, valueQuestions}
 use Rattle.quoting.specs.Answers.{checkAnswer, figureAnswer, figureRefusal, listAnswer, listRefusal, listWrites, quoteQuestions}
-use Rattle.former.specs.Former.{formerLength, formerLong, formerNode}
+use Rattle.former.specs.Former.{formerLength, formerNode}
 use Rattle.former.specs.Converted.{newRecord, newTable}
 use Rattle.former.specs.Laws.Records.{same-node}
 use Rattle.former.specs.Laws.Converted.{same-count, same-each, same-questions, same-refusal, same-tree}
@@ -24,7 +23,7 @@ module _ (b : List ℕ) where
   unfolding quoteQuestions valueQuestions question13 formerQuoteQuestions
   same-quoting vs = rw (same-each b (recordSmall (valuesOf vs)) (recordSmall (valuesOf vs)) (same-small (valuesOf vs)), same-tree b) refl
 
-  pub agrees : T (formerLong b) → Agrees b
+  pub agrees : length b % formerLength ≡ 0 → Agrees b
   agrees h = record {
     checked = unfold checkAnswer in unfold formerCheck in rw (same-refusal b h, same-count b) refl;
     quoted = λ vs. unfold figureAnswer in unfold figureRefusal in unfold formerFigure in rw (same-questions b h, same-quoting vs, same-tree b) refl;

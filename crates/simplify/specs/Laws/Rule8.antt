@@ -114,7 +114,7 @@ unfolding asPairs firsts records size
 each-records nil = omega arith
 each-records (t ▸ f) = omega (arith, each-records f)
 
--- a sequence of a choice of the first children and the first second child, with the choice's limit and address; and that choice
+-- a sequence of a choice of the first children and the first second child, with the choice's limit and address
 abbrev pub factored : Limit → ℕ → Forest → Tree → Tree
 factored l a c x = node (at Sequence l a) (node (at Choice Unlimited 0) c ▸ x ▸ nil)
 

@@ -9,7 +9,7 @@ use lib.ListN.{getD, drop, length}
 use borrow.Author.Tests.{ne-eqb}
 use Rattle.booleans.specs.Tests.{_and_}
 use Rattle.booleans.specs.Laws.{join-and, &&-both, or-false, both}
-use Rattle.table.specs.Numbers.{addresses, recordLength, mostRecords, mostChildren, wholeRun, mostLoops}
+use Rattle.table.specs.Numbers.{howManyAddresses, recordLength, mostRecords, mostChildren, wholeRun, mostLoops}
 use Rattle.table.specs.Trees.{Forest, nil, _▸_, size, records}
 use Rattle.table.specs.Questions.{arity, isAddress, limitInRange, listed, listedIn, nodeInRange}
 use Rattle.table.specs.Bytes.{AreBytes}
@@ -42,7 +42,7 @@ limit-ranged (suc k) s m t c = join-and _ _ (go (leb 1 (suc k)) (leb (suc k) mos
 
 address-ok : (b : List ℕ) → AreBytes b → T (isAddress (firstNode b .address))
 unfolding isAddress firstNode
-address-ok b h = lt→ltb (field b 16 4) addresses (omega (arith, field-4 b 16, h 16, h 17, h 18, h 19))
+address-ok b h = lt→ltb (field b 16 4) howManyAddresses (omega (arith, field-4 b 16, h 16, h 17, h 18, h 19))
 
 -- a record that passes questions 2 and 3
 record-ok : (b : List ℕ) → AreBytes b → T (recordListed b) → T (recordInRange b) → T (nodeInRange (firstNode b)) × T (arity (firstNode b .kind) (childByte b))

@@ -10,7 +10,7 @@ use lib.ListN.{length}
 use Rattle.table.specs.Nodes.{Number, Plain, Symbol, Most, Kind, Block, Sequence, Choice, Loop, Limit, Unlimited, AtMost, Node}
 use Rattle.booleans.specs.Tests.{_and_}
 use Rattle.booleans.specs.Laws.{both, or-left, &&-join, join-and}
-use Rattle.table.specs.Numbers.{addresses, mostChildren, wholeRun, mostLoops, mostDepth, mostWeight, recordLength, mostRecords, mostTime, mostCount, firstTimeSymbol, howManySymbols}
+use Rattle.table.specs.Numbers.{howManyAddresses, mostChildren, wholeRun, mostLoops, mostDepth, mostWeight, recordLength, mostRecords, mostTime, mostCount, firstTimeSymbol, howManySymbols}
 use Rattle.table.specs.Trees.{Tree, node, Forest, nil, _▸_, size, records, recordsIn}
 use Rattle.table.specs.Questions.{timeInRange, countInRange, mostInRange, isAddress, kindInRange, limitInRange, nodeInRange, listed, listedIn, arity, depth, loops, named, weight, Accepted}
 use Rattle.table.specs.Bytes.{toBytes, fromBytes}
@@ -60,7 +60,7 @@ unfolding isAddress
 node-writes n h =
     let (p, l) = both _ _ h in
     let (a, k) = both _ _ p in
-    record { kind = kind-writes (n .kind) k; limit = limit-writes (n .limit) l; address = ltb→lt (n .address) addresses a }
+    record { kind = kind-writes (n .kind) k; limit = limit-writes (n .limit) l; address = ltb→lt (n .address) howManyAddresses a }
 
 mutual
   unfolding listed Writes
