@@ -29,18 +29,6 @@ fn length_allowed(old: &[u8]) -> bool
     (n % FORMER_LENGTH == 0) & (FORMER_LENGTH <= n) & (n <= FORMER_LENGTH * MOST_RECORDS)
 }
 
-// Copies n bytes from byte `start` on to the buffer's byte `at` and on.
-fn copy_bytes(from: &[u8], start: usize, n: usize, out: &mut [u8], at: usize)
-    requires { ⌜ (start + n ≤ length (now from)) × (at + n ≤ length (now out)) ⌝ }
-    ensures { λ _. ⌜ (take (at + n) (now (out .exit)) ≡ take at (now (out .entry)) ++ take n (drop start (now (from .entry)))) × (drop (at + n) (now (out .exit)) ≡ drop (at + n) (now (out .entry))) ⌝ }
-{
-    let mut k = 0;
-    while k < n {
-        out[at + k] = from[start + k];
-        k += 1;
-    }
-}
-
 // Puts the record of former record i at the buffer's record i.
 fn convert_record(old: &[u8], i: usize, out: &mut [u8])
     requires { ⌜ (formerLength * (i + 1) ≤ length (now old)) × (recordLength * (i + 1) ≤ length (now out)) ⌝ }
@@ -48,8 +36,8 @@ fn convert_record(old: &[u8], i: usize, out: &mut [u8])
 {
     let at = RECORD_LENGTH * i;
     let added = [0, 0, 0, 0, FILL, FILL, FILL, FILL];
-    copy_bytes(old, FORMER_LENGTH * i, FORMER_LENGTH, out, at);
-    copy_bytes(&added, 0, 8, out, at + FORMER_LENGTH);
+    writing::copy_bytes(old, FORMER_LENGTH * i, FORMER_LENGTH, out, at);
+    writing::copy_bytes(&added, 0, 8, out, at + FORMER_LENGTH);
 }
 
 // Puts the records of the first n former ones at the buffer's front.

@@ -2,7 +2,7 @@
 ghost use mathlib.Core.Path.{_≡_};
 ghost use mathlib.Core.List.{_++_};
 ghost use Prim.Native.Nat.{_*_, _+_, _-_, _≤_};
-ghost use lib.ListN.{length, set, take};
+ghost use lib.ListN.{drop, length, set, take};
 ghost use Rattle.table.specs.Numbers.{recordLength};
 ghost use Rattle.table.specs.Table.{flag, kindByte, limitNum, loopByte, mostField, mostFlags, raw, recordBytes, recordCount, valueNum};
 ghost use Rattle.writing.specs.Over.{over};
@@ -29,6 +29,18 @@ pub fn write_bytes(table: &[u8], n: usize, out: &mut [u8])
     }
 }
 
+// Copies n bytes from byte `start` on to the buffer's byte `at` and on.
+pub fn copy_bytes(from: &[u8], start: usize, n: usize, out: &mut [u8], at: usize)
+    requires { ⌜ (start + n ≤ length (now from)) × (at + n ≤ length (now out)) ⌝ }
+    ensures { λ _. ⌜ (take (at + n) (now (out .exit)) ≡ take at (now (out .entry)) ++ take n (drop start (now (from .entry)))) × (drop (at + n) (now (out .exit)) ≡ drop (at + n) (now (out .entry))) ⌝ }
+{
+    let mut k = 0;
+    while k < n {
+        out[at + k] = from[start + k];
+        k += 1;
+    }
+}
+
 // ---- Records of a table
 
 // Copies n records from record i on to the buffer's record `at` and on; answers the record after them.
@@ -36,14 +48,13 @@ pub fn copy_records(table: &[u8], i: usize, n: usize, out: &mut [u8], at: usize)
     requires { ⌜ (recordLength * (i + n) ≤ length (now table)) × (recordLength * (at + n) ≤ length (now out)) ⌝ }
     ensures { λ r. ⌜ (r ≡ at + n) × (front r (now (out .exit)) ≡ front at (now (out .entry)) ++ slice (now (table .entry)) i n) ⌝ }
 {
-    let start = RECORD_LENGTH * i;
-    let end = RECORD_LENGTH * n;
-    let over = RECORD_LENGTH * at;
-    let mut k = 0;
-    while k < end {
-        out[over + k] = table[start + k];
-        k += 1;
-    }
+    copy_bytes(
+        table,
+        RECORD_LENGTH * i,
+        RECORD_LENGTH * n,
+        out,
+        RECORD_LENGTH * at,
+    );
     at + n
 }
 

@@ -6,7 +6,7 @@ use Prim.Native.Nat.{ℕ, suc, _+_, _*_, _-_, _<_, _≤_}
 use native.Mathlib.Nat.{sub-zero}
 use native.Mathlib.Omega.{arith}
 use lib.ListN.{drop, length, take, take-append-drop}
-use lib.Seq.{drop-drop, drop-paste, take-paste}
+use lib.Seq.{drop-drop}
 use borrow.Author.Tests.{le-leb, lt-leb, not-false, not-true}
 use Rattle.table.specs.Asking.{byRefusal, firstNo}
 use Rattle.table.specs.Numbers.{recordLength}
@@ -14,20 +14,11 @@ use Rattle.table.specs.Table.{noAddress}
 use Rattle.table.specs.Laws.Reading.{next-count, none-left}
 use Rattle.writing.specs.Over.{over}
 use Rattle.writing.specs.Records.{front}
-use Rattle.writing.specs.Laws.Records.{Copied}
 use Rattle.former.specs.Former.{formerCount, formerLength, formerQuestion1}
 use Rattle.former.specs.Converted.{Converts, newRecord, convertAnswer, convertRefusal, convertWrites, converted}
 use Rattle.former.specs.declared.Conversion.{Conversion}
 use Rattle.former.specs.Laws.Apart.{never-both}
 use Rattle.former.specs.Laws.Converted.{converted-long, same-refusal, same-tree}
-
--- bytes copied: what stands before their end, and behind it
-pub copied-parts : (s d : List ℕ) (at : ℕ) (out : List ℕ) (n k : ℕ) → k ≡ n → Copied s d at out k
-    → (take (at + n) out ≡ take at d ++ take n s) × (drop (at + n) out ≡ drop (at + n) d)
-copied-parts s d at out n k e c =
-    let room : at ≤ length d = omega (arith, c .room) in
-    let from : n ≤ length s = omega (arith, c .from) in
-    (rw (c .is, e) (take-paste d at s n room from), rw (c .is, e) (drop-paste d at s n room from))
 
 -- a record: its former bytes, then those that are noAddress
 pub record-put : (b : List ℕ) (i : ℕ) (out o₁ o₂ : List ℕ) → let at = recordLength * i in

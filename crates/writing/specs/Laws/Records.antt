@@ -4,8 +4,8 @@ use mathlib.Core.List.{List, [], _∷_, _++_}
 use Prim.Native.Nat.{ℕ, _+_, _*_, _<_, _≤_}
 use native.Mathlib.Numerals.{add-one}
 use native.Mathlib.Omega.{arith}
-use lib.ListN.{getD, length, set, take}
-use lib.Seq.{length-paste, paste, paste-suc, paste-zero, take-paste}
+use lib.ListN.{drop, getD, length, set, take}
+use lib.Seq.{drop-paste, length-paste, paste, paste-suc, paste-zero, take-paste}
 use Rattle.table.specs.Numbers.{recordLength}
 use Rattle.table.specs.Bytes.{toBytes}
 use Rattle.table.specs.Table.{filler, flag, kindByte, limitNum, loopByte, mostField, mostFlags, raw, recordBytes, valueNum}
@@ -43,9 +43,18 @@ copy-next s d over out k x e l m c =
       is = z;
     }
 
+-- bytes copied: what stands before their end, and behind it
+pub copied-parts : (s d : List ℕ) (at : ℕ) (out : List ℕ) (n k : ℕ) → k ≡ n → Copied s d at out k
+    → (take (at + n) out ≡ take at d ++ take n s) × (drop (at + n) out ≡ drop (at + n) d)
+copied-parts s d at out n k e c =
+    let room : at ≤ length d = omega (arith, c .room) in
+    let from : n ≤ length s = omega (arith, c .from) in
+    (rw (c .is, e) (take-paste d at s n room from), rw (c .is, e) (drop-paste d at s n room from))
+
 -- records copied
+pub front-add : (at n : ℕ) (b : List ℕ) → front (at + n) b ≡ take (recordLength * at + recordLength * n) b
+front-add at n b = let m : recordLength * (at + n) ≡ recordLength * at + recordLength * n = omega arith in ap (λ k. take k b) m
+
 pub copied-records : (s d : List ℕ) (at : ℕ) (out : List ℕ) (n k : ℕ) → k ≡ recordLength * n → Copied s d (recordLength * at) out k
     → front (at + n) out ≡ front at d ++ take (recordLength * n) s
-copied-records s d at out n k e c =
-    let m : recordLength * (at + n) ≡ recordLength * at + recordLength * n = omega arith in
-    rw (m, c .is, e) (take-paste d (recordLength * at) s (recordLength * n) (omega (arith, c .room)) (omega (arith, c .from)))
+copied-records s d at out n k e c = front-add at n out ∙ copied-parts s d (recordLength * at) out (recordLength * n) k e c .0

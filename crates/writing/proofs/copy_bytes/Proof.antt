@@ -4,11 +4,10 @@ use Prim.Native.Nat.{_-_, _≤_}
 use native.Mathlib.Omega.{arith}
 use lib.ListN.{drop, length-drop}
 use lib.Seq.{getD-drop}
-use Rattle.writing.specs.Laws.Records.{Copied, copy-next, copy-none}
-use Rattle.former.specs.Laws.Converting.{copied-parts}
+use Rattle.writing.specs.Laws.Records.{Copied, copied-parts, copy-next, copy-none}
 use borrow.Author.Needs.{needs}
-use Rattle.former.proofs.copy_bytes.Statement.{statement}
-use Rattle.former.proofs.copy_bytes.Tie as tie
+use Rattle.writing.proofs.copy_bytes.Statement.{statement}
+use Rattle.writing.proofs.copy_bytes.Tie as tie
 
 abbrev Inv-loop : tie.InvT-loop
 Inv-loop from start n out₀ at k₀ out k = (k ≤ n) × Copied (drop start from) out₀ at out k
