@@ -344,21 +344,6 @@ fn sent_records_keep_their_addresses() {
 
 // What does not depend on addresses.
 
-const SMALL: Amounts = Amounts {
-    time: 9,
-    bound: 3,
-    limit: 3,
-    symbols: 4,
-};
-
-/// Figures on both sides of the ceiling.
-const MIDDLING: Amounts = Amounts {
-    time: 10_000_000,
-    bound: 200,
-    limit: 1_000,
-    symbols: 4,
-};
-
 /// The table with other addresses, all of them or some.
 fn readdressed(rng: &mut Rng, table: &[u8]) -> Vec<u8> {
     let often = rng.pick(&[1, 1, 3]);
@@ -444,7 +429,7 @@ fn figures_branches_and_lists_do_not_depend_on_addresses() {
     let mut rng = Rng::new(602);
     let (mut figures, mut lists) = (Same::default(), Same::default());
     for round in 0..60_000 {
-        let amounts = [SMALL, MIDDLING][round % 2];
+        let amounts = [Amounts::SMALL, Amounts::MIDDLING][round % 2];
         let records = records(&mut rng);
         let mut tree = trees::within_limits(&mut rng, records);
         amounts.set(&mut rng, &mut tree);
@@ -507,7 +492,7 @@ fn grafting_writes_the_same_but_for_addresses() {
         let [host, sent] = [0; 2].map(|_| {
             let records = records(&mut rng);
             let mut tree = trees::within_limits(&mut rng, records);
-            SMALL.set(&mut rng, &mut tree);
+            Amounts::SMALL.set(&mut rng, &mut tree);
             tree.encode()
         });
         let symbol = rng.within(15..=31);

@@ -156,21 +156,6 @@ fn buffers_that_are_too_short_are_refused_8() {
 
 // Former tables and their answers.
 
-const SMALL: Amounts = Amounts {
-    time: 9,
-    bound: 3,
-    limit: 3,
-    symbols: 4,
-};
-
-/// Figures on both sides of the ceiling.
-const MIDDLING: Amounts = Amounts {
-    time: 10_000_000,
-    bound: 200,
-    limit: 1_000,
-    symbols: 4,
-};
-
 /// Mostly small, at times of a few hundred records.
 fn records(rng: &mut Rng) -> usize {
     let most = rng.pick(&[3, 6, 15, 40, 100, 512]);
@@ -196,7 +181,7 @@ fn no_former_table_passes() {
         };
         // Large limits, where a limit stands.
         if rng.once_in(2) {
-            MIDDLING.set(&mut rng, &mut tree);
+            Amounts::MIDDLING.set(&mut rng, &mut tree);
         }
         let old = tree.encode_former();
         assert_eq!(reader::check_former(&old), Ok(tree.unaddressed()));
@@ -239,7 +224,7 @@ fn figures_branches_and_lists_are_the_former_ones() {
     let mut rng = Rng::new(707);
     let mut answers = [0; 14];
     for round in 0..40_000 {
-        let amounts = [SMALL, MIDDLING][round % 2];
+        let amounts = [Amounts::SMALL, Amounts::MIDDLING][round % 2];
         let records = records(&mut rng).min(100);
         let mut tree = trees::within_limits(&mut rng, records);
         amounts.set(&mut rng, &mut tree);

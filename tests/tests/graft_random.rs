@@ -21,21 +21,6 @@ const CEILING: u64 = 1_000_000_000_000;
 /// Room for any table.
 const ROOM: usize = 12_288;
 
-const SMALL: Amounts = Amounts {
-    time: 9,
-    bound: 3,
-    limit: 3,
-    symbols: 4,
-};
-
-/// Figures on both sides of the ceiling.
-const MIDDLING: Amounts = Amounts {
-    time: 10_000_000,
-    bound: 200,
-    limit: 1_000,
-    symbols: 4,
-};
-
 fn start(seed: u64) -> (Rng, Grafts) {
     (Rng::new(seed), Grafts::new(seed))
 }
@@ -133,7 +118,7 @@ fn tables_of_any_shape() {
     let (mut rng, mut grafts) = start(501);
     let mut reached = Reached::default();
     for _ in 0..120_000 {
-        let mut pair = Pair::random(&mut rng, SMALL);
+        let mut pair = Pair::random(&mut rng, Amounts::SMALL);
         if rng.once_in(30) {
             trees::put_symbol(&mut rng, &mut pair.sent, pair.symbol, 1);
         }
@@ -295,7 +280,7 @@ fn spliced(host: &[u8], place: usize, body: &[u8]) -> Vec<u8> {
 fn symbols_are_read_whole() {
     let (mut rng, mut grafts) = start(503);
     for _ in 0..40_000 {
-        let mut pair = Pair::random(&mut rng, SMALL);
+        let mut pair = Pair::random(&mut rng, Amounts::SMALL);
         pair.symbol = match rng.index(5) {
             // With some of the bytes alone these would be the host's.
             0 => pair.symbol + (1 << rng.within(5..=63)),
@@ -317,7 +302,7 @@ fn one_table_lent_twice() {
     let mut rng = Rng::new(504);
     let (mut answers, mut longer) = ([0; 13], 0);
     for _ in 0..30_000 {
-        let pair = Pair::random(&mut rng, SMALL);
+        let pair = Pair::random(&mut rng, Amounts::SMALL);
         let host = pair.host.encode();
         // The whole of it, or some subtree.
         let most = rng.pick(&[1, pair.host.records()]);
@@ -473,7 +458,7 @@ fn results_of_about_weight_255() {
 fn buffers_of_every_length() {
     let (mut rng, mut grafts) = start(510);
     for _ in 0..30_000 {
-        let pair = Pair::random(&mut rng, SMALL);
+        let pair = Pair::random(&mut rng, Amounts::SMALL);
         let length = 24 * pair.records();
         let room = match rng.index(4) {
             0 => rng.pick(&[0, 1, 24, length - 24, length - 1]),
@@ -603,7 +588,7 @@ fn fail_symbol(rng: &mut Rng, pair: &mut Pair) {
 fn damaged_tables_on_either_side() {
     let (mut rng, mut grafts) = start(513);
     for round in 0..60_000 {
-        let Pair { host, sent, symbol } = Pair::random(&mut rng, SMALL);
+        let Pair { host, sent, symbol } = Pair::random(&mut rng, Amounts::SMALL);
         let mut tables = [host.encode(), sent.encode()];
         for (at, table) in tables.iter_mut().enumerate() {
             if !is_spared(at, round) {
@@ -647,7 +632,7 @@ fn noise_of_every_kind() {
     for round in 0..40_000 {
         let [host, sent] = [0, 1].map(|at| {
             if is_spared(at, round) {
-                tree(&mut rng, SMALL).encode()
+                tree(&mut rng, Amounts::SMALL).encode()
             } else {
                 rng.pick(&noise::KINDS)(&mut rng)
             }
@@ -750,7 +735,7 @@ fn figures_with_many_values() {
     let (mut rng, mut grafts) = start(515);
     let mut promise = Promise::default();
     for round in 0..40_000 {
-        let amounts = [SMALL, MIDDLING][round % 2];
+        let amounts = [Amounts::SMALL, Amounts::MIDDLING][round % 2];
         let pair = Pair::random(&mut rng, amounts);
         if let Ok(written) = pair.answer(&mut grafts, ROOM) {
             for values in desks(&mut rng, amounts) {
@@ -790,14 +775,14 @@ fn two_symbols_in_either_order() {
     let (mut rng, mut grafts) = start(516);
     let (mut nested, mut refused) = (0, 0);
     for _ in 0..20_000 {
-        let mut pair = Pair::random(&mut rng, SMALL);
+        let mut pair = Pair::random(&mut rng, Amounts::SMALL);
         let (symbol, other) = (pair.symbol, pair.symbol ^ 2);
         // The other symbol may be in both these tables, and neither is in the table put for it.
         for tree in [&mut pair.host, &mut pair.sent] {
             let places = rng.size(0..=2);
             trees::put_symbol(&mut rng, tree, other, places);
         }
-        let mut last = tree(&mut rng, SMALL);
+        let mut last = tree(&mut rng, Amounts::SMALL);
         trees::drop_symbol(&mut last, symbol);
         trees::drop_symbol(&mut last, other);
 
@@ -815,7 +800,7 @@ fn two_symbols_in_either_order() {
             refused += u64::from(written == Err(12));
         }
         if let Ok(written) = written {
-            let mut values = SMALL.values(&mut rng);
+            let mut values = Amounts::SMALL.values(&mut rng);
             let quoted = quotes::figure(&mut rng, &written, &values);
             for (table, symbol) in [(last, other), (sent, symbol)] {
                 let quoted = quotes::figure(&mut rng, &table, &values);
@@ -852,7 +837,7 @@ fn tables_that_simplifying_wrote() {
         let short_written = simplified(&written);
         shorter += u64::from(short_written.len() < written.len());
 
-        let values = SMALL.values(&mut rng);
+        let values = Amounts::SMALL.values(&mut rng);
         let mut figure = |table: &[u8], values: &[u64]| {
             let quoted = quotes::figure(&mut rng, table, values);
             quoted.expect("small amounts").figure

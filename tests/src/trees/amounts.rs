@@ -17,6 +17,21 @@ pub struct Amounts {
 }
 
 impl Amounts {
+    pub const SMALL: Amounts = Amounts {
+        time: 9,
+        bound: 3,
+        limit: 3,
+        symbols: 4,
+    };
+
+    /// Figures on both sides of the ceiling.
+    pub const MIDDLING: Amounts = Amounts {
+        time: 10_000_000,
+        bound: 200,
+        limit: 1_000,
+        symbols: 4,
+    };
+
     /// Gives every node of a tree another time, bound and limit. Which loops the limits name stays.
     pub fn set(&self, rng: &mut Rng, tree: &mut Tree) {
         match &mut tree.kind {
