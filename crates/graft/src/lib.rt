@@ -40,9 +40,7 @@ fn make_graft(host: &[u8], sent: &[u8], symbol: u64, work: &mut [u8]) -> usize
     if MOST_RECORDS < n + count * (size + 1) {
         return 0;
     }
-    let mut body = [0; RECORD_LENGTH * MOST_RECORDS];
-    splice::rename_all(sent, &mut body);
-    splice::put_all(host, symbol, &body, size, work)
+    splice::put_all(host, symbol, count, sent, work)
 }
 
 // Question 12, then 8, of what grafting makes of accepted tables; and the result, written over the front of `out`.

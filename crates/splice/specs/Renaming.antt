@@ -5,8 +5,8 @@ use Prim.Native.Nat.{ℕ, zero, suc, _+_, _-_}
 use lib.Dec.{eqb, leb}
 use lib.ListN.{drop, getD, length, set, take}
 use Rattle.table.specs.Numbers.{mostLoops, recordLength}
-use Rattle.table.specs.Table.{childByte, firstNode}
-use Rattle.splice.specs.Graft.{renamedName}
+use Rattle.table.specs.Table.{childByte, decode, encode, firstNode}
+use Rattle.splice.specs.Graft.{rename, renamedName}
 use Rattle.splice.specs.Nodes.{Kind, Block, Sequence, Choice, Loop}
 
 -- Question 4's count of the trees that are wanted tells the loops around a record: where so many were wanted at a loop's record, its body ends where so
@@ -34,6 +34,10 @@ renamedRecords zero w ends b = []
 renamedRecords (suc n) w ends b =
     renamedRecord (length (stillAround w ends)) b
     ++ renamedRecords n (w - 1 + childByte b) (entered (firstNode b .kind) w (stillAround w ends)) (drop recordLength b)
+
+-- the sent table, renamed
+abbrev pub renamedTable : List ℕ → List ℕ
+renamedTable b = encode (rename (decode b) 0)
 
 -- room for the counts of the loops around a node, and one more
 abbrev pub loopRoom : ℕ

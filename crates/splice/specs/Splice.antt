@@ -1,10 +1,11 @@
--- Grafting as the program does it: one record of the host after the other is copied, or the sent table put in its place.
+-- Grafting as the program does it: the host's records are copied, or the sent table put in their place.
+use mathlib.Core.Path.{_≡_}
 use mathlib.Core.Bool.{cond}
 use mathlib.Core.List.{List, [], _++_}
-use Prim.Native.Nat.{ℕ, zero, suc, _+_, _*_}
-use lib.ListN.{drop, take}
+use Prim.Native.Nat.{ℕ, zero, suc, _+_, _*_, _-_, _≤_}
+use lib.ListN.{drop, length, take}
 use Rattle.table.specs.Numbers.{recordLength}
-use Rattle.table.specs.Table.{firstNode, recordBytes}
+use Rattle.table.specs.Table.{firstNode, recordBytes, recordCount}
 use Rattle.table.specs.Trees.{Forest, Tree, nil, node, _▸_}
 use Rattle.writing.specs.Records.{nodeOf}
 use Rattle.splice.specs.Nodes.{Block, Limit, Loop, Plain, Unlimited}
@@ -35,6 +36,23 @@ splice s body (suc n) b = spliceFirst s body b ++ splice s body n (drop recordLe
 -- how many records that makes, with a sent table of m records
 unfoldable pub spliceRecords : (s m n : ℕ) → List ℕ → ℕ
 spliceRecords s m n b = n + occurrencesIn s n b * suc m
+
+-- none of h's records from record i up to record r is a block with symbol s
+pub record NoPlace (s : ℕ) (h : List ℕ) (i r : ℕ) : Type 0 where
+  pub onward : i ≤ r
+  pub within : r ≤ recordCount h
+  pub none : occurrencesIn s (r - i) (drop (recordLength * i) h) ≡ 0
+
+-- these bytes stand among others, from record k on
+pub record Among (body : List ℕ) (k : ℕ) (bytes : List ℕ) : Type 0 where
+  pub before : List ℕ
+  pub behind : List ℕ
+  pub parts : bytes ≡ before ++ (body ++ behind)
+  pub long : length before ≡ recordLength * k
+
+-- unless k is 0, and they were not put yet: a loop's record always comes before them
+abbrev pub Stands : (body : List ℕ) (k : ℕ) (bytes : List ℕ) → Type 0
+Stands body k bytes = (k ≡ 0 → ⊥) → Among body k bytes
 
 -- how many blocks of a tree have symbol s
 unfoldable mutual

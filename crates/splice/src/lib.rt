@@ -1,15 +1,15 @@
 // Grafting's passes over records, document 02's CR 1: the sent table renamed, and put in place of the blocks with a time symbol.
 ghost use mathlib.Core.Path.{_≡_};
 ghost use mathlib.Core.List.{_++_};
-ghost use Prim.Native.Nat.{_*_, _+_, _<_, _≤_, suc};
+ghost use Prim.Native.Nat.{_*_, _+_, _-_, _<_, _≤_};
 ghost use lib.ListN.{drop, length};
 ghost use Rattle.table.specs.Numbers.{mostLoops, recordLength};
-ghost use Rattle.table.specs.Table.{decode, encode, firstNode, recordCount};
+ghost use Rattle.table.specs.Table.{firstNode, recordCount};
 ghost use Rattle.table.specs.Checking.{IsTable};
 ghost use Rattle.writing.specs.Records.{front};
-ghost use Rattle.splice.specs.Graft.{isSymbol, rename, renamedName};
-ghost use Rattle.splice.specs.Renaming.{entered, renamedRecord, stillAround, stack};
-ghost use Rattle.splice.specs.Splice.{occursFirst, occurrencesIn, placeBytes, splice, spliceFirst, spliceRecords};
+ghost use Rattle.splice.specs.Graft.{isSymbol, renamedName};
+ghost use Rattle.splice.specs.Renaming.{entered, renamedRecord, renamedTable, stillAround, stack};
+ghost use Rattle.splice.specs.Splice.{NoPlace, Stands, occursFirst, occurrencesIn, placeBytes, splice, spliceRecords};
 use table::Kind;
 use table::Limit;
 use table::MOST_LOOPS;
@@ -109,8 +109,8 @@ fn enter(kind: Kind, ends: &mut [usize], outer: u8, wanted: usize) -> u8
     if inside <= MOST_LOOPS { inside } else { outer }
 }
 
-// Puts record i of the sent table, renamed, at the buffer's record i; answers the loops around what follows. Renaming changes byte 3 alone, so the record
-// is copied and not written anew from its node.
+// Puts record i of the sent table, renamed, at the buffer's record `at`; answers the loops around what follows. Renaming changes byte 3 alone, so the
+// record is copied and not written anew from its node.
 fn rename_next(
     sent: &[u8],
     i: usize,
@@ -118,23 +118,24 @@ fn rename_next(
     outer: u8,
     wanted: usize,
     out: &mut [u8],
+    at: usize,
 ) -> u8
-    requires { ⌜ i < recordCount (now sent) ⌝ ∗ ⌜ (outer ≤ mostLoops) × (mostLoops < length (now ends)) ⌝ ∗ ⌜ length (now sent) ≤ length (now out) ⌝ }
+    requires { ⌜ i < recordCount (now sent) ⌝ ∗ ⌜ (outer ≤ mostLoops) × (mostLoops < length (now ends)) ⌝ ∗ ⌜ recordLength * (at + 1) ≤ length (now out) ⌝ }
     ensures { λ r. ⌜ (stack (now (ends .exit)) r ≡ entered (firstNode (drop (recordLength * i) (now (sent .entry))) .kind) wanted (stillAround wanted (stack (now (ends .entry)) outer))) × (r ≤ mostLoops) ⌝ }
-    ensures { λ r. ⌜ front (i + 1) (now (out .exit)) ≡ front i (now (out .entry)) ++ renamedRecord (length (stillAround wanted (stack (now (ends .entry)) outer))) (drop (recordLength * i) (now (sent .entry))) ⌝ }
+    ensures { λ r. ⌜ front (at + 1) (now (out .exit)) ≡ front at (now (out .entry)) ++ renamedRecord (length (stillAround wanted (stack (now (ends .entry)) outer))) (drop (recordLength * i) (now (sent .entry))) ⌝ }
 {
     let node = table::node_at(sent, i);
     let kind = node.kind;
     let around = still_around(ends, outer, wanted);
-    writing::copy_records(sent, i, 1, out, i);
-    writing::put_name(out, i, renamed(table::name_at(sent, i), around));
+    writing::copy_records(sent, i, 1, out, at);
+    writing::put_name(out, at, renamed(table::name_at(sent, i), around));
     enter(kind, ends, around, wanted)
 }
 
-// Puts the sent table, renamed, at the buffer's front.
-pub fn rename_all(sent: &[u8], out: &mut [u8])
-    requires { ⌜ IsTable (now sent) ⌝ ∗ ⌜ length (now sent) ≤ length (now out) ⌝ }
-    ensures { λ _. ⌜ front (recordCount (now (sent .entry))) (now (out .exit)) ≡ encode (rename (decode (now (sent .entry))) 0) ⌝ }
+// Puts the sent table, renamed, at the buffer's record `at`; answers the record after it.
+fn put_renamed(sent: &[u8], out: &mut [u8], at: usize) -> usize
+    requires { ⌜ IsTable (now sent) ⌝ ∗ ⌜ recordLength * (at + recordCount (now sent)) ≤ length (now out) ⌝ }
+    ensures { λ r. ⌜ (r ≡ at + recordCount (now (sent .entry))) × (front r (now (out .exit)) ≡ front at (now (out .entry)) ++ renamedTable (now (sent .entry))) ⌝ }
 {
     let n = sent.len() / RECORD_LENGTH;
     let mut ends = [0; LOOP_ROOM];
@@ -142,31 +143,39 @@ pub fn rename_all(sent: &[u8], out: &mut [u8])
     let mut wanted: usize = 1;
     let mut i: usize = 0;
     while i < n {
-        outer = rename_next(sent, i, &mut ends, outer, wanted, out);
+        outer = rename_next(sent, i, &mut ends, outer, wanted, out, at + i);
         wanted = wanted - 1 + table::children_at(sent, i);
         i += 1;
     }
+    at + n
 }
 
 // ---- The host, with the renamed sent table in place of the symbol
 
-// Puts what stands in place of a block with this limit and address at the buffer's record `at`: the loop, the renamed sent table of `size` records, the zero
-// block. Answers the record after it.
-fn put_place(
-    limit: Limit,
-    address: u32,
-    body: &[u8],
-    size: usize,
-    out: &mut [u8],
-    at: usize,
-) -> usize
-    requires { ⌜ (recordLength * size ≤ length (now body)) × (recordLength * (at + (size + 2)) ≤ length (now out)) ⌝ }
-    ensures { λ r. ⌜ (r ≡ at + (size + 2)) × (front r (now (out .exit)) ≡ front at (now (out .entry)) ++ placeBytes (front size (now (body .entry))) limit address) ⌝ }
+// Puts the renamed sent table at the buffer's record `at`: by copying it from record `last`, where it was put last, or anew where that is 0, as it was not put
+// yet. Answers the record after it.
+fn put_sent(sent: &[u8], last: usize, out: &mut [u8], at: usize) -> usize
+    requires { ⌜ IsTable (now sent) ⌝ ∗ ⌜ Stands (renamedTable (now sent)) last (front at (now out)) ⌝ ∗ ⌜ recordLength * (at + recordCount (now sent)) ≤ length (now out) ⌝ }
+    ensures { λ r. ⌜ (r ≡ at + recordCount (now (sent .entry))) × (front r (now (out .exit)) ≡ front at (now (out .entry)) ++ renamedTable (now (sent .entry))) ⌝ }
 {
+    if last == 0 {
+        put_renamed(sent, out, at)
+    } else {
+        writing::repeat_records(out, last, sent.len() / RECORD_LENGTH, at)
+    }
+}
+
+// Puts what stands in place of a block at the buffer's record `at`: a loop with the block's limit and address, the renamed sent table, the zero block.
+// Answers the record after it.
+fn put_place(block: Node, sent: &[u8], last: usize, out: &mut [u8], at: usize) -> usize
+    requires { ⌜ IsTable (now sent) ⌝ ∗ ⌜ Stands (renamedTable (now sent)) last (front at (now out)) ⌝ ∗ ⌜ recordLength * (at + (recordCount (now sent) + 2)) ≤ length (now out) ⌝ }
+    ensures { λ r. ⌜ (r ≡ at + (recordCount (now (sent .entry)) + 2)) × (front r (now (out .exit)) ≡ front at (now (out .entry)) ++ placeBytes (renamedTable (now (sent .entry))) (block .limit) (block .address)) ⌝ }
+{
+    let limit = block.limit;
     let once = Node {
         kind: Kind::Loop(Number::Plain(1)),
         limit: limit,
-        address: address,
+        address: block.address,
     };
     let zero = Node {
         kind: Kind::Block(Number::Plain(0)),
@@ -174,44 +183,39 @@ fn put_place(
         address: 0,
     };
     let first = writing::put_node(out, at, once, 2);
-    let end = writing::copy_records(body, 0, size, out, first);
+    let end = put_sent(sent, last, out, first);
     writing::put_node(out, end, zero, 0)
 }
 
-// Puts the host's record i, or what stands in its place, at the buffer's record `at`; answers the record after it.
-fn put_next(
-    host: &[u8],
-    i: usize,
-    symbol: u64,
-    body: &[u8],
-    size: usize,
-    out: &mut [u8],
-    at: usize,
-) -> usize
-    requires { ⌜ (i < recordCount (now host)) × (recordLength * size ≤ length (now body)) × (recordLength * (at + (1 + occursFirst symbol (drop (recordLength * i) (now host)) * suc size)) ≤ length (now out)) ⌝ }
-    ensures { λ r. ⌜ (r ≡ at + (1 + occursFirst symbol (drop (recordLength * i) (now (host .entry))) * suc size)) × (front r (now (out .exit)) ≡ front at (now (out .entry)) ++ spliceFirst symbol (front size (now (body .entry))) (drop (recordLength * i) (now (host .entry)))) ⌝ }
+// The first record from record i on that is a block with the symbol; there is one.
+fn next_place(host: &[u8], i: usize, symbol: u64) -> usize
+    requires { ⌜ 0 < occurrencesIn symbol (recordCount (now host) - i) (drop (recordLength * i) (now host)) ⌝ }
+    ensures { λ r. ⌜ NoPlace symbol (now (host .entry)) i r × (r < recordCount (now (host .entry))) × (occursFirst symbol (drop (recordLength * r) (now (host .entry))) ≡ 1) ⌝ }
 {
-    let node = table::node_at(host, i);
-    let kind = node.kind;
-    let limit = node.limit;
-    if is_symbol(kind, symbol) {
-        put_place(limit, node.address, body, size, out, at)
-    } else {
-        writing::copy_records(host, i, 1, out, at)
+    let mut place = i;
+    while occurs_at(host, place, symbol) == 0 {
+        place += 1;
     }
+    place
 }
 
-// Puts all of the host's records so, from the buffer's front on; answers how many records that makes.
-pub fn put_all(host: &[u8], symbol: u64, body: &[u8], size: usize, out: &mut [u8]) -> usize
-    requires { ⌜ (recordLength * size ≤ length (now body)) × (recordLength * spliceRecords symbol size (recordCount (now host)) (now host) ≤ length (now out)) ⌝ }
-    ensures { λ r. ⌜ (r ≡ spliceRecords symbol size (recordCount (now (host .entry))) (now (host .entry))) × (front r (now (out .exit)) ≡ splice symbol (front size (now (body .entry))) (recordCount (now (host .entry))) (now (host .entry))) ⌝ }
+// Puts the host's records at the buffer's front, with what stands in place of the `count` blocks with the symbol; answers how many records that makes. The
+// records between two such blocks are copied at once.
+pub fn put_all(host: &[u8], symbol: u64, count: usize, sent: &[u8], out: &mut [u8]) -> usize
+    requires { ⌜ count ≡ occurrencesIn symbol (recordCount (now host)) (now host) ⌝ ∗ ⌜ IsTable (now sent) ⌝ ∗ ⌜ recordLength * spliceRecords symbol (recordCount (now sent)) (recordCount (now host)) (now host) ≤ length (now out) ⌝ }
+    ensures { λ r. ⌜ (r ≡ spliceRecords symbol (recordCount (now (sent .entry))) (recordCount (now (host .entry))) (now (host .entry))) × (front r (now (out .exit)) ≡ splice symbol (renamedTable (now (sent .entry))) (recordCount (now (host .entry))) (now (host .entry))) ⌝ }
 {
-    let n = host.len() / RECORD_LENGTH;
+    let mut left = count;
+    let mut last: usize = 0;
     let mut at: usize = 0;
     let mut i: usize = 0;
-    while i < n {
-        at = put_next(host, i, symbol, body, size, out, at);
-        i += 1;
+    while 0 < left {
+        let place = next_place(host, i, symbol);
+        let end = writing::copy_records(host, i, place - i, out, at);
+        at = put_place(table::node_at(host, place), sent, last, out, end);
+        last = end + 1;
+        i = place + 1;
+        left -= 1;
     }
-    at
+    writing::copy_rest(host, i, out, at)
 }

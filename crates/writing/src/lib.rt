@@ -58,6 +58,22 @@ pub fn copy_records(table: &[u8], i: usize, n: usize, out: &mut [u8], at: usize)
     at + n
 }
 
+// Copies n records of the buffer itself, from record i on, to its record `at` and on, behind them; answers the record after them.
+pub fn repeat_records(out: &mut [u8], i: usize, n: usize, at: usize) -> usize
+    requires { ⌜ (i + n ≤ at) × (recordLength * (at + n) ≤ length (now out)) ⌝ }
+    ensures { λ r. ⌜ (r ≡ at + n) × (front r (now (out .exit)) ≡ front at (now (out .entry)) ++ slice (now (out .entry)) i n) ⌝ }
+{
+    let start = RECORD_LENGTH * i;
+    let over = RECORD_LENGTH * at;
+    let len = RECORD_LENGTH * n;
+    let mut k = 0;
+    while k < len {
+        out[over + k] = out[start + k];
+        k += 1;
+    }
+    at + n
+}
+
 // Copies the records from record i to the table's end to the buffer's record `at` and on; answers the record after them.
 pub fn copy_rest(table: &[u8], i: usize, out: &mut [u8], at: usize) -> usize
     requires { ⌜ (i ≤ recordCount (now table)) × (recordLength * (at + (recordCount (now table) - i)) ≤ length (now out)) ⌝ }

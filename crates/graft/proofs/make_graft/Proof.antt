@@ -4,7 +4,7 @@ use borrow.Author.Needs.{needs}
 use Rattle.table.specs.Numbers.{mostRecords}
 use Rattle.table.specs.Table.{recordCount}
 use Rattle.graft.specs.Laws.Making.{made-all, made-long, made-room, product-small}
-use Rattle.table.specs.Laws.Tables.{few-records, length-is}
+use Rattle.table.specs.Laws.Tables.{few-records}
 use Rattle.graft.proofs.make_graft.Statement.{statement}
 use Rattle.graft.proofs.make_graft.Tie as tie
 
@@ -33,25 +33,13 @@ add-if1-2 c = omega (arith, small c, few-records (start c .args .host .now) (sta
 returns : tie.Need-returns
 returns c = made-long _ _ _ (start (c .before) .pre .0) (start (c .before) .pre .1 .0) _ _ (c .before .count-occurrences .ensures .0) (c .if1 .taken)
 
-slice-aggregate-rename-all : tie.Need-slice-aggregate-rename-all
-slice-aggregate-rename-all c = search needs
-
-rename-all-requires : tie.Need-rename-all-requires
-rename-all-requires c κs =
-    let s = start (c .before .before) in
-    (s .pre .1 .0, omega (arith, length-is (s .args .sent .now) (s .pre .1 .0), few-records (s .args .sent .now) (s .pre .1 .0)))
-
-slice-aggregate-put-all : tie.Need-slice-aggregate-put-all
-slice-aggregate-put-all c = search needs
-
 put-all-requires : tie.Need-put-all-requires
 put-all-requires c κs =
-    let names = c .before .before .before in
-    let else = names .before .before in
+    let else = c .before in
     let s = start (else .before) in
-    let a = s .args in
-    let room = made-room (a .host .now) (a .sent .now) (a .symbol) (s .pre .0) (s .pre .1 .0) _ (else .before .count-occurrences .ensures .0) (else .if1 .left) in
-    (omega (arith, names .rename-all .kept, few-records (a .sent .now) (s .pre .1 .0)), omega (arith, room, s .pre .1 .1))
+    let count = else .before .count-occurrences .ensures .0 in
+    let room = made-room (s .args .host .now) (s .args .sent .now) (s .args .symbol) (s .pre .0) (s .pre .1 .0) _ count (else .if1 .left) in
+    (count, (s .pre .1 .0, omega (arith, room, s .pre .1 .1)))
 
 same-length : tie.Need-same-length
 same-length c = search needs
@@ -59,11 +47,9 @@ same-length c = search needs
 returns-2 : tie.Need-returns-2
 returns-2 c =
     let put = c .before .before in
-    let names = put .before .before .before .before in
-    let else = names .before .before in
+    let else = put .before .before in
     let s = start (else .before) in
-    let a = s .args in
-    made-all (a .host .now) (a .sent .now) (a .symbol) (s .pre .0) (s .pre .1 .0) _ (else .before .count-occurrences .ensures .0) (else .if1 .left) _ _ _ (names .rename-all .ensures) (omega (arith, put .put-all .kept, s .pre .1 .1)) (put .put-all .ensures)
+    made-all _ _ _ (s .pre .0) (s .pre .1 .0) _ (else .before .count-occurrences .ensures .0) (else .if1 .left) _ _ (omega (arith, put .put-all .kept, s .pre .1 .1)) (put .put-all .ensures)
 
 pub make-graft-spec : {M : Type 1} → statement M
 make-graft-spec =
@@ -74,9 +60,6 @@ make-graft-spec =
     mul-if1
     add-if1-2
     returns
-    slice-aggregate-rename-all
-    rename-all-requires
-    slice-aggregate-put-all
     put-all-requires
     same-length
     returns-2)

@@ -18,7 +18,8 @@ use Rattle.table.specs.Laws.RoundTrip.{length-encode}
 use Rattle.table.specs.Laws.Tables.{count-is}
 use Rattle.table.specs.Laws.Trees.{some-records}
 use Rattle.writing.specs.Records.{front}
-use Rattle.splice.specs.Graft.{graft, rename}
+use Rattle.splice.specs.Graft.{graft}
+use Rattle.splice.specs.Renaming.{renamedTable}
 use Rattle.splice.specs.Splice.{occurrencesIn, splice, spliceRecords}
 use Rattle.splice.specs.Laws.Splice.{graft-records, long-table, occurrences-table, splice-table, uses-none}
 use Rattle.graft.specs.Answers.{graftTable, question11, question12}
@@ -57,13 +58,13 @@ module _ (h b : List ℕ) (s : ℕ) (H : IsTable h) (B : IsTable b) where
     pub made-room : spliceRecords s (recordCount b) (recordCount h) h ≤ mostRecords
     made-room = rw (count-is b B) (omega (arith, long-table h H s (decode b), result-records, rw e at l))
 
-    pub made-all : (body work : List ℕ) (r : ℕ) → front (recordCount b) body ≡ encode (rename (decode b) 0) → length work ≡ recordLength * mostRecords
-        → (r ≡ spliceRecords s (recordCount b) (recordCount h) h) × (front r work ≡ splice s (front (recordCount b) body) (recordCount h) h) → GraftMade h b s r work
+    pub made-all : (work : List ℕ) (r : ℕ) → length work ≡ recordLength * mostRecords
+        → (r ≡ spliceRecords s (recordCount b) (recordCount h) h) × (front r work ≡ splice s (renamedTable b) (recordCount h) h) → GraftMade h b s r work
     unfolding graftTable
-    made-all body work r f w (x, y) =
+    made-all work r w (x, y) =
         let n : r ≡ records (graft s (decode b) (decode h)) = x ∙ ap (λ m. spliceRecords s m (recordCount h) h) (count-is b B) ∙ long-table h H s (decode b) in
         record {
           long = λ z. absurd (omega (arith, n, some-records (graft s (decode b) (decode h))));
-          bytes = λ z. y ∙ ap (λ (c : List ℕ). splice s c (recordCount h) h) f ∙ splice-table h H s (decode b);
+          bytes = λ z. y ∙ splice-table h H s (decode b);
           room = omega (arith, x, made-room);
         }

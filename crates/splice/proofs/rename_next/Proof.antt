@@ -41,7 +41,7 @@ returns c =
     let node = around .before .before in
     let start = node .before .before .before .before in (
       enters _ _ _ _ _ _ _ _ (node .node-at .ensures) (around .still-around .ensures .0) (enter .enter .ensures),
-      rw (put .put-name .ensures) (one-renamed _ _ _ _ _ _ _ _ _ _ _ (around .still-around .ensures .0) (omega (arith, start .pre)) (copy .copy-records .ensures) (name .before .name-at .ensures) (name .renamed .ensures)),
+      rw (put .put-name .ensures) (one-renamed (start .args .sent .now) _ _ _ _ (start .args .i) _ _ _ _ _ _ (around .still-around .ensures .0) (omega (arith, start .pre)) (copy .copy-records .ensures) (name .before .name-at .ensures) (name .renamed .ensures)),
     )
 
 pub rename-next-spec : {M : Type 1} → statement M

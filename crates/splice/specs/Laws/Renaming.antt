@@ -25,7 +25,7 @@ use Rattle.table.specs.Laws.Trees.{some-loops}
 use Rattle.writing.specs.Records.{front, nodeOf, slice}
 use Rattle.splice.specs.Nodes.{AtMost, Block, Choice, Kind, Limit, Loop, Node, Sequence, Unlimited}
 use Rattle.splice.specs.Graft.{rename, renameIn, renamedLimit, renamedName}
-use Rattle.splice.specs.Renaming.{entered, loopRoom, renamedRecord, renamedRecords, stillAround, stack}
+use Rattle.splice.specs.Renaming.{entered, loopRoom, renamedRecord, renamedRecords, renamedTable, stillAround, stack}
 use Rattle.splice.specs.Laws.Sizes.{size-renamed}
 use Rattle.table.specs.Laws.Tables.{count-is, whole-table}
 
@@ -166,7 +166,7 @@ mutual
       (renames-tree t x (recordsIn f + m) (w + size f) before ends (encodes f ++ z) (omega (arith, few)) (low-more w (w + size f) ends l (omega arith)) lead
       ∙ ap (λ (r : List ℕ). encode (rename t (length ends)) ++ r) (renames-others f y k m w ends ends z (omega (arith, few)) l (leads-on w ends l (size f))))
 
-renamed-table : (b : List ℕ) → IsTable b → renamedRecords (recordCount b) 1 [] b ≡ encode (rename (decode b) 0)
+renamed-table : (b : List ℕ) → IsTable b → renamedRecords (recordCount b) 1 [] b ≡ renamedTable b
 renamed-table b t =
     sym (ap₂ (λ n (x : List ℕ). renamedRecords n 1 [] x) (add-zero (records (decode b)) ∙ sym (count-is b t)) (whole-table b t))
     ∙ renames-tree (decode b) (t .accepted .listed) 0 0 [] [] [] (t .accepted .nested) (unfold Low in tt) (unfold stillAround in refl)
@@ -230,27 +230,27 @@ pub enters : (b : List ℕ) (e e' : List ℕ) (w outer d r : ℕ) (n : Node) →
     → (stack e' r ≡ entered (n .kind) w (stack e d)) × (r ≤ mostLoops) → (stack e' r ≡ entered (firstNode b .kind) w (stillAround w (stack e outer))) × (r ≤ mostLoops)
 enters b e e' w outer d r n is s (x, l) = (x ∙ ap₂ (λ (m : Node) (y : List ℕ). entered (m .kind) w y) is s, l)
 
-pub one-renamed : (b e : List ℕ) (w outer d i r k x : ℕ) (out copy : List ℕ) → stack e d ≡ stillAround w (stack e outer) → recordLength * i ≤ length out
-    → (r ≡ i + 1) × (front r copy ≡ front i out ++ slice b i 1) → k ≡ loopByte (firstNode (drop (recordLength * i) b) .limit) → x ≡ renamedName k d
-    → front (i + 1) (set copy (recordLength * i + 3) x) ≡ front i out ++ renamedRecord (length (stillAround w (stack e outer))) (drop (recordLength * i) b)
+pub one-renamed : (b e : List ℕ) (w outer d i at r k x : ℕ) (out copy : List ℕ) → stack e d ≡ stillAround w (stack e outer) → recordLength * at ≤ length out
+    → (r ≡ at + 1) × (front r copy ≡ front at out ++ slice b i 1) → k ≡ loopByte (firstNode (drop (recordLength * i) b) .limit) → x ≡ renamedName k d
+    → front (at + 1) (set copy (recordLength * at + 3) x) ≡ front at out ++ renamedRecord (length (stillAround w (stack e outer))) (drop (recordLength * i) b)
 unfolding renamedRecord
-one-renamed b e w outer d i r k x out copy s h (r-is, f) k-is x-is =
-    take-set-lt (recordLength * (i + 1)) copy (recordLength * i + 3) x (omega arith)
-    ∙ rw (← r-is, f, ← s, length-stack e d, ← name-byte, ← k-is, ← x-is) (set-behind (front i out) (slice b i 1) (recordLength * i) 3 x (length-take-le (recordLength * i) out h))
+one-renamed b e w outer d i at r k x out copy s h (r-is, f) k-is x-is =
+    take-set-lt (recordLength * (at + 1)) copy (recordLength * at + 3) x (omega arith)
+    ∙ rw (← r-is, f, ← s, length-stack e d, ← name-byte, ← k-is, ← x-is) (set-behind (front at out) (slice b i 1) (recordLength * at) 3 x (length-take-le (recordLength * at) out h))
 
 -- ---- the table
 
--- the first i records are renamed, and so many trees are wanted
-pub record Renamed (b e : List ℕ) (outer w i : ℕ) (out₀ out : List ℕ) : Type 0 where
+-- the first i records are renamed, behind record `at` of a buffer, and so many trees are wanted
+pub record Renamed (b e : List ℕ) (outer w at i : ℕ) (out₀ out : List ℕ) : Type 0 where
   pub wanted : Wanted b w i
   pub nested : outer ≤ mostLoops
   pub roomy : length e ≡ loopRoom
-  pub bytes : front i out ++ renamedRecords (recordCount b - i) w (stack e outer) (drop (recordLength * i) b) ≡ renamedRecords (recordCount b) 1 [] b
+  pub bytes : front (at + i) out ++ renamedRecords (recordCount b - i) w (stack e outer) (drop (recordLength * i) b) ≡ front at out₀ ++ renamedRecords (recordCount b) 1 [] b
   pub kept : length out ≡ length out₀
 
-pub none-renamed : (b e out : List ℕ) → length e ≡ loopRoom → Renamed b e 0 1 0 out out
+pub none-renamed : (b e : List ℕ) (at : ℕ) (out : List ℕ) → length e ≡ loopRoom → Renamed b e 0 1 at 0 out out
 unfolding stack
-none-renamed b e out l = record { wanted = wants-one b; nested = omega arith; roomy = l; bytes = rw sub-zero refl; kept = refl }
+none-renamed b e at out l = record { wanted = wants-one b; nested = omega arith; roomy = l; bytes = rw (sub-zero, add-zero) refl; kept = refl }
 
 -- a table wants a tree until its end
 pub some-wanted : (b : List ℕ) → IsTable b → (w i : ℕ) → i < recordCount b → Wanted b w i → w ≡ 0 → ⊥
@@ -258,11 +258,11 @@ some-wanted b t w i h q z =
     let form : T (formTrees (recordCount b) 1 b) = subst (λ (x : List ℕ). T (formTrees (recordCount x) 1 x)) (t .back) (whole-form (decode b)) in
     subst T (wants-none b w i h z q) form
 
-pub next-renamed : (b e e' : List ℕ) (outer outer' w i c : ℕ) (out₀ out new : List ℕ) → IsTable b → i < recordCount b → Renamed b e outer w i out₀ out
+pub next-renamed : (b e e' : List ℕ) (outer outer' w at i c : ℕ) (out₀ out new : List ℕ) → IsTable b → i < recordCount b → Renamed b e outer w at i out₀ out
     → (stack e' outer' ≡ entered (firstNode (drop (recordLength * i) b) .kind) w (stillAround w (stack e outer))) × (outer' ≤ mostLoops)
-    → front (i + 1) new ≡ front i out ++ renamedRecord (length (stillAround w (stack e outer))) (drop (recordLength * i) b)
-    → (c ≡ childByte (drop (recordLength * i) b)) × (c < 256) → length e' ≡ length e → length new ≡ length out → Renamed b e' outer' (w - 1 + c) (i + 1) out₀ new
-next-renamed b e e' outer outer' w i c out₀ out new t h r (s, l) f (c-is, few) m k = record {
+    → front (at + i + 1) new ≡ front (at + i) out ++ renamedRecord (length (stillAround w (stack e outer))) (drop (recordLength * i) b)
+    → (c ≡ childByte (drop (recordLength * i) b)) × (c < 256) → length e' ≡ length e → length new ≡ length out → Renamed b e' outer' (w - 1 + c) at (i + 1) out₀ new
+next-renamed b e e' outer outer' w at i c out₀ out new t h r (s, l) f (c-is, few) m k = record {
   wanted = wants-next b w i c h (some-wanted b t w i h (r .wanted)) (r .wanted) (c-is ∙ ap childByte (sym (part-from b (recordLength * i)))) few;
   nested = l;
   roomy = m ∙ r .roomy;
@@ -270,15 +270,16 @@ next-renamed b e e' outer outer' w i c out₀ out new t h r (s, l) f (c-is, few)
   kept = k ∙ r .kept;
 }
   where
-    step : (n : ℕ) → i < n → front i out ++ renamedRecords (n - i) w (stack e outer) (drop (recordLength * i) b)
-        ≡ front (i + 1) new ++ renamedRecords (n - (i + 1)) (w - 1 + c) (stack e' outer') (drop (recordLength * (i + 1)) b)
-    step n g = unfold renamedRecords in rw (next-count n i g, f, s, c-is, append-assoc, ← next-part) refl
+    step : (n : ℕ) → i < n → front (at + i) out ++ renamedRecords (n - i) w (stack e outer) (drop (recordLength * i) b)
+        ≡ front (at + (i + 1)) new ++ renamedRecords (n - (i + 1)) (w - 1 + c) (stack e' outer') (drop (recordLength * (i + 1)) b)
+    step n g = unfold renamedRecords in rw (next-count n i g, ← add-assoc, f, s, c-is, append-assoc, ← next-part) refl
 
-pub all-renamed : (b e : List ℕ) (outer w i : ℕ) (out₀ out : List ℕ) → IsTable b → recordCount b ≤ i → Renamed b e outer w i out₀ out → front (recordCount b) out ≡ encode (rename (decode b) 0)
-all-renamed b e outer w i out₀ out t h r =
+pub all-renamed : (b e : List ℕ) (outer w at i : ℕ) (out₀ out : List ℕ) → IsTable b → recordCount b ≤ i → Renamed b e outer w at i out₀ out
+    → front (at + recordCount b) out ≡ front at out₀ ++ renamedTable b
+all-renamed b e outer w at i out₀ out t h r =
     let end : i ≡ recordCount b = omega (arith, r .wanted .within) in
-    ap (λ n. front n out) (sym end) ∙ sym (append-nil (front i out)) ∙ last (recordCount b - i) (omega arith) (r .bytes) ∙ renamed-table b t
+    ap (λ n. front (at + n) out) (sym end) ∙ sym (append-nil (front (at + i) out)) ∙ last (recordCount b - i) (omega arith) (r .bytes) ∙ ap (λ (x : List ℕ). front at out₀ ++ x) (renamed-table b t)
   where
-    last : (n : ℕ) → n ≡ 0 → front i out ++ renamedRecords n w (stack e outer) (drop (recordLength * i) b) ≡ renamedRecords (recordCount b) 1 [] b
-        → front i out ++ [] ≡ renamedRecords (recordCount b) 1 [] b
+    last : (n : ℕ) → n ≡ 0 → front (at + i) out ++ renamedRecords n w (stack e outer) (drop (recordLength * i) b) ≡ front at out₀ ++ renamedRecords (recordCount b) 1 [] b
+        → front (at + i) out ++ [] ≡ front at out₀ ++ renamedRecords (recordCount b) 1 [] b
     last n z q = unfold renamedRecords in (rw z at q)

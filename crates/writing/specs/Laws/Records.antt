@@ -1,11 +1,11 @@
 -- A record's bytes from its fields, and bytes copied into a buffer, one at a time.
-use mathlib.Core.Path.{_≡_, refl, ap, ap₂, _∙_}
-use mathlib.Core.List.{List, [], _∷_, _++_}
+use mathlib.Core.Path.{_≡_, refl, ap, ap₂, sym, _∙_}
+use mathlib.Core.List.{List, [], _∷_, _++_, append-assoc}
 use Prim.Native.Nat.{ℕ, _+_, _*_, _<_, _≤_}
 use native.Mathlib.Numerals.{add-one}
 use native.Mathlib.Omega.{arith}
 use lib.ListN.{drop, getD, length, set, take}
-use lib.Seq.{drop-paste, length-paste, paste, paste-suc, paste-zero, take-paste}
+use lib.Seq.{drop-paste, getD-take, length-paste, length-take-le, paste, paste-suc, paste-zero, take-at, take-paste}
 use Rattle.table.specs.Numbers.{recordLength}
 use Rattle.table.specs.Bytes.{toBytes}
 use Rattle.table.specs.Table.{filler, flag, kindByte, limitNum, loopByte, mostField, mostFlags, raw, recordBytes, valueNum}
@@ -42,6 +42,12 @@ copy-next s d over out k x e l m c =
       long = ap length z ∙ length-paste d over s (k + 1) (omega arith) (omega arith);
       is = z;
     }
+
+-- a byte before them stands as it did
+pub copy-before : (s d : List ℕ) (over : ℕ) (out : List ℕ) (k j : ℕ) → j < over → over ≤ length d → Copied s d over out k → getD out j 0 ≡ getD d j 0
+copy-before s d over out k j l m c =
+    let same : take over out ≡ take over d = rw (c .is, append-assoc) (take-at (take over d) _ over (length-take-le over d m)) in
+    sym (getD-take over out j 0 l) ∙ ap (λ (x : List ℕ). getD x j 0) same ∙ getD-take over d j 0 l
 
 -- bytes copied: what stands before their end, and behind it
 pub copied-parts : (s d : List ℕ) (at : ℕ) (out : List ℕ) (n k : ℕ) → k ≡ n → Copied s d at out k
