@@ -50,7 +50,7 @@ pub record Among (body : List ℕ) (k : ℕ) (bytes : List ℕ) : Type 0 where
   pub parts : bytes ≡ before ++ (body ++ behind)
   pub long : length before ≡ recordLength * k
 
--- unless k is 0, and they were not put yet: a loop's record always comes before them
+-- they do, unless k is 0: then they were not put yet, since a loop's record always stands before them
 abbrev pub Stands : (body : List ℕ) (k : ℕ) (bytes : List ℕ) → Type 0
 Stands body k bytes = (k ≡ 0 → ⊥) → Among body k bytes
 

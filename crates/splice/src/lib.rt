@@ -152,8 +152,8 @@ fn put_renamed(sent: &[u8], out: &mut [u8], at: usize) -> usize
 
 // ---- The host, with the renamed sent table in place of the symbol
 
-// Puts the renamed sent table at the buffer's record `at`: by copying it from record `last`, where it was put last, or anew where that is 0, as it was not put
-// yet. Answers the record after it.
+// Puts the renamed sent table at the buffer's record `at`; answers the record after it. It is copied from record `last`, where it was put last; where that is 0
+// it was not put yet, and is renamed.
 fn put_sent(sent: &[u8], last: usize, out: &mut [u8], at: usize) -> usize
     requires { ⌜ IsTable (now sent) ⌝ ∗ ⌜ Stands (renamedTable (now sent)) last (front at (now out)) ⌝ ∗ ⌜ recordLength * (at + recordCount (now sent)) ≤ length (now out) ⌝ }
     ensures { λ r. ⌜ (r ≡ at + recordCount (now (sent .entry))) × (front r (now (out .exit)) ≡ front at (now (out .entry)) ++ renamedTable (now (sent .entry))) ⌝ }

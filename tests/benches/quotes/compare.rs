@@ -18,7 +18,7 @@ use volefleece_tests::format::{LIST_ROOM, MOST_RECORDS, RECORD_BYTES};
 const TABLES: usize = 16;
 const REPETITIONS: usize = 201;
 /// Simplifying takes much longer.
-const SIMPLIFYING_REPETITIONS: usize = 21;
+const SIMPLIFYING_REPETITIONS: usize = 101;
 
 const LONGEST: usize = MOST_RECORDS * RECORD_BYTES;
 

@@ -3,12 +3,12 @@ use mathlib.Core.Path.{_≡_, refl, ap, ap₂, sym, _∙_}
 use mathlib.Core.Bool.{Bool, true, false, cond}
 use mathlib.Core.List.{List, _++_, append-assoc}
 use Prim.Native.Nat.{ℕ, zero, suc, _+_, _*_, _-_, _<_, _≤_}
-use native.Mathlib.Nat.{add-assoc, add-zero, sub-zero, suc-add, zero-add}
+use native.Mathlib.Nat.{add-assoc, sub-zero, suc-add, zero-add}
 use native.Mathlib.Omega.{arith}
 use lib.ListN.{drop, length, length-append, take, take-append-drop}
 use lib.Seq.{drop-at, drop-drop, length-take-le, take-add, take-at}
 use Rattle.table.specs.Numbers.{recordLength}
-use Rattle.table.specs.Table.{decode, encode, firstNode, recordBytes, recordCount}
+use Rattle.table.specs.Table.{decode, firstNode, recordBytes, recordCount}
 use Rattle.table.specs.Checking.{IsTable}
 use Rattle.table.specs.Laws.Reading.{next-count, next-part, none-left}
 use Rattle.table.specs.Laws.RoundTrip.{length-bytes, length-encode}
