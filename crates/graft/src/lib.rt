@@ -28,8 +28,7 @@ fn symbol_allowed(sent: &[u8], symbol: u64) -> bool
     (FIRST_TIME_SYMBOL <= symbol) & (symbol < HOW_MANY_SYMBOLS) & (count == 0)
 }
 
-// Makes the grafted table at the front of `work`; answers how many records it has, or 0 where they are more than a table may have: then nothing is
-// written.
+// Makes the grafted table at the front of `work`; answers how many records it has, or 0 where they are more than a table may have.
 fn make_graft(host: &[u8], sent: &[u8], symbol: u64, work: &mut [u8]) -> usize
     requires { ⌜ IsTable (now host) ⌝ ∗ ⌜ IsTable (now sent) ⌝ ∗ ⌜ length (now work) ≡ recordLength * mostRecords ⌝ }
     ensures { λ r. ⌜ GraftMade (now (host .entry)) (now (sent .entry)) symbol r (now (work .exit)) ⌝ }

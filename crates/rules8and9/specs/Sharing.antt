@@ -16,7 +16,7 @@ use Rattle.subtrees.specs.Parts.{treesAt}
 use Rattle.table.specs.declared.Number.the-variants.{Plain}
 use Rattle.table.specs.declared.Limit.the-variants.{Unlimited}
 use Rattle.table.specs.declared.Kind.the-variants.{Sequence, Choice, Loop}
-use Rattle.writing.specs.Records.{front, nodeOf}
+use Rattle.writing.specs.Records.{Appended, nodeOf}
 
 -- ---- rule 9: an unlimited loop of plain bound 0
 
@@ -74,8 +74,8 @@ abbrev pub RoomFor : ℕ → Forest → List ℕ → Type 0
 RoomFor at f out = recordLength * (at + recordsIn f) ≤ length out
 
 -- the row is written there, after what stood before it, and ends at record r
-abbrev pub Appended : ℕ → List ℕ → Forest → ℕ → List ℕ → Type 0
-Appended at before f r out = (r ≡ at + recordsIn f) × (front r out ≡ front at before ++ encodes f)
+abbrev pub RowAppended : ℕ → List ℕ → Forest → ℕ → List ℕ → Type 0
+RowAppended at before f r out = Appended at before (recordsIn f) (encodes f) r out
 
 -- the records of a sequence of two with the tree's limit and address, and of an unlimited choice of as many children as it has, with address 0
 abbrev pub topBytes : Tree → List ℕ

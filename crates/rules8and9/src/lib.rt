@@ -12,7 +12,7 @@ ghost use Rattle.simplify.specs.Same.{same};
 ghost use Rattle.subtrees.specs.Parts.{subtree, treesAt};
 ghost use Rattle.subtrees.specs.Facts.{Extents, Surveyed};
 ghost use Rattle.rewrite.specs.Wrote.{Wrote, ruleAt};
-ghost use Rattle.rules8and9.specs.Sharing.{Appended, PairsAt, RoomFor, fieldsAt, firstsAt, idle, recordsFrom, sameBytes, sameRecords, sharedAt, sharing, topBytes};
+ghost use Rattle.rules8and9.specs.Sharing.{RowAppended, PairsAt, RoomFor, fieldsAt, firstsAt, idle, recordsFrom, sameBytes, sameRecords, sharedAt, sharing, topBytes};
 use subtrees::MARKS;
 use subtrees::NAME;
 use subtrees::REACH;
@@ -151,7 +151,7 @@ fn copy_firsts(
     at: usize,
 ) -> usize
     requires { ⌜ Extents (now table) (now extents) ⌝ ∗ ⌜ PairsAt (now table) p left ⌝ ∗ ⌜ RoomFor at (firstsAt (now table) p left) (now out) ⌝ }
-    ensures { λ r. ⌜ Appended at (now (out .entry)) (firstsAt (now (table .entry)) p left) r (now (out .exit)) ⌝ }
+    ensures { λ r. ⌜ RowAppended at (now (out .entry)) (firstsAt (now (table .entry)) p left) r (now (out .exit)) ⌝ }
 {
     let mut q = p;
     let mut to = at;

@@ -1,4 +1,4 @@
--- Grafting as the program does it: the host's records are copied, or the sent table put in their place.
+-- Grafting record by record: each of the host's is copied, or the sent table put in its place. The program copies those between two places at once.
 use mathlib.Core.Path.{_≡_}
 use mathlib.Core.Bool.{cond}
 use mathlib.Core.List.{List, [], _++_}
@@ -37,7 +37,7 @@ splice s body (suc n) b = spliceFirst s body b ++ splice s body n (drop recordLe
 unfoldable pub spliceRecords : (s m n : ℕ) → List ℕ → ℕ
 spliceRecords s m n b = n + occurrencesIn s n b * suc m
 
--- none of h's records from record i up to record r is a block with symbol s
+-- none of h's records from record i on and before record r is a block with symbol s
 pub record NoPlace (s : ℕ) (h : List ℕ) (i r : ℕ) : Type 0 where
   pub onward : i ≤ r
   pub within : r ≤ recordCount h

@@ -6,7 +6,7 @@ ghost use lib.ListN.{drop, length};
 ghost use Rattle.table.specs.Numbers.{mostLoops, recordLength};
 ghost use Rattle.table.specs.Table.{firstNode, recordCount};
 ghost use Rattle.table.specs.Checking.{IsTable};
-ghost use Rattle.writing.specs.Records.{front};
+ghost use Rattle.writing.specs.Records.{Appended, front};
 ghost use Rattle.splice.specs.Graft.{isSymbol, renamedName};
 ghost use Rattle.splice.specs.Renaming.{entered, renamedRecord, renamedTable, stillAround, stack};
 ghost use Rattle.splice.specs.Splice.{NoPlace, Stands, occursFirst, occurrencesIn, placeBytes, splice, spliceRecords};
@@ -135,7 +135,7 @@ fn rename_next(
 // Puts the sent table, renamed, at the buffer's record `at`; answers the record after it.
 fn put_renamed(sent: &[u8], out: &mut [u8], at: usize) -> usize
     requires { ⌜ IsTable (now sent) ⌝ ∗ ⌜ recordLength * (at + recordCount (now sent)) ≤ length (now out) ⌝ }
-    ensures { λ r. ⌜ (r ≡ at + recordCount (now (sent .entry))) × (front r (now (out .exit)) ≡ front at (now (out .entry)) ++ renamedTable (now (sent .entry))) ⌝ }
+    ensures { λ r. ⌜ Appended at (now (out .entry)) (recordCount (now (sent .entry))) (renamedTable (now (sent .entry))) r (now (out .exit)) ⌝ }
 {
     let n = sent.len() / RECORD_LENGTH;
     let mut ends = [0; LOOP_ROOM];
@@ -156,7 +156,7 @@ fn put_renamed(sent: &[u8], out: &mut [u8], at: usize) -> usize
 // it was not put yet, and is renamed.
 fn put_sent(sent: &[u8], last: usize, out: &mut [u8], at: usize) -> usize
     requires { ⌜ IsTable (now sent) ⌝ ∗ ⌜ Stands (renamedTable (now sent)) last (front at (now out)) ⌝ ∗ ⌜ recordLength * (at + recordCount (now sent)) ≤ length (now out) ⌝ }
-    ensures { λ r. ⌜ (r ≡ at + recordCount (now (sent .entry))) × (front r (now (out .exit)) ≡ front at (now (out .entry)) ++ renamedTable (now (sent .entry))) ⌝ }
+    ensures { λ r. ⌜ Appended at (now (out .entry)) (recordCount (now (sent .entry))) (renamedTable (now (sent .entry))) r (now (out .exit)) ⌝ }
 {
     if last == 0 {
         put_renamed(sent, out, at)
@@ -169,7 +169,7 @@ fn put_sent(sent: &[u8], last: usize, out: &mut [u8], at: usize) -> usize
 // Answers the record after it.
 fn put_place(block: Node, sent: &[u8], last: usize, out: &mut [u8], at: usize) -> usize
     requires { ⌜ IsTable (now sent) ⌝ ∗ ⌜ Stands (renamedTable (now sent)) last (front at (now out)) ⌝ ∗ ⌜ recordLength * (at + (recordCount (now sent) + 2)) ≤ length (now out) ⌝ }
-    ensures { λ r. ⌜ (r ≡ at + (recordCount (now (sent .entry)) + 2)) × (front r (now (out .exit)) ≡ front at (now (out .entry)) ++ placeBytes (renamedTable (now (sent .entry))) (block .limit) (block .address)) ⌝ }
+    ensures { λ r. ⌜ Appended at (now (out .entry)) (recordCount (now (sent .entry)) + 2) (placeBytes (renamedTable (now (sent .entry))) (block .limit) (block .address)) r (now (out .exit)) ⌝ }
 {
     let limit = block.limit;
     let once = Node {

@@ -6,7 +6,7 @@ ghost use lib.ListN.{drop, length, set, take};
 ghost use Rattle.table.specs.Numbers.{recordLength};
 ghost use Rattle.table.specs.Table.{flag, kindByte, limitNum, loopByte, mostField, mostFlags, raw, recordBytes, recordCount, valueNum};
 ghost use Rattle.writing.specs.Over.{over};
-ghost use Rattle.writing.specs.Records.{front, slice};
+ghost use Rattle.writing.specs.Records.{Appended, slice};
 use table::FILL;
 use table::Kind;
 use table::Limit;
@@ -46,7 +46,7 @@ pub fn copy_bytes(from: &[u8], start: usize, n: usize, out: &mut [u8], at: usize
 // Copies n records from record i on to the buffer's record `at` and on; answers the record after them.
 pub fn copy_records(table: &[u8], i: usize, n: usize, out: &mut [u8], at: usize) -> usize
     requires { ⌜ (recordLength * (i + n) ≤ length (now table)) × (recordLength * (at + n) ≤ length (now out)) ⌝ }
-    ensures { λ r. ⌜ (r ≡ at + n) × (front r (now (out .exit)) ≡ front at (now (out .entry)) ++ slice (now (table .entry)) i n) ⌝ }
+    ensures { λ r. ⌜ Appended at (now (out .entry)) n (slice (now (table .entry)) i n) r (now (out .exit)) ⌝ }
 {
     copy_bytes(
         table,
@@ -61,7 +61,7 @@ pub fn copy_records(table: &[u8], i: usize, n: usize, out: &mut [u8], at: usize)
 // Copies n records of the buffer itself, from record i on, to its record `at` and on, behind them; answers the record after them.
 pub fn repeat_records(out: &mut [u8], i: usize, n: usize, at: usize) -> usize
     requires { ⌜ (i + n ≤ at) × (recordLength * (at + n) ≤ length (now out)) ⌝ }
-    ensures { λ r. ⌜ (r ≡ at + n) × (front r (now (out .exit)) ≡ front at (now (out .entry)) ++ slice (now (out .entry)) i n) ⌝ }
+    ensures { λ r. ⌜ Appended at (now (out .entry)) n (slice (now (out .entry)) i n) r (now (out .exit)) ⌝ }
 {
     let start = RECORD_LENGTH * i;
     let over = RECORD_LENGTH * at;
@@ -77,8 +77,7 @@ pub fn repeat_records(out: &mut [u8], i: usize, n: usize, at: usize) -> usize
 // Copies the records from record i to the table's end to the buffer's record `at` and on; answers the record after them.
 pub fn copy_rest(table: &[u8], i: usize, out: &mut [u8], at: usize) -> usize
     requires { ⌜ (i ≤ recordCount (now table)) × (recordLength * (at + (recordCount (now table) - i)) ≤ length (now out)) ⌝ }
-    ensures { λ r. ⌜ r ≡ at + (recordCount (now (table .entry)) - i) ⌝ }
-    ensures { λ r. ⌜ front r (now (out .exit)) ≡ front at (now (out .entry)) ++ slice (now (table .entry)) i (recordCount (now (table .entry)) - i) ⌝ }
+    ensures { λ r. ⌜ Appended at (now (out .entry)) (recordCount (now (table .entry)) - i) (slice (now (table .entry)) i (recordCount (now (table .entry)) - i)) r (now (out .exit)) ⌝ }
 {
     copy_records(table, i, table.len() / RECORD_LENGTH - i, out, at)
 }
@@ -208,7 +207,7 @@ fn record_of(node: Node, count: u8) -> [u8; RECORD_LENGTH]
 // Puts a record's bytes at the buffer's record `at`; answers the record after it.
 fn put_record(out: &mut [u8], at: usize, bytes: [u8; RECORD_LENGTH]) -> usize
     requires { ⌜ recordLength * (at + 1) ≤ length (now out) ⌝ }
-    ensures { λ r. ⌜ (r ≡ at + 1) × (front r (now (out .exit)) ≡ front at (now (out .entry)) ++ bytes) ⌝ }
+    ensures { λ r. ⌜ Appended at (now (out .entry)) 1 bytes r (now (out .exit)) ⌝ }
 {
     let over = RECORD_LENGTH * at;
     let mut k = 0;
@@ -231,7 +230,7 @@ pub fn put_name(out: &mut [u8], at: usize, name: u8)
 // written here.
 pub fn put_node(out: &mut [u8], at: usize, node: Node, count: u8) -> usize
     requires { ⌜ recordLength * (at + 1) ≤ length (now out) ⌝ }
-    ensures { λ r. ⌜ (r ≡ at + 1) × (front r (now (out .exit)) ≡ front at (now (out .entry)) ++ recordBytes node count) ⌝ }
+    ensures { λ r. ⌜ Appended at (now (out .entry)) 1 (recordBytes node count) r (now (out .exit)) ⌝ }
 {
     put_record(out, at, record_of(node, count))
 }

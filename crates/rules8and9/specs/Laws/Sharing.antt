@@ -29,7 +29,7 @@ use Rattle.table.specs.declared.Limit.{Limit}
 use Rattle.table.specs.declared.Limit.the-variants.{Unlimited}
 use Rattle.table.specs.declared.Kind.the-variants.{Sequence, Choice}
 use Rattle.table.specs.declared.Node.{Node}
-use Rattle.rules8and9.specs.Sharing.{Appended, PairsAt, RoomFor, firstsAt, pairs, sharedAt, sharing, topBytes}
+use Rattle.rules8and9.specs.Sharing.{RowAppended, PairsAt, RoomFor, firstsAt, pairs, sharedAt, sharing, topBytes}
 use Rattle.writing.specs.Records.{front, nodeOf, slice}
 use Rattle.rewrite.specs.Wrote.{Wrote, ruleAt}
 use Rattle.rewrite.specs.Laws.Records.{some-yes, subtree-bytes, subtree-sound, two-at, unfit-at, wrote-as, zero-is, zero-no}
@@ -299,7 +299,7 @@ module _ (b extents : List ℕ) (s : Extents b extents) (p n at : ℕ) (o : List
   }
 
 pub copying-all : (b : List ℕ) (p n at : ℕ) (o : List ℕ) (q m to : ℕ) (out : List ℕ) → Copying b p n at o q m to out → m ≤ 0
-    → Appended at o (firstsAt b p n) to out
+    → RowAppended at o (firstsAt b p n) to out
 unfolding firsts recordsIn encodes
 copying-all b p n at o q m to out h l =
     let e = row-end (h .row) l in

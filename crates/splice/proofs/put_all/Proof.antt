@@ -86,7 +86,7 @@ returns : tie.Need-returns Inv-loop μ-loop
 returns c =
     let rest = c .before .before in
     let end = rest .before .before in
-    all-put _ _ _ _ _ _ _ _ _ _ (end .before .loop .inv) (end .loop-test .left) _ _ (rest .copy-rest .ensures .0) (rest .copy-rest .ensures .1)
+    all-put _ _ _ _ _ _ _ _ _ _ (end .before .loop .inv) (end .loop-test .left) _ _ (rest .copy-rest .ensures)
 
 pub put-all-spec : {M : Type 1} → statement M
 put-all-spec =

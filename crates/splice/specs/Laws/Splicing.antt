@@ -13,7 +13,7 @@ use Rattle.table.specs.Checking.{IsTable}
 use Rattle.table.specs.Laws.Reading.{next-count, next-part, none-left}
 use Rattle.table.specs.Laws.RoundTrip.{length-bytes, length-encode}
 use Rattle.table.specs.Laws.Tables.{count-is}
-use Rattle.writing.specs.Records.{front, nodeOf, slice}
+use Rattle.writing.specs.Records.{Appended, front, nodeOf, slice}
 use Rattle.splice.specs.Nodes.{Block, Limit, Loop, Node, Plain, Unlimited}
 use Rattle.splice.specs.Graft.{isSymbol, rename}
 use Rattle.splice.specs.Renaming.{renamedTable}
@@ -168,10 +168,10 @@ module _ (body : List ℕ) (k m at : ℕ) (out : List ℕ) (l : length body ≡ 
 
 -- the three parts of what stands in a block's place
 pub place-parts : (l : Limit) (a : ℕ) (body : List ℕ) (m at first end r : ℕ) (out o₁ o₂ o₃ : List ℕ)
-    → (first ≡ at + 1) × (front first o₁ ≡ front at out ++ recordBytes (nodeOf (Loop (Plain 1)) l a) 2)
-    → (end ≡ first + m) × (front end o₂ ≡ front first o₁ ++ body)
-    → (r ≡ end + 1) × (front r o₃ ≡ front end o₂ ++ recordBytes (nodeOf (Block (Plain 0)) Unlimited 0) 0)
-    → (r ≡ at + (m + 2)) × (front r o₃ ≡ front at out ++ placeBytes body l a)
+    → Appended at out 1 (recordBytes (nodeOf (Loop (Plain 1)) l a) 2) first o₁
+    → Appended first o₁ m body end o₂
+    → Appended end o₂ 1 (recordBytes (nodeOf (Block (Plain 0)) Unlimited 0) 0) r o₃
+    → Appended at out (m + 2) (placeBytes body l a) r o₃
 unfolding placeBytes
 place-parts l a body m at first end r out o₁ o₂ o₃ (x₁, y₁) (x₂, y₂) (x₃, y₃) =
     (omega arith, y₃ ∙ rw (y₂, y₁, append-assoc, append-assoc, append-assoc) refl)
@@ -226,7 +226,7 @@ module _ (s m : ℕ) (body h out₀ : List ℕ) (left last at i : ℕ) (out : Li
     place-room l = omega (arith, p .long, p .kept, ap (λ k. k * suc m) count-here, q .onward)
 
     pub one-put : (end z : ℕ) (o₁ o₂ : List ℕ) (n : Node) → n ≡ firstNode (drop (recordLength * r) h) → length o₁ ≡ length out → length o₂ ≡ length o₁ → recordLength * end ≤ length o₁
-        → (end ≡ at + (r - i)) × (front end o₁ ≡ front at out ++ slice h i (r - i)) → (z ≡ end + (m + 2)) × (front z o₂ ≡ front end o₁ ++ placeBytes body (n .limit) (n .address))
+        → Appended at out (r - i) (slice h i (r - i)) end o₁ → Appended end o₁ (m + 2) (placeBytes body (n .limit) (n .address)) z o₂
         → Put s m body h out₀ (left - 1) (end + 1) z (r + 1) o₂
     unfolding spliceRecords
     one-put end z o₁ o₂ n e k₁ k₂ l (x₁, y₁) (x₂, y₂) = record {
@@ -243,9 +243,9 @@ module _ (s m : ℕ) (body h out₀ : List ℕ) (left last at i : ℕ) (out : Li
   unfolding spliceRecords
   rest-room l = omega (arith, p .long, p .kept)
 
-  pub all-put : left ≤ 0 → (z : ℕ) (new : List ℕ) → z ≡ at + (recordCount h - i) → front z new ≡ front at out ++ slice h i (recordCount h - i)
+  pub all-put : left ≤ 0 → (z : ℕ) (new : List ℕ) → Appended at out (recordCount h - i) (slice h i (recordCount h - i)) z new
       → (z ≡ spliceRecords s m (recordCount h) h) × (front z new ≡ splice s body (recordCount h) h)
   unfolding spliceRecords
-  all-put l z new x y =
+  all-put l z new (x, y) =
       let none : occurrencesIn s (recordCount h - i) (drop (recordLength * i) h) ≡ 0 = omega (arith, p .counted) in
       (omega (arith, p .long, ap (λ k. k * suc m) none), y ∙ rw (← splice-none s body (recordCount h - i) (drop (recordLength * i) h) none) (p .bytes))
