@@ -6,6 +6,7 @@ use lib.Dec.{leb}
 use lib.ListN.{length}
 use Rattle.table.specs.Asking.{Question, _asks_, byRefusal, firstNo}
 use Rattle.table.specs.Numbers.{listRoom}
+use Rattle.table.specs.Table.{eachBy}
 use Rattle.lists.specs.Pairs.{numbers, width}
 use Rattle.evaluate.specs.Evaluate.{branch, figure, fits, valuesOf}
 use Rattle.evaluate.specs.ListPairs.{listPairs}
@@ -14,7 +15,7 @@ use Rattle.quoting.specs.Answers.{checkAnswer, figureAnswer, listAnswer, listWr
 use Rattle.quoting.specs.declared.Checked.{Checked}
 use Rattle.quoting.specs.declared.Quote.{Quote}
 use Rattle.quoting.specs.declared.Listed.{Listed}
-use Rattle.former.specs.Former.{formerCount, formerEach, formerQuestions, formerRefusal, formerTree}
+use Rattle.former.specs.Former.{formerCount, formerLength, formerQuestions, formerRefusal, formerTree}
 use Rattle.former.specs.Converted.{newTable}
 
 unfoldable pub formerCheck : List ℕ → Checked
@@ -23,7 +24,7 @@ formerCheck b = byRefusal (formerRefusal b) (Checked.Accepted (formerCount b)) C
 -- what was asked of an accepted table with a desk's values
 unfoldable pub formerQuoteQuestions : (table values : List ℕ) → List Question
 formerQuoteQuestions b vs =
-    9 asks question9 vs ∷ 13 asks formerEach (recordSmall (valuesOf vs)) (formerCount b) b ∷ 10 asks fits (valuesOf vs) (formerTree b) ∷ []
+    9 asks question9 vs ∷ 13 asks eachBy formerLength (recordSmall (valuesOf vs)) (formerCount b) b ∷ 10 asks fits (valuesOf vs) (formerTree b) ∷ []
 
 unfoldable pub formerFigure : (table values : List ℕ) → Quote
 formerFigure b vs =

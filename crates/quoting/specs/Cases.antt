@@ -8,7 +8,7 @@ use Rattle.table.specs.Numbers.{howManyValues}
 use Rattle.table.specs.Trees.{Tree, _⧺_, size, rest, around, records}
 use Rattle.table.specs.Questions.{arity, timeInRange, countInRange, mostInRange, kindInRange, limitInRange, listed, depth, loops, nameOk, named, share, weight}
 use Rattle.table.specs.Bytes.{toBytes, fromBytes}
-use Rattle.table.specs.Table.{flag, mostFlags, mostFrom, numFrom, kindByte, valueNum, kindFrom, loopByte, limitNum, limitFrom, recordBytes, encode, firstNode, childByte, firstOnes, afterOnes, forest, top, decode, formTrees, each}
+use Rattle.table.specs.Table.{flag, mostFlags, mostFrom, numFrom, kindByte, valueNum, kindFrom, loopByte, limitNum, limitFrom, recordBytes, encode, firstNode, childByte, firstOnes, afterOnes, top, decode, eachBy, forestBy, formTreesBy}
 use Rattle.table.specs.Checking.{question1, question2, limitCount, recordInRange, question3, question4, question5, question6, question7, questions}
 use Rattle.table.specs.Asking.{byRefusal, firstNo}
 use Rattle.table.specs.Notation.{_/T_at_, _/_at_, allHold, block, both, either, loop, sequence, symbol}
@@ -50,5 +50,5 @@ isRefused q (Quote.Refused r) = eqb q r
 
 -- to unfold this is to unfold all that the cases compute with
 unfoldable pub computed : ℕ
-unfolding block symbol _/_at_ _/T_at_ sequence both either loop allHold isQuote isFigure isRefused quotes samePairs lists _and_ _⧺_ size rest around records S const add cap group shift merge next taken holder allowed amount inner outward seen name limit rounds turns join start list figure holderIn branchIn branch fits arity timeInRange countInRange mostInRange kindInRange limitInRange listed depth loops nameOk named share weight toBytes fromBytes flag mostFlags mostFrom numFrom kindByte valueNum kindFrom loopByte limitNum limitFrom recordBytes encode firstNode childByte firstOnes afterOnes forest top decode formTrees each limitCount recordInRange question1 question2 question3 question4 question5 question6 question7 questions firstNo byRefusal placeOf turned place inFront tail pairs listPairs ceiling ranged question9 limitHolds triangleSmall recordSmall question13 valueQuestions quoteQuestions figureRefusal figureAnswer
+unfolding block symbol _/_at_ _/T_at_ sequence both either loop allHold isQuote isFigure isRefused quotes samePairs lists _and_ _⧺_ size rest around records S const add cap group shift merge next taken holder allowed amount inner outward seen name limit rounds turns join start list figure holderIn branchIn branch fits arity timeInRange countInRange mostInRange kindInRange limitInRange listed depth loops nameOk named share weight toBytes fromBytes flag mostFlags mostFrom numFrom kindByte valueNum kindFrom loopByte limitNum limitFrom recordBytes encode firstNode childByte firstOnes afterOnes forestBy top decode formTreesBy eachBy limitCount recordInRange question1 question2 question3 question4 question5 question6 question7 questions firstNo byRefusal placeOf turned place inFront tail pairs listPairs ceiling ranged question9 limitHolds triangleSmall recordSmall question13 valueQuestions quoteQuestions figureRefusal figureAnswer
 computed = 0

@@ -4,7 +4,7 @@ use mathlib.Core.List.{List, [], _∷_, _++_}
 use Prim.Native.Nat.{ℕ}
 use Rattle.table.specs.Bytes.{toBytes, fromBytes}
 use Rattle.table.specs.Notation.{_addressed_, _/_at_, block}
-use Rattle.table.specs.Table.{encode, decode, recordBytes, kindByte, flag, valueNum, mostFlags, limitNum, loopByte, firstNode, forest, top, kindFrom, numFrom, limitFrom, mostFrom, childByte, firstOnes, afterOnes}
+use Rattle.table.specs.Table.{afterOnes, childByte, decode, encode, firstNode, firstOnes, flag, forestBy, kindByte, kindFrom, limitFrom, limitNum, loopByte, mostFlags, mostFrom, numFrom, recordBytes, top, valueNum}
 use Rattle.table.specs.Trees.{Tree, size}
 
 -- a block of 2,055 cycles with limit 1,541 on the whole run, at address 67,305,985
@@ -19,5 +19,5 @@ unfolding encode recordBytes toBytes kindByte flag valueNum mostFlags limitNum l
 record-written = refl
 
 pub record-read : decode bytes ≡ tree
-unfolding decode forest top firstNode fromBytes kindFrom numFrom limitFrom mostFrom childByte firstOnes afterOnes block _/_at_ _addressed_
+unfolding decode forestBy top firstNode fromBytes kindFrom numFrom limitFrom mostFrom childByte firstOnes afterOnes block _/_at_ _addressed_
 record-read = refl

@@ -127,10 +127,14 @@ afterOnes zero f = f
 afterOnes (suc n) nil = nil
 afterOnes (suc n) (t ▸ f) = afterOnes n f
 
--- the forest that the first n records of b write, read from the last record to the first: a record takes its children off the front
-unfoldable pub forest : ℕ → List ℕ → Forest
-forest zero b = nil
-forest (suc n) b = let f = forest n (drop recordLength b) in node (firstNode b) (firstOnes (childByte b) f) ▸ afterOnes (childByte b) f
+-- the forest that the first n records of b write, of l bytes each and with the node that `first` reads, from the last record to the first: a record takes its
+-- children off the front
+unfoldable pub forestBy : (l : ℕ) (first : List ℕ → Node) (n : ℕ) → List ℕ → Forest
+forestBy l first zero b = nil
+forestBy l first (suc n) b = let f = forestBy l first n (drop l b) in node (first b) (firstOnes (childByte b) f) ▸ afterOnes (childByte b) f
+
+abbrev pub forest : (n : ℕ) → List ℕ → Forest
+forest n b = forestBy recordLength firstNode n b
 
 unfoldable pub top : Forest → Tree
 top nil = node (record { kind = Sequence; limit = Unlimited; address = 0 }) nil
@@ -144,13 +148,20 @@ recordCount b = length b / recordLength
 unfoldable pub decode : List ℕ → Tree
 decode b = top (forest (recordCount b) b)
 
--- the first n records of b are exactly k trees: the first record is the top of the first of them, and its children are among the trees that follow
-unfoldable pub formTrees : ℕ → ℕ → List ℕ → Bool
-formTrees zero k b = eqb k 0
-formTrees (suc n) zero b = false
-formTrees (suc n) (suc k) b = formTrees n (k + childByte b) (drop recordLength b)
+-- the first n records of b, of l bytes each, are exactly k trees: the first record is the top of the first of them, and its children are among the trees that
+-- follow
+unfoldable pub formTreesBy : (l n k : ℕ) → List ℕ → Bool
+formTreesBy l zero k b = eqb k 0
+formTreesBy l (suc n) zero b = false
+formTreesBy l (suc n) (suc k) b = formTreesBy l n (k + childByte b) (drop l b)
 
--- a test of each of b's first n records
-unfoldable pub each : (List ℕ → Bool) → ℕ → List ℕ → Bool
-each p zero b = true
-each p (suc n) b = p b and each p n (drop recordLength b)
+abbrev pub formTrees : (n k : ℕ) → List ℕ → Bool
+formTrees n k b = formTreesBy recordLength n k b
+
+-- a test of each of b's first n records, of l bytes each
+unfoldable pub eachBy : (l : ℕ) (test : List ℕ → Bool) (n : ℕ) → List ℕ → Bool
+eachBy l p zero b = true
+eachBy l p (suc n) b = p b and eachBy l p n (drop l b)
+
+abbrev pub each : (test : List ℕ → Bool) (n : ℕ) → List ℕ → Bool
+each p n b = eachBy recordLength p n b

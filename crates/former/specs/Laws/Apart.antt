@@ -12,11 +12,11 @@ use Rattle.booleans.specs.Laws.{&&-both, both}
 use Rattle.table.specs.Checking.{fieldsListed, flagsListed, kindListed, limitCount, limitListed, question1, question2, questions, recordInRange, recordListed, refusal}
 use Rattle.table.specs.Numbers.{fill, firstTimeSymbol, mostCount, recordLength}
 use Rattle.table.specs.Questions.{mostInRange}
-use Rattle.table.specs.Table.{each, field, firstNode, limitFrom, mostFrom, recordCount}
+use Rattle.table.specs.Table.{each, eachBy, field, firstNode, limitFrom, mostFrom, recordCount}
 use Rattle.table.specs.Laws.Asking.{Yes, all-yes, numbered}
 use Rattle.table.specs.Laws.Canonical.{listed-parts}
 use Rattle.table.specs.Laws.Reading.{field-4}
-use Rattle.former.specs.Former.{formerCount, formerEach, formerLength, formerQuestion1, formerQuestions, formerRefusal}
+use Rattle.former.specs.Former.{formerCount, formerLength, formerQuestion1, formerQuestions, formerRefusal}
 
 -- a limit's field that questions 2 and 3 let pass
 most-low : (s m : ℕ) → T (mostInRange (mostFrom s m)) → m ≤ mostCount
@@ -39,12 +39,12 @@ field-low b t h =
     limit-low (getD b 3 0) (getD b 1 0 / 2) (field b 4 4) (&&-both S N (&&-both (S && N) F t .0) .1) (both _ _ h .1)
 
 first-each : (p : List ℕ → Bool) (n : ℕ) (b : List ℕ) → 1 ≤ n → T (each p n b) → T (p b)
-unfolding each
+unfolding eachBy
 first-each p zero b l h = absurd (omega arith)
 first-each p (suc n) b l h = both _ _ h .0
 
-second-each : (p : List ℕ → Bool) (n : ℕ) (b : List ℕ) → 2 ≤ n → T (formerEach p n b) → T (p (drop formerLength b))
-unfolding formerEach
+second-each : (p : List ℕ → Bool) (n : ℕ) (b : List ℕ) → 2 ≤ n → T (eachBy formerLength p n b) → T (p (drop formerLength b))
+unfolding eachBy
 second-each p zero b l h = absurd (omega arith)
 second-each p (suc zero) b l h = absurd (omega arith)
 second-each p (suc (suc n)) b l h = both _ _ (both _ _ h .1) .0

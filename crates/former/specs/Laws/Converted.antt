@@ -11,8 +11,8 @@ use Rattle.booleans.specs.Tests.{_and_}
 use Rattle.table.specs.Asking.{firstNo}
 use Rattle.table.specs.Checking.{fieldsListed, question1, question2, question3, question4, question5, question6, question7, questions, recordInRange, recordListed, refusal}
 use Rattle.table.specs.Numbers.{mostRecords, recordLength}
-use Rattle.table.specs.Table.{decode, each, forest, formTrees, recordCount, top}
-use Rattle.former.specs.Former.{formerCount, formerEach, formerForest, formerFormTrees, formerLength, formerQuestion1, formerQuestions, formerRefusal, formerTree}
+use Rattle.table.specs.Table.{decode, each, eachBy, forest, forestBy, formTrees, formTreesBy, recordCount, top}
+use Rattle.former.specs.Former.{formerCount, formerLength, formerNode, formerQuestion1, formerQuestions, formerRefusal, formerTree}
 use Rattle.former.specs.Converted.{newRecord, newTable, converted}
 use Rattle.former.specs.Laws.Records.{next, record-long, same-children, same-listed, same-node, same-range}
 
@@ -29,23 +29,23 @@ converted-long (suc n) b l =
 -- ---- record after record
 
 pub each-same : (p q : List ℕ → Bool) → ((b r : List ℕ) → formerLength ≤ length b → p (newRecord b ++ r) ≡ q b) → (n : ℕ) (b : List ℕ) → formerLength * n ≤ length b
-    → each p n (converted n b) ≡ formerEach q n b
-unfolding each formerEach converted
+    → each p n (converted n b) ≡ eachBy formerLength q n b
+unfolding eachBy converted
 each-same p q h zero b l = refl
 each-same p q h (suc n) b l =
     let r = converted n (drop formerLength b) in
     rw (h b r (omega arith), next b r (omega arith), each-same p q h n (drop formerLength b) (fewer n b l)) refl
 
-form-same : (n k : ℕ) (b : List ℕ) → formerLength * n ≤ length b → formTrees n k (converted n b) ≡ formerFormTrees n k b
-unfolding formTrees formerFormTrees converted
+form-same : (n k : ℕ) (b : List ℕ) → formerLength * n ≤ length b → formTrees n k (converted n b) ≡ formTreesBy formerLength n k b
+unfolding formTreesBy converted
 form-same zero k b l = refl
 form-same (suc n) zero b l = refl
 form-same (suc n) (suc k) b l =
     let r = converted n (drop formerLength b) in
     rw (same-children b r (omega arith), next b r (omega arith)) (form-same n _ (drop formerLength b) (fewer n b l))
 
-forest-same : (n : ℕ) (b : List ℕ) → formerLength * n ≤ length b → forest n (converted n b) ≡ formerForest n b
-unfolding forest formerForest converted
+forest-same : (n : ℕ) (b : List ℕ) → formerLength * n ≤ length b → forest n (converted n b) ≡ forestBy formerLength formerNode n b
+unfolding forestBy converted
 forest-same zero b l = refl
 forest-same (suc n) b l =
     let r = converted n (drop formerLength b) in
@@ -60,7 +60,7 @@ module _ (b : List ℕ) where
   pub same-count : recordCount (newTable b) ≡ formerCount b
   same-count = rw (converted-long (formerCount b) b whole) (omega arith)
 
-  pub same-each : (p q : List ℕ → Bool) → ((c r : List ℕ) → formerLength ≤ length c → p (newRecord c ++ r) ≡ q c) → each p (recordCount (newTable b)) (newTable b) ≡ formerEach q (formerCount b) b
+  pub same-each : (p q : List ℕ → Bool) → ((c r : List ℕ) → formerLength ≤ length c → p (newRecord c ++ r) ≡ q c) → each p (recordCount (newTable b)) (newTable b) ≡ eachBy formerLength q (formerCount b) b
   same-each p q h = rw same-count (each-same p q h (formerCount b) b whole)
 
   pub same-tree : decode (newTable b) ≡ formerTree b
@@ -98,7 +98,7 @@ module _ (b : List ℕ) where
       let one : question1 (newTable b) ≡ formerQuestion1 b = same-test _ _ (long-before h) long-enough in
       let two = same-each recordListed fieldsListed same-listed in
       let three = same-each recordInRange recordInRange same-range in
-      let four : formTrees (recordCount (newTable b)) 1 (newTable b) ≡ formerFormTrees (formerCount b) 1 b = rw same-count (form-same (formerCount b) 1 b whole) in
+      let four : formTrees (recordCount (newTable b)) 1 (newTable b) ≡ formTreesBy formerLength (formerCount b) 1 b = rw same-count (form-same (formerCount b) 1 b whole) in
       rw (one, two, three, four, same-tree) refl
 
   -- so the refusal's number is the former one, and an accepted table stays accepted

@@ -9,7 +9,7 @@ use lib.ListN.{drop}
 use lib.Seq.{drop-drop}
 use Rattle.table.specs.Numbers.{mostDepth, recordLength}
 use Rattle.table.specs.Questions.{depth, depthIn}
-use Rattle.table.specs.Table.{encode, encodes, forest}
+use Rattle.table.specs.Table.{encode, encodes, forest, forestBy}
 use Rattle.table.specs.Trees.{Forest, Tree, nil, node, _▸_, _⧺_, records, recordsIn}
 use Rattle.table.specs.Laws.RoundTrip.{Writes, WritesAll, drop-bytes, forest-all}
 use Rattle.table.specs.Laws.NotRefused.{tree-writes}
@@ -147,7 +147,7 @@ sound-writes nil h = tt
 sound-writes (t ▸ g) h = (tree-writes t (h .0 .fair .listed), sound-writes g (h .1))
 
 pub row-back : (g : Forest) → SoundIn g → forest (recordsIn g) (encodes g) ≡ g
-unfolding forest
+unfolding forestBy
 row-back g h =
     let n : recordsIn g ≡ recordsIn g + 0 = omega arith in
     rw n (rw (← append-nil (encodes g)) (forest-all g (sound-writes g h) 0 [] ∙ ⧺-nil g))

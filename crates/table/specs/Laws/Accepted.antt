@@ -13,7 +13,7 @@ use Rattle.table.specs.Numbers.{howManyAddresses, recordLength, mostReco
 use Rattle.table.specs.Trees.{Forest, nil, _▸_, size, records}
 use Rattle.table.specs.Questions.{arity, isAddress, limitInRange, listed, listedIn, nodeInRange}
 use Rattle.table.specs.Bytes.{AreBytes}
-use Rattle.table.specs.Table.{mostFrom, numFrom, kindFrom, limitFrom, firstNode, childByte, field, firstOnes, afterOnes, forest, formTrees, each, top, decode, recordCount}
+use Rattle.table.specs.Table.{afterOnes, childByte, decode, each, eachBy, field, firstNode, firstOnes, forest, forestBy, formTrees, formTreesBy, kindFrom, limitFrom, mostFrom, numFrom, recordCount, top}
 use Rattle.table.specs.Checking.{IsTable, kindListed, limitListed, limitCount, recordListed, recordInRange, question1, question2, question3, question4, question5, question6, question7, questions, refusal}
 use Rattle.table.specs.Laws.RoundTrip.{size-first, size-after, length-encode}
 use Rattle.table.specs.Laws.Canonical.{bytes-drop, encode-decode, listed-parts}
@@ -67,7 +67,7 @@ after-listed (suc n) nil h = tt
 after-listed (suc n) (t ▸ f) h = after-listed n f (both _ _ h .1)
 
 pub forest-listed : (n k : ℕ) (b : List ℕ) → AreBytes b → T (each recordListed n b) → T (each recordInRange n b) → T (formTrees n k b) → T (listedIn (forest n b)) × (size (forest n b) ≡ k)
-unfolding listed forest each formTrees size
+unfolding listed forestBy eachBy formTreesBy size
 forest-listed zero k b h l r t = (tt, sym (eqb→eq k 0 t))
 forest-listed (suc n) zero b h l r t = absurd t
 forest-listed (suc n) (suc k) b h l r t =

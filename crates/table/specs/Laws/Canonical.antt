@@ -12,7 +12,7 @@ use Rattle.booleans.specs.Laws.{&&-both, both}
 use Rattle.table.specs.Numbers.{fill, recordLength}
 use Rattle.table.specs.Trees.{size, Forest, nil, _▸_}
 use Rattle.table.specs.Bytes.{AreBytes, toBytes, fromBytes}
-use Rattle.table.specs.Table.{filler, recordBytes, firstNode, childByte, encodes, firstOnes, forest, formTrees, flag, numFrom, raw, mostField, mostFlags, mostFrom, kindByte, valueNum, kindFrom, loopByte, limitNum, limitFrom, field, each, encode, top, decode, recordCount}
+use Rattle.table.specs.Table.{filler, recordBytes, firstNode, childByte, encodes, firstOnes, forest, formTrees, flag, numFrom, raw, mostField, mostFlags, mostFrom, kindByte, valueNum, kindFrom, loopByte, limitNum, limitFrom, field, each, encode, top, decode, recordCount, eachBy, forestBy, formTreesBy}
 use Rattle.table.specs.Checking.{flagsListed, kindListed, limitListed, recordListed}
 use Rattle.table.specs.Laws.Bytes.{to-from}
 use Rattle.table.specs.Laws.RoundTrip.{size-first, size-after, encodes-split}
@@ -28,7 +28,7 @@ OneWayAll zero b = Unit {0}
 OneWayAll (suc n) b = OneWay b × OneWayAll n (drop recordLength b)
 
 pub encodes-forest : (n k : ℕ) (b : List ℕ) → OneWayAll n b → T (formTrees n k b) → (size (forest n b) ≡ k) × (encodes (forest n b) ≡ take (recordLength * n) b)
-unfolding OneWayAll formTrees forest encodes size
+unfolding OneWayAll formTreesBy forestBy encodes size
 encodes-forest zero k b h t = (sym (eqb→eq k 0 t), refl)
 encodes-forest (suc n) zero b h t = absurd t
 encodes-forest (suc n) (suc k) b h t =
@@ -145,7 +145,7 @@ plain-listed b h l t =
     rw (k .0, k .1, k .2, m .0, m .1, m .2, g, field-back b 4 4 h (omega arith), field-back b 8 8 h (omega arith), field-back b 16 4 h (omega arith), take-record b, take-four b (omega arith), fill-four b l p)
 
 pub plain-all : (n : ℕ) (b : List ℕ) → AreBytes b → recordLength * n ≤ length b → T (each recordListed n b) → OneWayAll n b
-unfolding OneWayAll each
+unfolding OneWayAll eachBy
 plain-all zero b h l t = tt
 plain-all (suc n) b h l t =
     let q = both _ _ t in

@@ -13,7 +13,7 @@ use Rattle.table.specs.Nodes.{Most, Limit, Unlimited, AtMost}
 use Rattle.table.specs.Numbers.{recordLength}
 use Rattle.table.specs.Trees.{Forest, nil, _▸_, Tree, node}
 use Rattle.table.specs.Limits.{limitHolds, everyLimit, everyLimitIn, mostHolds}
-use Rattle.table.specs.Table.{firstNode, childByte, field, firstOnes, afterOnes, forest, each, decode, limitFrom, mostFrom, recordCount, withoutFour}
+use Rattle.table.specs.Table.{afterOnes, childByte, decode, each, eachBy, field, firstNode, firstOnes, forest, forestBy, limitFrom, mostFrom, recordCount, withoutFour}
 use Rattle.table.specs.Questions.{limitInRange, listed, listedIn, mostInRange}
 use Rattle.table.specs.Checking.{IsTable}
 use Rattle.table.specs.Laws.RoundTrip.{whole-forest}
@@ -27,7 +27,7 @@ module _ (p : ℕ → Most → Bool) where
   split-limits (suc n) (t ▸ f) = and-assoc (everyLimit p t) _ _ ∙ ap (λ x. everyLimit p t and x) (split-limits n f)
 
   forest-limits : (n : ℕ) (b : List ℕ) → each (λ r. limitHolds p (firstNode r .limit)) n b ≡ everyLimitIn p (forest n b)
-  unfolding each forest everyLimit
+  unfolding eachBy forestBy everyLimit
   forest-limits zero b = refl
   forest-limits (suc n) b =
       let f = forest n (drop recordLength b) in
@@ -94,7 +94,7 @@ module _ (q : Most → Bool) (plain : (n : ℕ) → q (Most.Plain n) ≡ true) (
 
 -- a test that follows from another at each record
 pub each-follows : (p q : List ℕ → Bool) → ((r : List ℕ) → p r ≡ true → q r ≡ true) → (n : ℕ) (b : List ℕ) → each p n b ≡ true → each q n b ≡ true
-unfolding each
+unfolding eachBy
 each-follows p q f zero b e = refl
 each-follows p q f (suc n) b e =
     let (x, y) = both _ _ (is-T _ e) in

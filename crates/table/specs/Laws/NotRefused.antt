@@ -14,7 +14,7 @@ use Rattle.table.specs.Numbers.{howManyAddresses, mostChildren, wholeRun
 use Rattle.table.specs.Trees.{Tree, node, Forest, nil, _▸_, size, records, recordsIn}
 use Rattle.table.specs.Questions.{timeInRange, countInRange, mostInRange, isAddress, kindInRange, limitInRange, nodeInRange, listed, listedIn, arity, depth, loops, named, weight, Accepted}
 use Rattle.table.specs.Bytes.{toBytes, fromBytes}
-use Rattle.table.specs.Table.{raw, flag, mostField, mostFlags, kindByte, valueNum, loopByte, limitNum, recordBytes, each, encode, encodes, formTrees, decode, recordCount}
+use Rattle.table.specs.Table.{decode, each, eachBy, encode, encodes, flag, formTrees, formTreesBy, kindByte, limitNum, loopByte, mostField, mostFlags, raw, recordBytes, recordCount, valueNum}
 use Rattle.table.specs.Checking.{flagsListed, kindListed, limitListed, recordListed, limitCount, recordInRange, question1, question2, question3, question4, question5, question6, question7, questions, refusal}
 use Rattle.table.specs.Laws.Trees.{some-records}
 use Rattle.table.specs.Laws.RoundTrip.{WritesKind, WritesLimit, WritesNode, Writes, WritesAll, flag-low, flag-high, kind-value, limit-most, head-bytes, drop-bytes, children-bytes, decode-encode, length-encode}
@@ -137,7 +137,7 @@ record-ranged n c r h e =
 -- ---- all records of a tree
 
 each-next : (p : List ℕ → Bool) (k : ℕ) (n : Node) (c : ℕ) (r : List ℕ) → T (p (recordBytes n c ++ r)) → T (each p k r) → T (each p (suc k) (recordBytes n c ++ r))
-unfolding each
+unfolding eachBy
 each-next p k n c r h i = join-and _ _ h (subst (λ x. T (each p k x)) (sym (drop-bytes n c r)) i)
 
 module _ (p : List ℕ → Bool) (h : (n : Node) (c : ℕ) (r : List ℕ) → T (nodeInRange n) → T (arity (n .kind) c) → T (p (recordBytes n c ++ r))) where
@@ -157,7 +157,7 @@ module _ (p : List ℕ → Bool) (h : (n : Node) (c : ℕ) (r : List ℕ) → T 
         rw (add-assoc, append-assoc) (each-tree t a (recordsIn f + m) (encodes f ++ r) (each-forest f b m r e))
 
 form-next : (m k : ℕ) (n : Node) (c : ℕ) (r : List ℕ) → formTrees (suc m) (suc k) (recordBytes n c ++ r) ≡ formTrees m (k + c) r
-unfolding formTrees
+unfolding formTreesBy
 form-next m k n c r = ap₂ (λ x y. formTrees m (k + x) y) (children-bytes n c r) (drop-bytes n c r)
 
 mutual
@@ -180,10 +180,10 @@ count-records t = rw length-encode (omega arith)
 
 whole-each : (p : List ℕ → Bool) → ((n : Node) (c : ℕ) (r : List ℕ) → T (nodeInRange n) → T (arity (n .kind) c) → T (p (recordBytes n c ++ r)))
     → (t : Tree) → T (listed t) → T (each p (recordCount (encode t)) (encode t))
-whole-each p h t l = rw (count-records t) (rw (← append-nil (encode t)) (each-tree p h t l 0 [] (unfold each in tt)))
+whole-each p h t l = rw (count-records t) (rw (← append-nil (encode t)) (each-tree p h t l 0 [] (unfold eachBy in tt)))
 
 pub whole-form : (t : Tree) → T (formTrees (recordCount (encode t)) 1 (encode t))
-whole-form t = rw (count-records t) (rw (← append-nil (encode t)) (subst T (sym (form-tree t 0 0 [])) (unfold formTrees in tt)))
+whole-form t = rw (count-records t) (rw (← append-nil (encode t)) (subst T (sym (form-tree t 0 0 [])) (unfold formTreesBy in tt)))
 
 pub not-refused : (t : Tree) → Accepted t → refusal (encode t) ≡ 0
 unfolding refusal questions question1 question2 question3 question4 question5 question6 question7 Yes

@@ -15,7 +15,7 @@ use Rattle.table.specs.Bytes.{fromBytes}
 use Rattle.table.specs.Numbers.{recordLength, mostChildren}
 use Rattle.table.specs.Questions.{mostInRange}
 use Rattle.table.specs.Checking.{limitCount}
-use Rattle.table.specs.Table.{childByte, each, field, firstNode, formTrees, kindFrom, limitFrom, loopByte, mostFrom, numFrom, recordCount}
+use Rattle.table.specs.Table.{childByte, each, eachBy, field, firstNode, formTrees, formTreesBy, kindFrom, limitFrom, loopByte, mostFrom, numFrom, recordCount}
 
 -- ---- fields
 
@@ -123,7 +123,7 @@ none-passed p b = record { within = omega arith; left = ap (λ n. each p n b) (s
 
 each-step : (p : List ℕ → Bool) (b : List ℕ) (i : ℕ) (r : Bool) → i < recordCount b → Passed p b i → r ≡ p (partAt b i)
     → each p (recordCount b) b ≡ (r and each p (recordCount b - (i + 1)) (drop (recordLength * (i + 1)) b))
-unfolding each
+unfolding eachBy
 each-step p b i r h q e = q .left ∙ rw (next-count _ _ h, e, part-from, ← next-part) refl
 
 pub one-passed : (p : List ℕ → Bool) (b : List ℕ) (i : ℕ) (r : Bool) → i < recordCount b → Passed p b i → r ≡ p (partAt b i) → not r ≡ false → Passed p b (i + 1)
@@ -135,7 +135,7 @@ unfolding _and_
 one-failed p b i r h q e t = each-step p b i r h q e ∙ rw (not-true r t) refl
 
 pub all-passed : (p : List ℕ → Bool) (b : List ℕ) (i : ℕ) → recordCount b ≤ i → Passed p b i → each p (recordCount b) b ≡ true
-unfolding each
+unfolding eachBy
 all-passed p b i h q = q .left ∙ rw (none-left _ _ h) refl
 
 -- ---- a pass over the records that counts the trees still wanted
@@ -149,7 +149,7 @@ pub wants-one : (b : List ℕ) → Wanted b 1 0
 wants-one b = record { within = omega arith; few = omega arith; left = ap (λ n. formTrees n 1 b) (sym (sub-zero _)) }
 
 pub wants-next : (b : List ℕ) (k i c : ℕ) → i < recordCount b → (k ≡ 0 → ⊥) → Wanted b k i → c ≡ childByte (partAt b i) → c < 256 → Wanted b (k - 1 + c) (i + 1)
-unfolding formTrees
+unfolding formTreesBy
 wants-next b zero i c h z w e l = absurd (z refl)
 wants-next b (suc k) i c h z w e l = let less-one : suc k - 1 ≡ k = omega arith in record {
   within = omega arith;
@@ -158,9 +158,9 @@ wants-next b (suc k) i c h z w e l = let less-one : suc k - 1 ≡ k = omega arit
 }
 
 pub wants-none : (b : List ℕ) (k i : ℕ) → i < recordCount b → k ≡ 0 → Wanted b k i → formTrees (recordCount b) 1 b ≡ false
-unfolding formTrees
+unfolding formTreesBy
 wants-none b k i h z w = w .left ∙ rw (next-count _ _ h, z) refl
 
 pub wants-end : (b : List ℕ) (k i : ℕ) → recordCount b ≤ i → Wanted b k i → formTrees (recordCount b) 1 b ≡ eqb k 0
-unfolding formTrees
+unfolding formTreesBy
 wants-end b k i h w = w .left ∙ rw (none-left _ _ h) refl

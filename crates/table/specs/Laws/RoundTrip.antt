@@ -9,7 +9,7 @@ use lib.Seq.{drop-at, drop-drop}
 use Rattle.table.specs.Nodes.{Number, Most, Limit, Unlimited, AtMost, Kind, Block, Sequence, Choice, Loop, Node, Plain, Symbol}
 use Rattle.table.specs.Bytes.{toBytes, fromBytes}
 use Rattle.table.specs.Numbers.{recordLength}
-use Rattle.table.specs.Table.{firstOnes, afterOnes, encodes, raw, flag, numFrom, mostField, mostFlags, mostFrom, kindByte, valueNum, kindFrom, loopByte, limitNum, limitFrom, recordBytes, firstNode, childByte, forest, encode, top, decode, recordCount}
+use Rattle.table.specs.Table.{afterOnes, childByte, decode, encode, encodes, firstNode, firstOnes, flag, forest, forestBy, kindByte, kindFrom, limitFrom, limitNum, loopByte, mostField, mostFlags, mostFrom, numFrom, raw, recordBytes, recordCount, top, valueNum}
 use Rattle.table.specs.Trees.{Forest, nil, _▸_, _⧺_, size, Tree, node, records, recordsIn}
 use Rattle.table.specs.Laws.Bytes.{from-to}
 
@@ -135,7 +135,7 @@ unfoldable mutual
   WritesAll (t ▸ f) = Writes t × WritesAll f
 
 forest-node : (nd : Node) (f g : Forest) (n : ℕ) (r : List ℕ) → WritesNode nd → forest n r ≡ f ⧺ g → forest (suc n) (recordBytes nd (size f) ++ r) ≡ node nd f ▸ g
-unfolding forest
+unfolding forestBy
 forest-node nd f g n r h e = simp (head-bytes, children-bytes, drop-bytes, e, first-⧺, after-⧺, h)
 
 mutual
@@ -159,7 +159,7 @@ mutual
   length-encodes (t ▸ f) = rw (length-append, length-encode t, length-encodes f) (omega arith)
 
 pub whole-forest : (t : Tree) → Writes t → forest (recordCount (encode t)) (encode t) ≡ t ▸ nil
-unfolding forest
+unfolding forestBy
 whole-forest t h =
     let n : recordCount (encode t) ≡ records t + 0 = rw length-encode (omega arith) in
     rw n (rw (← append-nil (encode t)) (forest-tree t h 0 []))
