@@ -2,7 +2,6 @@
 // records it wrote there: 0 where the rule does not fit.
 ghost use mathlib.Core.Path.{_≡_};
 ghost use mathlib.Core.Bool.{false};
-ghost use mathlib.Core.List.{_++_};
 ghost use mathlib.Core.Option.{some};
 ghost use Prim.Native.Nat.{_*_, _+_, _<_, _≤_, max, suc};
 ghost use lib.Dec.{leb};
@@ -11,7 +10,7 @@ ghost use Rattle.table.specs.Checking.{IsTable};
 ghost use Rattle.table.specs.Numbers.{mostChildren, mostTime, recordLength};
 ghost use Rattle.table.specs.Table.{encodes, recordBytes, recordCount};
 ghost use Rattle.table.specs.Trees.{recordsIn};
-ghost use Rattle.writing.specs.Records.{front};
+ghost use Rattle.writing.specs.Records.{Appended};
 ghost use Rattle.simplify.specs.Rules.{gives, isZero, rule2, rule3, rule4, rule5, rule6, rule7, timeOf, timeOfKind};
 ghost use Rattle.subtrees.specs.Parts.{Simplifiable, subtree, treesAt};
 ghost use Rattle.subtrees.specs.Facts.{Extents, Surveyed};
@@ -359,8 +358,7 @@ fn copy_others(
 ) -> usize
     requires { ⌜ Extents (now table) (now extents) ⌝ ∗ ⌜ Standing (now table) start end ⌝ }
     requires { ⌜ recordLength * (at + recordsIn (othersUpTo (now table) start end)) ≤ length (now out) ⌝ }
-    ensures { λ r. ⌜ r ≡ at + recordsIn (othersUpTo (now (table .entry)) start end) ⌝ }
-    ensures { λ r. ⌜ front r (now (out .exit)) ≡ front at (now (out .entry)) ++ encodes (othersUpTo (now (table .entry)) start end) ⌝ }
+    ensures { λ r. ⌜ Appended at (now (out .entry)) (recordsIn (othersUpTo (now (table .entry)) start end)) (encodes (othersUpTo (now (table .entry)) start end)) r (now (out .exit)) ⌝ }
 {
     let mut p = start;
     let mut to = at;

@@ -12,7 +12,7 @@ ghost use Rattle.simplify.specs.Same.{same};
 ghost use Rattle.subtrees.specs.Parts.{subtree, treesAt};
 ghost use Rattle.subtrees.specs.Facts.{Extents, Surveyed};
 ghost use Rattle.rewrite.specs.Wrote.{Wrote, ruleAt};
-ghost use Rattle.rules8and9.specs.Sharing.{RowAppended, PairsAt, RoomFor, fieldsAt, firstsAt, idle, recordsFrom, sameBytes, sameRecords, sharedAt, sharing, topBytes};
+ghost use Rattle.rules8and9.specs.Sharing.{PairsAt, RoomFor, RowAppended, fieldsAt, firstsAt, idle, recordsFrom, sameBytes, sameRecords, sharedAt, sharing, topBytes};
 use subtrees::MARKS;
 use subtrees::NAME;
 use subtrees::REACH;

@@ -1,6 +1,6 @@
 -- A record written out in bytes, each number by its lowest byte first: what no other example or law pins.
 use mathlib.Core.Path.{_≡_, refl}
-use mathlib.Core.List.{List, [], _∷_, _++_}
+use mathlib.Core.List.{List, [], _∷_}
 use Prim.Native.Nat.{ℕ}
 use Rattle.table.specs.Bytes.{toBytes, fromBytes}
 use Rattle.table.specs.Notation.{_addressed_, _/_at_, block}

@@ -127,8 +127,8 @@ afterOnes zero f = f
 afterOnes (suc n) nil = nil
 afterOnes (suc n) (t ▸ f) = afterOnes n f
 
--- the forest that the first n records of b write, of l bytes each and with the node that `first` reads, from the last record to the first: a record takes its
--- children off the front
+-- the forest that the first n records of b write, of l bytes each, read from the last record to the first: `first` reads a record's node, and a record takes
+-- its children off the front
 unfoldable pub forestBy : (l : ℕ) (first : List ℕ → Node) (n : ℕ) → List ℕ → Forest
 forestBy l first zero b = nil
 forestBy l first (suc n) b = let f = forestBy l first n (drop l b) in node (first b) (firstOnes (childByte b) f) ▸ afterOnes (childByte b) f

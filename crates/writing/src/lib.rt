@@ -1,4 +1,4 @@
-// Records written to a buffer: copied from a table, or made of a node and its number of children.
+// Records written to a buffer: copied from a table or from the buffer itself, or made of a node and its number of children.
 ghost use mathlib.Core.Path.{_≡_};
 ghost use mathlib.Core.List.{_++_};
 ghost use Prim.Native.Nat.{_*_, _+_, _-_, _≤_};
@@ -41,7 +41,7 @@ pub fn copy_bytes(from: &[u8], start: usize, n: usize, out: &mut [u8], at: usize
     }
 }
 
-// ---- Records of a table
+// ---- Records copied
 
 // Copies n records from record i on to the buffer's record `at` and on; answers the record after them.
 pub fn copy_records(table: &[u8], i: usize, n: usize, out: &mut [u8], at: usize) -> usize

@@ -2,12 +2,11 @@
 use mathlib.Core.Path.{_≡_, refl, ap, sym, subst, _∙_}
 use mathlib.Core.Bool.{Bool}
 use mathlib.Core.List.{List, _++_}
-use Prim.Native.Nat.{ℕ, zero, suc, _+_, _*_, _≤_, _%_}
+use Prim.Native.Nat.{ℕ, zero, suc, _*_, _≤_, _%_}
 use native.Mathlib.Omega.{arith}
 use lib.Dec.{T, leb→le, eqb, le→leb}
 use lib.ListN.{drop, length, length-append, length-drop}
 use Rattle.booleans.specs.Laws.{both, join-and, same-test}
-use Rattle.booleans.specs.Tests.{_and_}
 use Rattle.table.specs.Asking.{firstNo}
 use Rattle.table.specs.Checking.{fieldsListed, question1, question2, question3, question4, question5, question6, question7, questions, recordInRange, recordListed, refusal}
 use Rattle.table.specs.Numbers.{mostRecords, recordLength}

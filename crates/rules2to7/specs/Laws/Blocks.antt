@@ -28,7 +28,7 @@ use Rattle.subtrees.specs.Laws.Records.{count-at, node-at}
 use Rattle.rules2to7.specs.Blocks.{Parted, Standing, baresAt, keptRecords, merged, noBares, spanning, withChild}
 use Rattle.rules2to7.specs.Children.{any, childAt, offset, wanted}
 use Rattle.rules2to7.specs.Nodes.{Block, Choice, Kind, Node, Plain, Sequence, Unlimited}
-use Rattle.writing.specs.Records.{front, nodeOf, slice}
+use Rattle.writing.specs.Records.{Appended, front, nodeOf, slice}
 use Rattle.rewrite.specs.Wrote.{Wrote, ruleAt}
 use Rattle.rewrite.specs.Laws.Records.{subtree-bytes, ⧺-assoc}
 use Rattle.rules2to7.specs.declared.Bares.{Bares}
@@ -224,7 +224,7 @@ copy-fits b extents x first out w at e p to c l =
     omega (arith, c .place, kept-records (subtree b p) (z .onward .trees), ap (λ g. recordsIn (others g)) (z .are))
 
 pub copy-end : (b first out : List ℕ) (w : Forest) (at e p to : ℕ) → Copying b first out w at e p to → e ≤ p
-    → (to ≡ at + recordsIn (others w)) × (front to out ≡ front at first ++ encodes (others w))
+    → Appended at first (recordsIn (others w)) (encodes (others w)) to out
 unfolding others recordsIn encodes
 copy-end b first out w at e p to c l =
     let z = none-left b p e (c .left) l in
@@ -282,10 +282,10 @@ pub merge-wrote : (b extents : List ℕ) → Extents b extents → (i q c : ℕ)
     → (x m : ℕ) (n : Node) (o₁ o₂ o₃ o₄ o₅ : List ℕ) (r₁ r₂ r₃ r₄ r₅ : ℕ)
     → n ≡ firstNode (drop (recordLength * i) b) → m ≡ childByte (drop (recordLength * i) b) → m < 256
     → (r₁ ≡ 0 + 1) × (front r₁ o₁ ≡ recordBytes n ((m - c + 1) % 256))
-    → (r₂ ≡ r₁ + (q - i - 1)) × (front r₂ o₂ ≡ front r₁ o₁ ++ slice b (i + 1) (q - i - 1))
-    → (r₃ ≡ r₂ + 1) × (front r₃ o₃ ≡ front r₂ o₂ ++ recordBytes (nodeOf (Block (Plain x)) Unlimited 0) 0)
-    → (r₄ ≡ r₃ + recordsIn (others (spanning (treesAt b q) (i + getD extents i 0 - q)))) × (front r₄ o₄ ≡ front r₃ o₃ ++ encodes (others (spanning (treesAt b q) (i + getD extents i 0 - q))))
-    → (r₅ ≡ r₄ + (recordCount b - (i + getD extents i 0))) × (front r₅ o₅ ≡ front r₄ o₄ ++ slice b (i + getD extents i 0) (recordCount b - (i + getD extents i 0)))
+    → Appended r₁ o₁ (q - i - 1) (slice b (i + 1) (q - i - 1)) r₂ o₂
+    → Appended r₂ o₂ 1 (recordBytes (nodeOf (Block (Plain x)) Unlimited 0) 0) r₃ o₃
+    → Appended r₃ o₃ (recordsIn (others (spanning (treesAt b q) (i + getD extents i 0 - q)))) (encodes (others (spanning (treesAt b q) (i + getD extents i 0 - q)))) r₄ o₄
+    → Appended r₄ o₄ (recordCount b - (i + getD extents i 0)) (slice b (i + getD extents i 0) (recordCount b - (i + getD extents i 0))) r₅ o₅
     → Wrote (some (merged x s)) r₅ o₅
 unfolding Wrote
 merge-wrote b extents w i q c l s x m n o₁ o₂ o₃ o₄ o₅ r₁ r₂ r₃ r₄ r₅ d k u e₁ e₂ e₃ e₄ e₅ =

@@ -29,7 +29,7 @@ use Rattle.table.specs.declared.Limit.{Limit}
 use Rattle.table.specs.declared.Limit.the-variants.{Unlimited}
 use Rattle.table.specs.declared.Kind.the-variants.{Sequence, Choice}
 use Rattle.table.specs.declared.Node.{Node}
-use Rattle.rules8and9.specs.Sharing.{RowAppended, PairsAt, RoomFor, firstsAt, pairs, sharedAt, sharing, topBytes}
+use Rattle.rules8and9.specs.Sharing.{PairsAt, RoomFor, RowAppended, firstsAt, pairs, sharedAt, sharing, topBytes}
 use Rattle.writing.specs.Records.{front, nodeOf, slice}
 use Rattle.rewrite.specs.Wrote.{Wrote, ruleAt}
 use Rattle.rewrite.specs.Laws.Records.{some-yes, subtree-bytes, subtree-sound, two-at, unfit-at, wrote-as, zero-is, zero-no}

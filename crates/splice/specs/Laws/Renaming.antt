@@ -22,7 +22,7 @@ use Rattle.table.specs.Laws.NotRefused.{tree-writes, whole-form}
 use Rattle.table.specs.Laws.Reading.{Wanted, name-byte, next-count, next-part, part-from, wants-next, wants-none, wants-one}
 use Rattle.table.specs.Laws.Survey.{around-rest}
 use Rattle.table.specs.Laws.Trees.{some-loops}
-use Rattle.writing.specs.Records.{front, nodeOf, slice}
+use Rattle.writing.specs.Records.{Appended, front, nodeOf, slice}
 use Rattle.splice.specs.Nodes.{AtMost, Block, Choice, Kind, Limit, Loop, Node, Sequence, Unlimited}
 use Rattle.splice.specs.Graft.{rename, renameIn, renamedLimit, renamedName}
 use Rattle.splice.specs.Renaming.{entered, loopRoom, renamedRecord, renamedRecords, renamedTable, stillAround, stack}
@@ -231,7 +231,7 @@ pub enters : (b : List ℕ) (e e' : List ℕ) (w outer d r : ℕ) (n : Node) →
 enters b e e' w outer d r n is s (x, l) = (x ∙ ap₂ (λ (m : Node) (y : List ℕ). entered (m .kind) w y) is s, l)
 
 pub one-renamed : (b e : List ℕ) (w outer d i at r k x : ℕ) (out copy : List ℕ) → stack e d ≡ stillAround w (stack e outer) → recordLength * at ≤ length out
-    → (r ≡ at + 1) × (front r copy ≡ front at out ++ slice b i 1) → k ≡ loopByte (firstNode (drop (recordLength * i) b) .limit) → x ≡ renamedName k d
+    → Appended at out 1 (slice b i 1) r copy → k ≡ loopByte (firstNode (drop (recordLength * i) b) .limit) → x ≡ renamedName k d
     → front (at + 1) (set copy (recordLength * at + 3) x) ≡ front at out ++ renamedRecord (length (stillAround w (stack e outer))) (drop (recordLength * i) b)
 unfolding renamedRecord
 one-renamed b e w outer d i at r k x out copy s h (r-is, f) k-is x-is =
