@@ -75,9 +75,11 @@ impl Terminal {
         command.stdout(stream(Elsewhere::Output));
         command.stderr(stream(Elsewhere::Error));
         let controlling = theirs.as_raw_fd();
-        // SAFETY: both calls may be made between fork and exec.
+        // SAFETY: these calls may be made between fork and exec.
         unsafe {
             command.pre_exec(move || {
+                // Tests that a shell has started in the background ignore interrupts, and would pass that on.
+                libc::signal(libc::SIGINT, libc::SIG_DFL);
                 libc::setsid();
                 libc::ioctl(controlling, libc::TIOCSCTTY, 0);
                 Ok(())
