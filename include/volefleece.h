@@ -35,8 +35,9 @@ typedef struct {
                          no choice, 0 if it is refused */
 } vf_figure_answer;
 
-/* Puts questions 1 to 7, 9, 13 and 10 and quotes a table's tree under 32 values: the figure and the branch that sets it. Writes
-   nothing. */
+/* Puts questions 1 to 7, 9, 13, 14 and 10 and quotes a table's tree under 40 values: the figure and the branch that sets it. Values 0
+   to 31 are the symbols'; of symbols 24 to 31 they are what a block costs at its first pass in a run, and values 32 to 39, none above
+   its first, what it costs at each later one. Writes nothing. */
 vf_figure_answer vf_figure(const uint8_t *table, size_t table_len, const uint64_t *values, size_t values_len);
 
 /* What the list call answers. */
@@ -45,10 +46,9 @@ typedef struct {
     uint64_t pairs;   /* how many pairs were written, 0 if it is refused */
 } vf_list_answer;
 
-/* Puts questions 1 to 9, 13 and 10 and writes the list of a table's tree over the front of out, which holds at least 512
+/* Puts questions 1 to 9, 13, 14 and 10 and writes the list of a table's tree over the front of out, which holds at least 512
    numbers: a value and how often it comes, pair by pair from the largest value down, where 0 says for ever and stands in the
-   last pair alone.
-   Nothing of out past them changes, and nothing at all on a refusal. */
+   last pair alone. Nothing of out past them changes, and nothing at all on a refusal. */
 vf_list_answer vf_list(const uint8_t *table, size_t table_len, const uint64_t *values, size_t values_len, uint64_t *out,
                        size_t out_len);
 
@@ -60,7 +60,7 @@ typedef struct {
     uint64_t finished; /* 1 if no rule fits the written tree, 0 if the allowance is used and a rule fits, or if it is refused */
 } vf_simplified;
 
-/* Puts questions 1 to 8, then 10 with every symbol 0, and writes the table over the front of out after as many steps of
+/* Puts questions 1 to 8, then 10 with every value 0, and writes the table over the front of out after as many steps of
    simplification as the allowance has, or until no rule fits. out is at least as long as the table. Nothing of out past the
    written bytes changes, and nothing at all on a refusal. */
 vf_simplified vf_simplify(const uint8_t *table, size_t table_len, uint64_t allowance, uint8_t *out, size_t out_len);
@@ -74,9 +74,9 @@ typedef struct {
 /* Writes the host's table over the front of out with the sent table in place of every block whose time is that symbol: a loop of
    bound 1 with the block's limit and address, the sent table as its body and a block of time 0 and address 0 as its exit. The sent
    table's whole-run limits then name that loop. Puts questions 1 to 7 to the host, then to the sent table (a refusal 1 to 7 is the
-   sent table's where vf_check accepts the host); then 11, the symbol is 16 to 31 and the sent table does not use it; 12, the result is
-   at most 12,288 bytes and passes questions 5 and 7; and 8, out is at least as long as the result. Nothing of out past the written
-   bytes changes, and nothing at all on a refusal. */
+   sent table's where vf_check accepts the host); then 11, the symbol is 16 to 23 and the sent table uses neither it nor one of 24 to
+   31; 12, the result is at most 12,288 bytes and passes questions 5 and 7; and 8, out is at least as long as the result. Nothing of
+   out past the written bytes changes, and nothing at all on a refusal. */
 vf_grafted vf_graft(const uint8_t *host, size_t host_len, const uint8_t *sent, size_t sent_len, uint64_t symbol, uint8_t *out,
                     size_t out_len);
 
@@ -86,11 +86,12 @@ typedef struct {
     uint64_t length;  /* how many bytes were written, 0 if it is refused */
 } vf_converted;
 
-/* Former tables had records of 16 bytes, without an address. Writes the table of a former one over the front of out: each record
-   with address 0 and the four bytes of 255 behind it, so that the table is half as long again. Puts question 1 as it was, the length
-   is a multiple of 16 from 16 to 8,192; and 8, out is at least as long as the result. Nothing else is asked: every byte of the former
-   records is kept, and checking, the figure and the list answer for the written table what they did for the former one. Nothing of
-   out past the written bytes changes, and nothing at all on a refusal. */
+/* Former tables had records of 16 bytes, without an address, and no symbol had two values. Writes the table of a former one over the
+   front of out: each record with address 0 and the four bytes of 255 behind it, so that the table is half as long again. Puts
+   question 1 as it was, the length is a multiple of 16 from 16 to 8,192; and 8, out is at least as long as the result. Nothing else
+   is asked: every byte of the former records is kept. Where question 7, which counts symbols 24 to 31 now, passes the written table,
+   checking, the figure and the list answer for it what they did for the former one, each later value being equal to its first.
+   Nothing of out past the written bytes changes, and nothing at all on a refusal. */
 vf_converted vf_convert(const uint8_t *old_table, size_t old_len, uint8_t *out, size_t out_len);
 
 #ifdef __cplusplus

@@ -1,10 +1,10 @@
 // Runs document 01's cases that are not starred, L, M and N, and prints what the library answers. data/ holds their tables; an absent one is empty.
 use quoting::Checked;
 use quoting::Quote;
+use table::HOW_MANY_VALUES;
 use table::MOST_RECORDS;
 use table::RECORD_LENGTH;
 use text::LONGEST_LINE;
-use values::HOW_MANY_VALUES;
 ghost use Prim.Native.Nat.{_+_, _≤_};
 ghost use lib.ListN.{length};
 ghost use Rattle.text.specs.Texts.{longestLine, mostDigits};
@@ -38,7 +38,7 @@ fn say_figure(name: &[u8], figure: u64, branch: u64)
     text::say(&line[..n]);
 }
 
-// The figure of a case's table, with every symbol 0.
+// The figure of a case's table, with every value 0.
 fn quote(path: &[u8])
     requires { ⌜ length (now path) ≤ 32 ⌝ }
 {

@@ -1,10 +1,11 @@
 -- Document 01, "Simplification": closed and symbol-free subtrees. They stand here because a closed tree's list is a constant.
-use mathlib.Core.Bool.{Bool, true, false}
+use mathlib.Core.Bool.{Bool, true, false, not}
 use Prim.Native.Nat.{ℕ}
 use lib.Dec.{leb, ltb}
 use Rattle.evaluate.specs.Nodes.{Limit, Unlimited, AtMost, Kind, Most, Number, Plain, Symbol, Block, Sequence, Choice, Loop}
 use Rattle.booleans.specs.Tests.{_and_}
 use Rattle.table.specs.Numbers.{wholeRun}
+use Rattle.table.specs.Questions.{pairedBlock}
 use Rattle.table.specs.Trees.{Tree, node, Forest, nil, _▸_, rest, around}
 
 -- a limit names one of the d nearest loops
@@ -13,10 +14,11 @@ stays Unlimited d = true
 stays (AtMost k m) d = leb 1 k and leb k d and ltb k wholeRun
 
 -- No limit names the whole run or a loop outside the subtree, its own top included: closed t 0.
+-- And no block has a paired symbol: its first pass in the run costs more, so it stands as a limit on the whole run does.
 -- The d nearest loops around it may be named too: closed t 1, of a loop's body, sets limits that name that loop aside.
 unfoldable mutual
   pub closed : Tree → ℕ → Bool
-  closed (node n f) d = stays (n .limit) d and closedIn (n .kind) f d
+  closed (node n f) d = stays (n .limit) d and not (pairedBlock (n .kind)) and closedIn (n .kind) f d
 
   pub closedIn : Kind → Forest → ℕ → Bool
   closedIn k nil d = true

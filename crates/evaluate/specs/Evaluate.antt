@@ -1,17 +1,18 @@
 -- Document 01, "Evaluation": a node's value is an endless list that never rises, with the loop it names.
 use mathlib.Core.Bool.{cond, Bool, true}
 use mathlib.Core.List.{List}
-use Prim.Native.Nat.{ℕ, min, _-_}
+use Prim.Native.Nat.{ℕ, zero, suc, min, _+_, _-_}
 use lib.Dec.{leb}
 use lib.ListN.{getD}
 use Rattle.evaluate.specs.Nodes.{Number, Plain, Symbol, Most, Limit, Unlimited, AtMost, Kind, Block, Sequence, Choice, Loop}
 use Rattle.booleans.specs.Tests.{_and_}
-use Rattle.table.specs.Numbers.{wholeRun, mostTime}
+use Rattle.table.specs.Numbers.{wholeRun, mostTime, laterPlace}
+use Rattle.table.specs.Questions.{paired}
 use Rattle.table.specs.Trees.{Tree, node, Forest, nil, _▸_, rest}
 use Rattle.triangular.specs.Triangular.{triangular}
 use Rattle.lists.specs.Streams.{Stream, cap, const, group, add, merge, holder}
 
--- what the symbols stand for
+-- what a desk's values are, by their numbers
 abbrev pub Values : Type 0
 Values = ℕ → ℕ
 
@@ -29,6 +30,12 @@ unfoldable pub allowed : Values → Most → ℕ
 allowed v (Most.Plain n) = n
 allowed v (Most.Symbol k) = v k
 allowed v (Most.Triangular k) = triangular (v k)
+
+-- What a time comes to at the later passes of its block in a run (document 02, CR 7). The later value of a paired symbol stands so many places after its first.
+-- Question 14 keeps it to the first, so that the list never rises; one above it would count as the first.
+unfoldable pub later : Values → Number → ℕ
+later v (Plain n) = n
+later v (Symbol k) = cond (paired (Symbol k)) (min (v k) (v (k + laterPlace))) (v k)
 
 -- ---- the loop that a list names: 1 and on the loops around the node, counted outward, and 255 the whole run, so that the inner of two is the smaller
 
@@ -81,9 +88,15 @@ join Sequence f g = add f g
 join Choice f g = merge f g
 join (Loop n) f g = add f g
 
--- what the children's lists are joined to: a block's list repeats its time; 0 changes no sum and no choice
+-- a once, and b for ever
+unfoldable pub onceThen : ℕ → ℕ → Stream
+onceThen a b zero = a
+onceThen a b (suc i) = b
+
+-- what the children's lists are joined to: a block's list is its first value, then its later one, which is the same unless its symbol is paired; 0 changes no
+-- sum and no choice
 unfoldable pub start : Values → Kind → Stream
-start v (Block t) = const (amount v t)
+start v (Block t) = onceThen (amount v t) (later v t)
 start v Sequence = const 0
 start v Choice = const 0
 start v (Loop n) = const 0
@@ -132,6 +145,6 @@ unfoldable mutual
   fitsIn v nil = true
   fitsIn v (t ▸ f) = fits v t and fitsIn v f
 
--- question 10 of simplifying puts every symbol 0
+-- question 10 of simplifying puts every value 0
 abbrev pub zeros : Values
 zeros k = 0

@@ -6,13 +6,13 @@ use mathlib.Core.List.{List}
 use Prim.Native.Nat.{ℕ, _+_, min, _*_, _<_, zero, suc}
 use lib.Dec.{eqb, leb, ltb}
 use lib.ListN.{drop, length}
-use Rattle.table.specs.Numbers.{wholeRun, mostTime, mostWeight, mostCount, recordLength, howManySymbols}
+use Rattle.table.specs.Numbers.{wholeRun, mostTime, mostWeight, mostCount, recordLength, howManySymbols, howManyValues}
 use Rattle.table.specs.Table.{firstNode, childByte}
 use Rattle.table.specs.Trees.{rest}
 use Rattle.lists.specs.Operations.{addPairs, mergePairs, groupPairs, first, capPairs}
-use Rattle.lists.specs.Pairs.{Pairs, ever, top, width}
-use Rattle.evaluate.specs.Nodes.{Kind, Block, Sequence, Choice, Loop, Limit, Unlimited, AtMost, Most}
-use Rattle.evaluate.specs.Evaluate.{outward, Values, allowed, amount, noBranch}
+use Rattle.lists.specs.Pairs.{Pairs, ever, inFront, top, width}
+use Rattle.evaluate.specs.Nodes.{Kind, Block, Sequence, Choice, Loop, Limit, Unlimited, AtMost, Most, Number}
+use Rattle.evaluate.specs.Evaluate.{outward, Values, allowed, amount, later, noBranch}
 
 -- what a walk finds of a tree, or of a node's children so far: the pairs of the list, the loop it names, how many records, which child of a choice holds the
 -- largest first member, and whether question 10 says yes
@@ -86,16 +86,20 @@ evaluateMore v f k i (suc n) b s =
     andThen (goneRound v k c) (λ d.
     andThen (joined k i s d) (λ e. evaluateMore v f (rest k) (suc i) n b e)))
 
+-- a block's first value, then its later one
+unfoldable pub timePairs : Values → Number → Pairs
+timePairs v t = inFront (amount v t) (ever (later v t))
+
 -- a node of this kind and its children, before its own limit; a block has none
 unfoldable pub evaluateBelow : Values → (List ℕ → Found) → Kind → ℕ → List ℕ → Found
-evaluateBelow v f (Block t) n b = checked (ever (amount v t)) wholeRun 0 noBranch
+evaluateBelow v f (Block t) n b = checked (timePairs v t) wholeRun 0 noBranch
 evaluateBelow v f Sequence n b = evaluateMore v f Sequence 0 n b noneYet
 evaluateBelow v f Choice n b = evaluateMore v f Choice 0 n b noneYet
 evaluateBelow v f (Loop m) n b = evaluateMore v f (Loop m) 0 n b noneYet
 
--- The walk is lent the values of all symbols and, behind them, their triangular numbers. That of symbol k, or 0 past the symbols:
+-- The walk is lent all values and, behind them, the triangular numbers of those of symbols. That of symbol k, or 0 past the symbols:
 unfoldable pub triangleIn : Values → ℕ → ℕ
-triangleIn u k = cond (ltb k howManySymbols) (u (howManySymbols + k)) 0
+triangleIn u k = cond (ltb k howManySymbols) (u (howManyValues + k)) 0
 
 -- what a limit comes to, by what is lent
 unfoldable pub looked : Values → Most → ℕ
@@ -119,9 +123,9 @@ evaluateNode v (suc h) b =
     (andThen (evaluateBelow v (evaluateNode v h) (firstNode b .kind) (childByte b) (drop recordLength b)) (limited v (firstNode b .limit)))
     unfit
 
--- What is lent to the walk says what the values v say: u gives each symbol what v gives it,
+-- What is lent to the walk says what the values v say: u has each value that v has,
 abbrev pub Agree : (u v : Values) → Type 0
-Agree u v = (k : ℕ) → k < howManySymbols → u k ≡ v k
+Agree u v = (k : ℕ) → k < howManyValues → u k ≡ v k
 
 -- and a limit comes to the same.
 unfoldable pub alike : (u v : Values) → Most → Bool

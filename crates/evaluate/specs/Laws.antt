@@ -1,6 +1,7 @@
 -- Laws, in the order in which they lean on each other.
 pub mod Addresses
 pub mod Amounts
+pub mod Times
 pub mod Kinds
 pub mod Joins
 pub mod Monotone

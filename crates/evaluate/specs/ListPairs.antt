@@ -3,6 +3,7 @@ use mathlib.Core.Bool.{cond}
 use Prim.Native.Nat.{ℕ, _+_}
 use lib.Dec.{leb}
 use Rattle.evaluate.specs.Nodes.{Limit, Unlimited, AtMost, Kind, Block, Sequence, Choice, Loop}
+use Rattle.table.specs.Questions.{pairedBlock}
 use Rattle.table.specs.Trees.{Tree, node, Forest, nil, _▸_, rest}
 use Rattle.lists.specs.Pairs.{Pairs, pairs}
 use Rattle.evaluate.specs.Evaluate.{Values, name, list, allowed}
@@ -23,7 +24,7 @@ unfoldable mutual
   place v (node n f) = placeOf v (n .limit) (placeIn v (n .kind) f)
 
   pub placeIn : Values → Kind → Forest → ℕ
-  placeIn v k nil = 0
+  placeIn v k nil = cond (pairedBlock k) 1 0
   placeIn v k (t ▸ f) = turned k (name t) (place v t) + placeIn v (rest k) f
 
 -- the pairs of a tree's list

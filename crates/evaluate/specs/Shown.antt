@@ -37,6 +37,12 @@ pub record Ready (r : Valued) (a : List ℕ) : Type 0 where
   pub few : r .records ≤ mostRecords
   pub room : Roomy a
 
+-- the answer r, of a node before its own limit, is in range for that limit
+pub record Limitable (r : Valued) (a : List ℕ) : Type 0 where
+  pub proper : Proper (listIn a (r .len))
+  pub few : r .records ≤ mostRecords
+  pub room : Roomy a
+
 -- the children so far, s, and the next one, c, number i, as a node of kind k takes it
 unfoldable pub withNext : Values → Kind → (i : ℕ) → Found → Found → Found
 withNext v k i s c = andThen c (λ c. andThen (goneRound v k c) (joined k i s))

@@ -1,18 +1,22 @@
 // The evaluator's steps (document 01, "Evaluation"), with lists as pairs in lent arrays.
 ghost use mathlib.Core.Path.{_≡_};
 ghost use mathlib.Core.Bool.{true};
-ghost use Prim.Native.Nat.{min};
+ghost use Prim.Native.Nat.{_≤_, min};
 ghost use lib.ListN.{getD};
+ghost use Rattle.table.specs.Numbers.{wholeRun};
 ghost use Rattle.table.specs.Trees.{rest};
 ghost use Rattle.lists.specs.Pairs.{ever};
 ghost use Rattle.lists.specs.Reading.{Addable, Is, Mergeable, Proper, listIn, pairsOf};
-ghost use Rattle.evaluate.specs.Evaluate.{amount, outward, valuesOf};
-ghost use Rattle.evaluate.specs.Evaluator.{andThen, checked, goneRound, joinPairs, joined, limited, looked, looped, nextHolder, triangleIn};
-ghost use Rattle.evaluate.specs.Shown.{Ready, Roomy, Shows, foundIn, withNext};
+ghost use Rattle.evaluate.specs.Evaluate.{amount, later, noBranch, outward, valuesOf};
+ghost use Rattle.evaluate.specs.Evaluator.{andThen, checked, goneRound, joinPairs, joined, limited, looked, looped, nextHolder, timePairs, triangleIn};
+ghost use Rattle.evaluate.specs.Shown.{Limitable, Ready, Roomy, Shows, foundIn, withNext};
 use lists::List;
 use lists::MOST_PAIRS;
+use table::FIRST_PAIRED_SYMBOL;
 use table::HOW_MANY_SYMBOLS;
+use table::HOW_MANY_VALUES;
 use table::Kind;
+use table::LATER_PLACE;
 use table::Limit;
 use table::MOST_COUNT;
 use table::MOST_TIME;
@@ -67,12 +71,42 @@ pub fn amount_of(number: Number, values: &[u64]) -> u64
     }
 }
 
+// A symbol's value at the later passes of its block: of a paired symbol the lower of its two, which is the later one where question 14 says yes.
+fn later_value(symbol: u64, values: &[u64]) -> u64
+    ensures { λ r. ⌜ r ≡ later (valuesOf (now (values .entry))) (Number.Symbol symbol) ⌝ }
+{
+    let first = value_of(symbol, values);
+    if symbol < FIRST_PAIRED_SYMBOL {
+        return first;
+    }
+    if HOW_MANY_SYMBOLS <= symbol {
+        return first;
+    }
+    lower_of(first, value_of(symbol + LATER_PLACE as u64, values))
+}
+
+fn lower_of(a: u64, b: u64) -> u64
+    ensures { λ r. ⌜ r ≡ min a b ⌝ }
+{
+    if a <= b { a } else { b }
+}
+
+// What a time comes to at the later passes of its block.
+fn later_of(time: Number, values: &[u64]) -> u64
+    ensures { λ r. ⌜ r ≡ later (valuesOf (now (values .entry))) time ⌝ }
+{
+    match time {
+        Number::Plain(n) => n,
+        Number::Symbol(s) => later_value(s, values),
+    }
+}
+
 // The triangular number of a symbol, which stands behind the values.
 fn triangle_of(symbol: u64, values: &[u64]) -> u64
     ensures { λ r. ⌜ r ≡ triangleIn (valuesOf (now (values .entry))) symbol ⌝ }
 {
     if symbol < HOW_MANY_SYMBOLS {
-        value_of(HOW_MANY_SYMBOLS + symbol, values)
+        value_of(HOW_MANY_VALUES as u64 + symbol, values)
     } else {
         0
     }
@@ -146,6 +180,19 @@ pub fn repeat_in(value: u64, named: u8, records: usize, branch: usize, out: &mut
 {
     let len = List::constant(value).store(out);
     check_top(out, len, named, records, branch)
+}
+
+// A block's list: its value for ever or, of a paired symbol, its first value, then its later one for ever.
+pub fn block_in(time: Number, values: &[u64], out: &mut Pairs) -> Valued
+    requires { ⌜ Roomy (now out) ⌝ }
+    ensures { λ r. ⌜ Shows r (now (out .exit)) (checked (timePairs (valuesOf (now (values .entry))) time) wholeRun 0 noBranch) ⌝ }
+{
+    let first = amount_of(time, values);
+    if !table::is_paired(time) {
+        return repeat_in(first, WHOLE_RUN, 0, NO_BRANCH, out);
+    }
+    let len = lists::once_then(first, later_of(time, values), out);
+    check_top(out, len, WHOLE_RUN, 0, NO_BRANCH)
 }
 
 // A loop over its body: the first sum for ever where the body names this very loop, else groups, which may double the pairs.
@@ -272,7 +319,7 @@ pub fn take_child(
 
 // A node's record, and its own limit, which may add a pair to the list below.
 pub fn limit_in(limit: Limit, values: &[u64], below: Valued, list: &mut Pairs) -> Valued
-    requires { ⌜ (below .fits ≡ true → Ready below (now list)) ⌝ ∗ ⌜ Roomy (now list) ⌝ }
+    requires { ⌜ (below .fits ≡ true → Limitable below (now list)) ⌝ ∗ ⌜ Roomy (now list) ⌝ }
     ensures { λ r. ⌜ Shows r (now (list .exit)) (andThen (foundIn below (now (list .entry))) (limited (valuesOf (now (values .entry))) limit)) ⌝ }
 {
     if !below.fits {

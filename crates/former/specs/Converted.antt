@@ -2,13 +2,14 @@
 use mathlib.Core.Path.{_≡_}
 use mathlib.Core.List.{List, [], _∷_, _++_}
 use Prim.Native.Nat.{ℕ, zero, suc, _*_, _%_}
-use lib.Dec.{leb}
+use lib.Dec.{T, leb}
 use lib.ListN.{drop, length, take}
 use Rattle.table.specs.Asking.{_asks_, byRefusal, firstNo}
-use Rattle.table.specs.Checking.{refusal}
+use Rattle.table.specs.Checking.{question7, refusal}
 use Rattle.table.specs.Numbers.{recordLength}
+use Rattle.table.specs.Questions.{unpaired}
 use Rattle.table.specs.Table.{decode, noAddress}
-use Rattle.former.specs.Former.{formerCount, formerLength, formerQuestion1, formerRefusal, formerTree}
+use Rattle.former.specs.Former.{formerCount, formerLength, formerQuestion1, formerQuestions, formerRefusal, formerTree}
 use Rattle.former.specs.declared.Conversion.{Conversion}
 
 -- the record of b's first one
@@ -45,9 +46,11 @@ unfoldable pub conversionLength : Conversion → ℕ
 conversionLength (Conversion.Written n) = n
 conversionLength (Conversion.Refused q) = 0
 
--- what is promised: of whole records, questions 1 to 7 say of the new table what they said of the former one, so that an accepted one stays accepted; its tree
--- is the former one's, with address 0; and a former table that was accepted does not pass as a table itself
+-- What is promised. Of whole records, questions 1 to 7 say of the new table what they said of the former one, but that a block of a paired symbol weighs now:
+-- an accepted one stays accepted, or is refused 7, and the latter only with paired symbols. Its tree is the former one's, with address 0. A former table that was
+-- accepted does not pass as a table itself.
 pub record Converts (b : List ℕ) : Type 0 where
-  pub sameRefusal : length b % formerLength ≡ 0 → refusal (newTable b) ≡ formerRefusal b
+  pub sameRefusal : length b % formerLength ≡ 0 → refusal (newTable b) ≡ firstNo (formerQuestions b ++ 7 asks question7 (newTable b) ∷ [])
+  pub unpairedRefusal : length b % formerLength ≡ 0 → T (unpaired (formerTree b)) → refusal (newTable b) ≡ formerRefusal b
   pub sameTree : decode (newTable b) ≡ formerTree b
   pub apart : formerRefusal b ≡ 0 → refusal b ≡ 0 → ⊥

@@ -1,20 +1,21 @@
--- Document 02, CR 1: what grafting answers for any input, and the bytes that it writes.
+-- Document 02, CR 1 and 7: what grafting answers for any input, and the bytes that it writes.
 use mathlib.Core.Bool.{Bool, not}
 use mathlib.Core.List.{List, [], _∷_, _++_}
 use Prim.Native.Nat.{ℕ}
 use lib.Dec.{leb, ltb}
 use lib.ListN.{length}
 use Rattle.booleans.specs.Tests.{_and_}
-use Rattle.table.specs.Numbers.{firstTimeSymbol, howManySymbols}
+use Rattle.table.specs.Numbers.{firstPairedSymbol, firstTimeSymbol}
+use Rattle.table.specs.Questions.{unpaired}
 use Rattle.table.specs.Table.{decode, encode}
 use Rattle.table.specs.Asking.{Question, _asks_, byRefusal, firstNo}
 use Rattle.table.specs.Checking.{question1, question5, question7, questions}
 use Rattle.splice.specs.Graft.{graft, uses}
 use Rattle.graft.specs.declared.Grafted.{Grafted}
 
--- 11. the replaced symbol is 16 to 31, and the sent table does not use it
+-- 11. the replaced symbol is one of 16 to 31 and not paired, so that it is 16 to 23, and the sent table uses neither it nor a paired one
 unfoldable pub question11 : (sent : List ℕ) (symbol : ℕ) → Bool
-question11 b s = leb firstTimeSymbol s and ltb s howManySymbols and not (uses s (decode b))
+question11 b s = leb firstTimeSymbol s and ltb s firstPairedSymbol and not (uses s (decode b)) and unpaired (decode b)
 
 -- the result: the table of the grafted tree
 unfoldable pub graftTable : (host sent : List ℕ) (symbol : ℕ) → List ℕ

@@ -8,8 +8,8 @@ ghost use Rattle.writing.specs.Over.{over};
 ghost use Rattle.graft.specs.Answers.{graftAnswer, graftWrites, question11};
 ghost use Rattle.graft.specs.Promises.{GraftPromises};
 ghost use Rattle.graft.specs.Making.{Allowed, GraftMade};
+use table::FIRST_PAIRED_SYMBOL;
 use table::FIRST_TIME_SYMBOL;
-use table::HOW_MANY_SYMBOLS;
 use table::MOST_RECORDS;
 use table::RECORD_LENGTH;
 
@@ -19,13 +19,13 @@ pub enum Grafted {
     Refused(u64),
 }
 
-// Question 11: is the symbol 16 to 31, and not used by the sent table?
+// Question 11: is the symbol 16 to 23, a time's and not paired, and does the sent table use neither it nor a paired one?
 fn symbol_allowed(sent: &[u8], symbol: u64) -> bool
     requires { ⌜ IsTable (now sent) ⌝ }
     ensures { λ r. ⌜ r ≡ question11 (now (sent .entry)) symbol ⌝ }
 {
-    let count = splice::count_occurrences(sent, symbol);
-    (FIRST_TIME_SYMBOL <= symbol) & (symbol < HOW_MANY_SYMBOLS) & (count == 0)
+    let sendable = splice::sendable(sent, symbol);
+    (FIRST_TIME_SYMBOL <= symbol) & (symbol < FIRST_PAIRED_SYMBOL) & sendable
 }
 
 // Makes the grafted table at the front of `work`; answers how many records it has, or 0 where they are more than a table may have.

@@ -5,10 +5,15 @@ use Prim.Native.Nat.{_*_, _+_, _-_, _<_, _≤_, suc, zero, ℕ}
 use native.Mathlib.Nat.{add-zero, zero-add}
 use native.Mathlib.Numerals.{add-one}
 use native.Mathlib.Omega.{arith}
+use lib.Dec.{eqb, eqb→eq}
 use lib.ListN.{length, length-set, set}
 use lib.Seq.{getD-set-other, getD-set-same}
-use Rattle.lists.specs.Pairs.{Canonical, Pairs, ever, run}
+use borrow.Author.Tests.{eqb-false}
+use Rattle.booleans.specs.Laws.{by-cond}
+use Rattle.lists.specs.Pairs.{Canonical, Pairs, ever, inFront, run, top}
 use Rattle.lists.specs.Operations.{lead, some}
+use Rattle.lists.specs.Laws.Group.{some-le-one, some-none, some-one}
+use Rattle.lists.specs.Laws.Pairs.{in-front}
 use Rattle.lists.specs.Reading.{Is, countAt, listIn, mostPairs, pairsOf, runsThen, stored, valueAt}
 
 -- ---- reading what was stored
@@ -90,3 +95,19 @@ put-last ps n v p l e q h = record {
 
     same : pairsOf (listIn (stored ps n v 0) (n + 1)) ≡ p
     same = rw (e₁, value-stored ps n v 0 l e) (then-stored ps n n v 0 (ever v) (omega arith) ∙ q)
+
+-- one value once, and then another
+pub lead-front : (a b : ℕ) → b ≤ a → lead a (some (a - b)) (ever b) ≡ inFront a (ever b)
+unfolding inFront
+lead-front a b l =
+    by-cond (λ p. lead a (some (a - b)) (ever b) ≡ p) (eqb a b) _ _
+    (λ t. let q : a ≡ b = eqb→eq a b t in rw (some-none (a - b) (omega arith)) (unfold lead in refl))
+    (λ e. rw (some-one (a - b) (omega (arith, eqb-false a b e))) (unfold lead in refl))
+
+pub once-stored : (ps : List ℕ) (a b k : ℕ) → b ≤ a → k ≡ some (a - b) → length ps ≡ 2 * mostPairs → Is (listIn (stored (stored ps 0 a 1) k b 0) (k + 1)) (inFront a (ever b))
+unfolding runsThen Canonical top
+once-stored ps a b k l q e =
+    let s : k ≤ 1 = omega (arith, some-le-one (a - b)) in
+    put-last (stored ps 0 a 1) k b _ (omega arith) (length-stored ps 0 a 1 ∙ e)
+    (rw zero-add at (put-once ps 0 a k (ever b) s (omega arith) e) ∙ ap (λ n. lead a n (ever b)) q ∙ lead-front a b l)
+    (in-front a (ever b) tt l .canonical)

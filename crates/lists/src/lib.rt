@@ -2,7 +2,7 @@
 ghost use mathlib.Core.Path.{_≡_};
 ghost use Prim.Native.Nat.{_*_, _+_, _<_, _^_, _≤_, suc};
 ghost use lib.ListN.{length};
-ghost use Rattle.lists.specs.Pairs.{ever};
+ghost use Rattle.lists.specs.Pairs.{ever, inFront};
 ghost use Rattle.lists.specs.Operations.{addPairs, capPairs, first, joined, mergePairs, shorter, some};
 ghost use Rattle.lists.specs.Reading.{
   Addable,
@@ -260,6 +260,17 @@ pub fn some_of(x: u64) -> usize
     ensures { λ r. ⌜ r ≡ some x ⌝ }
 {
     if x == 0 { 0 } else { 1 }
+}
+
+// One value once, and another, which is not above it, for ever: a single pair where they are the same.
+pub fn once_then(first: u64, later: u64, out: &mut Numbers) -> usize
+    requires { ⌜ later ≤ first ⌝ ∗ ⌜ length (now out) ≡ 2 * mostPairs ⌝ }
+    ensures { λ r. ⌜ Is (listIn (now (out .exit)) r) (inFront first (ever later)) ⌝ }
+{
+    let k = some_of(first - later);
+    put_pair(out, 0, first, 1);
+    put_pair(out, k, later, 0);
+    k + 1
 }
 
 // Does a pair of count c end before the limit?

@@ -29,7 +29,7 @@ unfoldable pub checkedRecords : Checked → ℕ
 checkedRecords (Checked.Accepted n) = n
 checkedRecords (Checked.Refused q) = 0
 
--- ---- the figure call: questions 1 to 7, 9, 13 and 10
+-- ---- the figure call: questions 1 to 7, 9, 13, 14 and 10
 
 -- what is asked of an accepted table with a desk's values: 10 is `fits`
 unfoldable pub quoteQuestions : (table values : List ℕ) → List Question
@@ -58,7 +58,7 @@ unfoldable pub quotedBranch : Quote → ℕ
 quotedBranch (Quote.Figure x c) = c
 quotedBranch (Quote.Refused q) = 0
 
--- ---- the list call: questions 1 to 9, 13 and 10, of which 8 asks the output buffer for 512 numbers
+-- ---- the list call: questions 1 to 9, 13, 14 and 10, of which 8 asks the output buffer for 512 numbers
 
 unfoldable pub listRefusal : (table values out : List ℕ) → ℕ
 listRefusal b vs out = firstNo (questions b ++ 8 asks leb listRoom (length out) ∷ quoteQuestions b vs)

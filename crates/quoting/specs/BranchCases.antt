@@ -12,7 +12,7 @@ use Rattle.quoting.specs.Cases.{computed, isQuote}
 
 -- the figure x with branch c, where symbol 16 is 9 and the others 0
 pub sets : Tree → (x c : ℕ) → Bool
-sets t x c = isQuote x c (figureAnswer (encode t) (replicate 16 0 ++ 9 ∷ replicate 15 0))
+sets t x c = isQuote x c (figureAnswer (encode t) (replicate 16 0 ++ 9 ∷ replicate 23 0))
 
 pub branches : List Bool
 branches =

@@ -6,5 +6,6 @@ pub mod Lent
 pub mod Cases
 pub mod BranchCases
 pub mod Triangles
+pub mod PairedCases
 -- What is proved of them.
 pub mod Laws

@@ -2,15 +2,18 @@
 use mathlib.Core.Path.{_≡_}
 use mathlib.Core.Bool.{Bool, true}
 use mathlib.Core.List.{List}
-use Prim.Native.Nat.{ℕ, _*_, _≤_, suc}
+use Prim.Native.Nat.{ℕ, _+_, _*_, _≤_, suc}
 use lib.Dec.{T, eqb}
 use lib.ListN.{take}
 use Rattle.table.specs.Limits.{everyMost}
+use Rattle.table.specs.Numbers.{laterPlace}
+use Rattle.table.specs.Questions.{pairedSymbol}
 use Rattle.table.specs.Trees.{Tree}
 use Rattle.table.specs.Table.{decode}
 use Rattle.table.specs.declared.Most.{Most}
+use Rattle.table.specs.declared.Number.the-variants.{Symbol}
 use Rattle.triangular.specs.Triangular.{rule}
-use Rattle.evaluate.specs.Evaluate.{Values, allowed, list, valuesOf}
+use Rattle.evaluate.specs.Evaluate.{Values, allowed, later, list, valuesOf}
 use Rattle.runs.specs.Runs.{Pass, Run, Costs, cost, limitFree}
 use Rattle.lists.specs.Pairs.{ArePairs, Pairs, numbers, width}
 use Rattle.quoting.specs.declared.Listed.{Listed}
@@ -31,6 +34,8 @@ pub record Promised (v : Values) (t : Tree) (x : ℕ) : Type 0 where
   pub reached : T (limitFree t) → Costs v t x
   -- each limit under flag 4 comes to document 02's number
   pub ruled : T (everyMost (byRule v) t)
+  -- the later passes of a block with a paired symbol cost the later value itself, and not a lower one
+  pub laters : (s : ℕ) → T (pairedSymbol s) → later v (Symbol s) ≡ v (s + laterPlace)
 
 -- an answer that is no refusal promises this of its figure
 unfoldable pub Promises : (table values : List ℕ) → Quote → Type 0

@@ -18,11 +18,11 @@ nested t = loop 10 (loop 10 t (block 0)) (block 0)
 
 -- what the figure call answers with this value 0, and the others 0
 pub answers : Tree → ℕ → Quote
-answers t n = figureAnswer (encode (nested t)) (n ∷ replicate 31 0)
+answers t n = figureAnswer (encode (nested t)) (n ∷ replicate 39 0)
 
 -- what it answers for a table of one block of 7 cycles, in bytes, whose limit on the whole run is symbol 0 with these flags
 pub flagged : (flags n : ℕ) → Quote
-flagged f n = figureAnswer (0 ∷ f ∷ 0 ∷ 255 ∷ replicate 4 0 ++ (7 ∷ replicate 7 0) ++ replicate 4 0 ++ replicate 4 255) (n ∷ replicate 31 0)
+flagged f n = figureAnswer (0 ∷ f ∷ 0 ∷ 255 ∷ replicate 4 0 ++ (7 ∷ replicate 7 0) ++ replicate 4 0 ++ replicate 4 255) (n ∷ replicate 39 0)
 
 pub examples : List Bool
 examples =

@@ -1,7 +1,7 @@
 // Checking, the figure and the list. Each answers with an enum: one case with what was asked for, one with the number of the question that says no.
 use evaluate::Valued;
+use table::HOW_MANY_VALUES;
 use table::RECORD_LENGTH;
-use values::HOW_MANY_VALUES;
 ghost use mathlib.Core.Path.{_≡_};
 ghost use Prim.Native.Nat.{_*_, _≤_};
 ghost use lib.ListN.{length, take};
@@ -76,7 +76,7 @@ fn write_front(list: &[u64; LIST_ROOM], n: usize, out: &mut [u64])
     }
 }
 
-// The figure of a table's tree under a desk's values: questions 1 to 7, 9, 13 and 10.
+// The figure of a table's tree under a desk's values: questions 1 to 7, 9, 13, 14 and 10.
 pub fn figure(table: &[u8], values: &[u64]) -> Quote
     ensures answer { λ r. ⌜ r ≡ figureAnswer (now (table .entry)) (now (values .entry)) ⌝ }
     ensures promise { λ r. ⌜ Promises (now (table .entry)) (now (values .entry)) r ⌝ }
@@ -102,7 +102,7 @@ pub fn figure(table: &[u8], values: &[u64]) -> Quote
     }
 }
 
-// The list of a table's tree as pairs of value and count, written over the front of `out`: questions 1 to 9, 13 and 10.
+// The list of a table's tree as pairs of value and count, written over the front of `out`: questions 1 to 9, 13, 14 and 10.
 pub fn list(table: &[u8], values: &[u64], out: &mut [u64]) -> Listed
     ensures answer { λ r. ⌜ r ≡ listAnswer (now (table .entry)) (now (values .entry)) (now (out .entry)) ⌝ }
     ensures written { λ r. ⌜ now (out .exit) ≡ over (listWrites (now (table .entry)) (now (values .entry)) (now (out .entry))) (now (out .entry)) ⌝ }

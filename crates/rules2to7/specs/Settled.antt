@@ -5,7 +5,7 @@ use Rattle.table.specs.Trees.{Forest, nil, node, _▸_}
 use Rattle.evaluate.specs.Evaluate.{before, zeros}
 use Rattle.simplify.specs.Rules.{isBlock}
 
--- of the first tree of a row: whether it is a block, and its first member before its own limit, with every symbol 0
+-- of the first tree of a row: whether it is a block, and its first member before its own limit, with every value 0
 unfoldable pub blockAt : Forest → Bool
 blockAt nil = true
 blockAt (node n f ▸ g) = isBlock (n .kind)

@@ -210,7 +210,7 @@ pub fn rule3_at(table: &[u8], extents: &[usize], i: usize, out: &mut [u8]) -> us
 
 // ---- Rule 4
 
-// The first member of the node at record i, no block, before its own limit and with every symbol 0.
+// The first member of the node at record i, no block, before its own limit and with every value 0.
 fn settled_value(table: &[u8], i: usize) -> u64
     requires { ⌜ Simplifiable (now table) ⌝ ∗ ⌜ i < recordCount (now table) ⌝ ∗ ⌜ blockAt (treesAt (now table) i) ≡ false ⌝ }
     ensures { λ r. ⌜ r ≡ beforeAt (treesAt (now (table .entry)) i) ⌝ }

@@ -1,21 +1,23 @@
 -- Trees of document 01's cases C, D, E, F, H and I, and admitted runs of them. Each costs the figure, except that case I's figure is 66: Laws/CaseI shows that
--- 46 is the most that is admitted there. Four more trees show what these cases do not. No tree but the last has a symbol, so all of it but that tree's run
--- holds at all values.
+-- 46 is the most that is admitted there. Five more trees show what these cases do not. No tree but the last two has a symbol, so all of it but those trees'
+-- runs holds at all values.
 use mathlib.Core.Path.{refl}
+use mathlib.Core.Bool.{cond}
 use mathlib.Core.List.{List, [], _∷_, map}
 use mathlib.Core.Logic.{_⊎_, inl, inr}
 use Prim.Native.Nat.{ℕ}
-use lib.Dec.{T}
+use lib.Dec.{T, eqb}
 use native.Mathlib.Omega.{arith}
 use Rattle.booleans.specs.Tests.{_and_}
-use Rattle.table.specs.Notation.{_/T_at_, _/_at_, block, both, either, loop, sequence}
+use Rattle.table.specs.Notation.{_/T_at_, _/_at_, block, both, either, loop, sequence, symbol}
 use Rattle.triangular.specs.Triangular.{rule, triangular}
+use Rattle.table.specs.Questions.{paired}
 use Rattle.table.specs.Trees.{Tree, nil, _▸_, rest}
 use Rattle.runs.specs.Nodes.{AtMost, Most}
-use Rattle.evaluate.specs.Evaluate.{Values, amount, outward, allowed}
+use Rattle.evaluate.specs.Evaluate.{Values, amount, later, outward, allowed}
 use Rattle.evaluate.specs.Closed.{isUnlimited}
-use Rattle.runs.specs.Runs.{Costs, Pass, Run, cost, count, here, limitAt, limitFree, out, seenLimit, total}
-use Rattle.runs.specs.Laws.Admits.{admits, every, everyNode, isRun, keepsHere, keepsLimit, run-costs}
+use Rattle.runs.specs.Runs.{Costs, Pass, Run, charge, charged, cost, count, here, limitAt, limitFree, out, ownCharge, seenLimit, total}
+use Rattle.runs.specs.Laws.Admits.{admits, every, everySpot, isRun, keepsHere, keepsLimit, run-costs}
 
 -- ---- the trees
 
@@ -59,10 +61,18 @@ limitedRun = loop 3 (loop 2 (block 5 / 2 at 255) (block 1)) (block 0)
 unfoldable pub shrinking : Tree
 shrinking = loop 2 (loop 2 (block 7 /T 0 at 2) (block 0)) (block 0)
 
+-- document 02's symbols with a first and a later value: two blocks with one of them, the first in a loop
+unfoldable pub pairedTwice : Tree
+pairedTwice = both (loop 3 (symbol 24) (block 0)) (symbol 24)
+
 -- to unfold this is to unfold all that the trees, and a run's test and cost, compute with
 unfoldable pub computed : ℕ
-unfolding caseC caseE term caseH caseI limitedZero limitedExit limitedLoop limitedRun shrinking block _/_at_ _/T_at_ triangular rule sequence both either loop _and_ rest allowed amount outward out seenLimit limitAt count total cost keepsLimit keepsHere everyNode every admits isRun
+unfolding caseC caseE term caseH caseI limitedZero limitedExit limitedLoop limitedRun shrinking pairedTwice block symbol paired _/_at_ _/T_at_ triangular rule sequence both either loop _and_ rest allowed amount later outward out seenLimit limitAt count total charged ownCharge charge cost keepsLimit keepsHere everySpot every admits isRun
 computed = 0
+
+-- the first value of symbol 24 is 10, and every other value 4
+unfoldable pub firstTen : Values
+firstTen k = cond (eqb k 24) 10 4
 
 -- ---- their passes
 
@@ -156,6 +166,11 @@ module _ (v : Values) where
 pub run-shrinking : Costs (λ k. 2) shrinking 21
 unfolding computed
 run-shrinking = run-costs (λ k. 2) shrinking (goingRound (goingRound (tt ∷ tt ∷ []) ∷ goingRound (tt ∷ []) ∷ [])) 21 tt refl
+
+-- with symbol 24 at 10 and later at 4: 10, 4 and 4, then 10 again, since each block has a first pass of its own
+pub run-pairedTwice : Costs firstTen pairedTwice 28
+unfolding computed firstTen
+run-pairedTwice = run-costs firstTen pairedTwice (goingRound (tt ∷ tt ∷ tt ∷ []), (tt, tt)) 28 tt refl
 
 -- ---- which trees have no limit
 

@@ -3,13 +3,13 @@ use mathlib.Core.Path.{_≡_}
 use mathlib.Core.Bool.{cond, Bool, true}
 use mathlib.Core.List.{List, [], _∷_}
 use mathlib.Core.Logic.{_⊎_, inl, inr}
-use Prim.Native.Nat.{ℕ, _+_, _≤_}
+use Prim.Native.Nat.{ℕ, zero, suc, _+_, _*_, _≤_}
 use lib.Dec.{leb}
 use lib.ListN.{length}
-use Rattle.runs.specs.Nodes.{Kind, Block, Sequence, Choice, Loop, Limit, Unlimited, AtMost}
+use Rattle.runs.specs.Nodes.{Kind, Block, Sequence, Choice, Loop, Limit, Unlimited, AtMost, Number}
 use Rattle.booleans.specs.Tests.{_and_}
 use Rattle.table.specs.Trees.{Tree, node, Forest, nil, _▸_, rest}
-use Rattle.evaluate.specs.Evaluate.{outward, Values, allowed, amount}
+use Rattle.evaluate.specs.Evaluate.{outward, Values, allowed, amount, later}
 use Rattle.evaluate.specs.Closed.{isUnlimited}
 
 -- a pass of a sequence is one pass of each child in order; of a choice, one pass of one child; of a loop, some of the body, then one of the exit
@@ -86,21 +86,30 @@ unfoldable mutual
   countIn (t ▸ f) (Loop n) r (inr x) = countIn f Sequence (r .1) x
 
 module _ (v : Values) where
-  -- a pass of a block costs its time; costs add
-  unfoldable mutual
-    pub cost : (t : Tree) → Pass t → ℕ
-    cost (node n f) r = costIn f (n .kind) r
+  -- what z passes of a block cost in a run (document 02, CR 7): the first value for the first of them, the later one for each other
+  unfoldable pub charged : Number → ℕ → ℕ
+  charged x zero = 0
+  charged x (suc z) = amount v x + z * later v x
 
-    pub costIn : (f : Forest) (k : Kind) → PassIn f k → ℕ
-    costIn nil (Block x) r = amount v x
-    costIn nil Sequence r = 0
-    costIn nil Choice r = absurd r
-    costIn nil (Loop n) r = 0
-    costIn (t ▸ f) (Block x) r = absurd r
-    costIn (t ▸ f) Sequence r = cost t (r .0) + costIn f Sequence (r .1)
-    costIn (t ▸ f) Choice (inl r) = cost t r
-    costIn (t ▸ f) Choice (inr r) = costIn f Choice r
-    costIn (t ▸ f) (Loop n) r = total (λ p. cost t p) (r .0) + costIn f Sequence (r .1)
+  -- z passes of a node, apart from what is below it: only a block has a time
+  unfoldable pub ownCharge : Kind → ℕ → ℕ
+  ownCharge (Block x) z = charged x z
+  ownCharge Sequence z = 0
+  ownCharge Choice z = 0
+  ownCharge (Loop n) z = 0
+
+  -- what a run costs in which node x is passed c x times; costs add
+  unfoldable mutual
+    pub charge : (t : Tree) → (Spot t → ℕ) → ℕ
+    charge (node n f) c = ownCharge (n .kind) (c (inl tt)) + chargeIn f (λ x. c (inr x))
+
+    pub chargeIn : (f : Forest) → (SpotIn f → ℕ) → ℕ
+    chargeIn nil c = 0
+    chargeIn (t ▸ f) c = charge t (λ x. c (inl x)) + chargeIn f (λ x. c (inr x))
+
+  -- The cost of a run, by how often it passes each block. Laws/InOrder shows that its passes cost this one after the other.
+  unfoldable pub cost : (t : Tree) → Pass t → ℕ
+  cost t r = charge t (λ x. count t r x)
 
   -- z passes of a node keep its limit
   unfoldable pub keeps : Limit → ℕ → Type 0

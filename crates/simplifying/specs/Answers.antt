@@ -1,4 +1,4 @@
--- What simplifying answers for any input, and the bytes that it writes: questions 1 to 8, then 10 with every symbol 0.
+-- What simplifying answers for any input, and the bytes that it writes: questions 1 to 8, then 10 with every value 0.
 use mathlib.Core.Bool.{Bool, true, false}
 use mathlib.Core.List.{List, [], _∷_, _++_}
 use Prim.Native.Nat.{ℕ}

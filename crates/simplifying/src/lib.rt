@@ -62,7 +62,7 @@ fn make_steps(table: &[u8], allowance: u64, out: &mut [u8]) -> Simplified
 }
 
 // The table of a tree after as many steps of simplification as the allowance has, or until no rule fits, written over the front of `out`: questions 1
-// to 8, then 10 with every symbol 0.
+// to 8, then 10 with every value 0.
 pub fn simplify(table: &[u8], allowance: u64, out: &mut [u8]) -> Simplified
     ensures answer { λ r. ⌜ r ≡ simplifyAnswer (now (table .entry)) allowance (now (out .entry)) ⌝ }
     ensures written { λ r. ⌜ now (out .exit) ≡ over (simplifyWrites (now (table .entry)) allowance (now (out .entry))) (now (out .entry)) ⌝ }

@@ -1,10 +1,12 @@
 -- Grafting record by record: each of the host's is copied, or the sent table put in its place. The program copies those between two places at once.
 use mathlib.Core.Path.{_≡_}
-use mathlib.Core.Bool.{cond}
+use mathlib.Core.Bool.{Bool, cond, not}
 use mathlib.Core.List.{List, [], _++_}
 use Prim.Native.Nat.{ℕ, zero, suc, _+_, _*_, _-_, _≤_}
 use lib.ListN.{drop, length, take}
+use Rattle.booleans.specs.Tests.{_and_}
 use Rattle.table.specs.Numbers.{recordLength}
+use Rattle.table.specs.Questions.{single}
 use Rattle.table.specs.Table.{firstNode, recordBytes, recordCount}
 use Rattle.table.specs.Trees.{Forest, Tree, nil, node, _▸_}
 use Rattle.writing.specs.Records.{nodeOf}
@@ -19,6 +21,10 @@ occursFirst s b = cond (isSymbol s (firstNode b .kind)) 1 0
 unfoldable pub occurrencesIn : (s n : ℕ) → List ℕ → ℕ
 occurrencesIn s zero b = 0
 occurrencesIn s (suc n) b = occursFirst s b + occurrencesIn s n (drop recordLength b)
+
+-- the first record of b may be in a table that is sent for symbol s: it is no block of s, nor of a paired symbol
+unfoldable pub sendableFirst : ℕ → List ℕ → Bool
+sendableFirst s b = not (isSymbol s (firstNode b .kind)) and single (firstNode b)
 
 -- what stands in place of a block with this limit and address: the loop's record, the renamed sent table, the exit's record
 unfoldable pub placeBytes : (body : List ℕ) → Limit → (address : ℕ) → List ℕ

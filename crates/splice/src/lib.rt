@@ -4,12 +4,12 @@ ghost use mathlib.Core.List.{_++_};
 ghost use Prim.Native.Nat.{_*_, _+_, _-_, _<_, _≤_};
 ghost use lib.ListN.{drop, length};
 ghost use Rattle.table.specs.Numbers.{mostLoops, recordLength};
-ghost use Rattle.table.specs.Table.{firstNode, recordCount};
+ghost use Rattle.table.specs.Table.{each, firstNode, recordCount};
 ghost use Rattle.table.specs.Checking.{IsTable};
 ghost use Rattle.writing.specs.Records.{Appended, front};
 ghost use Rattle.splice.specs.Graft.{isSymbol, renamedName};
 ghost use Rattle.splice.specs.Renaming.{entered, renamedRecord, renamedTable, stillAround, stack};
-ghost use Rattle.splice.specs.Splice.{NoPlace, Stands, occursFirst, occurrencesIn, placeBytes, splice, spliceRecords};
+ghost use Rattle.splice.specs.Splice.{NoPlace, Stands, occursFirst, occurrencesIn, placeBytes, sendableFirst, splice, spliceRecords};
 use table::Kind;
 use table::Limit;
 use table::MOST_LOOPS;
@@ -67,6 +67,31 @@ pub fn count_occurrences(table: &[u8], symbol: u64) -> usize
         i += 1;
     }
     count
+}
+
+// Is the record at the front of `b` neither a block with the symbol nor one with a paired symbol?
+fn may_be_sent(b: &[u8], symbol: u64) -> bool
+    requires { ⌜ recordLength ≤ length (now b) ⌝ }
+    ensures { λ r. ⌜ r ≡ sendableFirst symbol (now (b .entry)) ⌝ }
+{
+    let kind = table::read_kind(b);
+    !is_symbol(kind, symbol) & !table::is_paired_block(kind)
+}
+
+// May the table be sent for the symbol: has it no block with that or a paired one?
+pub fn sendable(table: &[u8], symbol: u64) -> bool
+    ensures { λ r. ⌜ r ≡ each (sendableFirst symbol) (recordCount (now (table .entry))) (now (table .entry)) ⌝ }
+{
+    let n = table.len() / RECORD_LENGTH;
+    let mut i: usize = 0;
+    while i < n {
+        let at = RECORD_LENGTH * i;
+        if !may_be_sent(&table[at..], symbol) {
+            return false;
+        }
+        i += 1;
+    }
+    true
 }
 
 // ---- The sent table, renamed

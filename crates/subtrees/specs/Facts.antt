@@ -6,6 +6,7 @@ use Prim.Native.Nat.{ℕ, _+_, _*_, _-_, _<_, _≤_, max, min}
 use lib.Dec.{leb}
 use lib.ListN.{getD, length}
 use Rattle.table.specs.Numbers.{wholeRun}
+use Rattle.table.specs.Questions.{pairedBlock}
 use Rattle.table.specs.Table.{loopByte, recordCount}
 use Rattle.table.specs.Trees.{Forest, Tree, nil, node, _▸_, records, recordsIn, rest}
 use Rattle.evaluate.specs.Closed.{symbolFree, symbolFreeIn}
@@ -27,15 +28,19 @@ passed Sequence k = k
 passed Choice k = k
 passed (Loop n) k = outer k
 
+-- a block of a paired symbol stands as a limit on the whole run does
+unfoldable pub pairedReach : Kind → ℕ
+pairedReach k = cond (pairedBlock k) wholeRun 0
+
 unfoldable mutual
   pub reach : Tree → ℕ
-  reach (node n f) = max (loopByte (n .limit)) (reachIn (n .kind) f)
+  reach (node n f) = max (max (loopByte (n .limit)) (pairedReach (n .kind))) (reachIn (n .kind) f)
 
   pub reachIn : Kind → Forest → ℕ
   reachIn k nil = 0
   reachIn k (t ▸ f) = max (passed k (reach t)) (reachIn (rest k) f)
 
--- without its top's own limit
+-- without its top's own limit and time
 unfoldable pub reachBelow : Tree → ℕ
 reachBelow (node n f) = reachIn (n .kind) f
 

@@ -16,7 +16,7 @@ treesAt b i = forest (recordCount b - i) (drop (recordLength * i) b)
 unfoldable pub subtree : List ℕ → ℕ → Tree
 subtree b i = top (treesAt b i)
 
--- a table that simplifying works on: question 10 says yes with every symbol 0
+-- a table that simplifying works on: question 10 says yes with every value 0
 pub record Simplifiable (b : List ℕ) : Type 0 where
   pub table : IsTable b
   pub fits : T (fits zeros (decode b))

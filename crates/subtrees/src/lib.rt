@@ -7,14 +7,14 @@ ghost use Rattle.table.specs.Numbers.{mostRecords};
 ghost use Rattle.table.specs.Table.{recordCount};
 ghost use Rattle.table.specs.Checking.{IsTable};
 ghost use Rattle.subtrees.specs.Parts.{treesAt};
-ghost use Rattle.subtrees.specs.Facts.{Known, Moved, Outdated, OwnBefore, Surveyed, Unchanged, belowAt, childIn, isLoop, marksEach, outer};
+ghost use Rattle.subtrees.specs.Facts.{Known, Moved, Outdated, OwnBefore, Surveyed, Unchanged, belowAt, childIn, isLoop, marksEach, outer, pairedReach};
 ghost use Rattle.subtrees.specs.Marks.{limitedName, marked};
 use table::Kind;
 use table::RECORD_LENGTH;
 use table::WHOLE_RUN;
 
 // Numbers that are kept of each record beside how many records its subtree has: first whether it has a symbol (1 or 0); then, at these places after it,
-// the loop that its list names, the outermost loop that a limit in it names, and the same without its top's own limit.
+// the loop that its list names, the outermost loop that a limit in it names, and the same without its top's own limit and time.
 pub const MARKS: usize = 4;
 
 pub const NAME: usize = 1;
@@ -154,6 +154,17 @@ fn with_name(name: u8, named: u8) -> u8
     evaluate::inner_of(name, named)
 }
 
+// The outermost loop that the node's own limit names, 0 for none: a block of a paired symbol stands as a limit on the whole run does.
+fn own_reach(kind: Kind, name: u8) -> u8
+    ensures { λ r. ⌜ r ≡ max name (pairedReach kind) ⌝ }
+{
+    if table::is_paired_block(kind) {
+        WHOLE_RUN
+    } else {
+        name
+    }
+}
+
 fn put_marks(marks: &mut [u8], i: usize, symbols: u8, named: u8, reach: u8, below: u8)
     requires { ⌜ marksEach * i + marksEach ≤ length (now marks) ⌝ }
     ensures { λ _. ⌜ now (marks .exit) ≡ marked (now (marks .entry)) i symbols named reach below ⌝ }
@@ -176,7 +187,9 @@ fn mark_record(table: &[u8], i: usize, extents: &mut [usize], marks: &mut [u8])
     let name = table::name_at(table, i);
     let symbols = with_symbol(table::flagless_at(table, i), below.symbols);
     let named = with_name(name, below.named);
-    let reach = larger_of(name, below.reach);
+    let node = table::node_at(table, i);
+    let kind = node.kind;
+    let reach = larger_of(own_reach(kind, name), below.reach);
     extents[i] = below.records + 1;
     put_marks(marks, i, symbols, named, reach, below.reach);
 }

@@ -8,6 +8,7 @@ pub mod Asking
 pub mod Accepted
 pub mod NotRefused
 pub mod Written
+pub mod EveryNode
 pub mod Limits
 pub mod Reading
 pub mod Survey

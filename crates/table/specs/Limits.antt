@@ -2,20 +2,17 @@
 use mathlib.Core.Bool.{Bool, true}
 use Prim.Native.Nat.{ℕ}
 use Rattle.table.specs.Nodes.{Most, Limit, Unlimited, AtMost}
-use Rattle.booleans.specs.Tests.{_and_}
-use Rattle.table.specs.Trees.{Tree, node, Forest, nil, _▸_}
+use Rattle.table.specs.Trees.{Tree, Forest, everyNode, everyNodeIn}
 
 unfoldable pub limitHolds : (ℕ → Most → Bool) → Limit → Bool
 limitHolds p Unlimited = true
 limitHolds p (AtMost k m) = p k m
 
-unfoldable mutual
-  pub everyLimit : (ℕ → Most → Bool) → Tree → Bool
-  everyLimit p (node n f) = limitHolds p (n .limit) and everyLimitIn p f
+abbrev pub everyLimit : (ℕ → Most → Bool) → Tree → Bool
+everyLimit p t = everyNode (λ n. limitHolds p (n .limit)) t
 
-  pub everyLimitIn : (ℕ → Most → Bool) → Forest → Bool
-  everyLimitIn p nil = true
-  everyLimitIn p (t ▸ f) = everyLimit p t and everyLimitIn p f
+abbrev pub everyLimitIn : (ℕ → Most → Bool) → Forest → Bool
+everyLimitIn p f = everyNodeIn (λ n. limitHolds p (n .limit)) f
 
 -- ---- a test of the number alone, whatever loop the limit names
 

@@ -1,11 +1,11 @@
 -- Questions 2, 3 and 5 to 7 of document 01, of a tree.
-use mathlib.Core.Bool.{Bool, true, _||_, cond}
+use mathlib.Core.Bool.{Bool, true, false, _||_, cond, not}
 use Prim.Native.Nat.{ℕ, suc, max, _-_, _^_, _+_, _≤_}
 use lib.Dec.{leb, eqb, ltb, T}
-use Rattle.table.specs.Nodes.{Kind, Block, Sequence, Choice, Loop, Number, Plain, Symbol, Most, Limit, Unlimited, AtMost, Node}
+use Rattle.table.specs.Nodes.{Node, Kind, Block, Sequence, Choice, Loop, Number, Plain, Symbol, Most, Limit, Unlimited, AtMost}
 use Rattle.booleans.specs.Tests.{_and_}
-use Rattle.table.specs.Numbers.{howManyAddresses, mostChildren, mostTime, firstTimeSymbol, howManySymbols, mostCount, wholeRun, mostLoops, mostRecords, mostDepth, mostWeight}
-use Rattle.table.specs.Trees.{Tree, node, Forest, nil, _▸_, size, rest, around, records}
+use Rattle.table.specs.Numbers.{howManyAddresses, mostChildren, mostTime, firstTimeSymbol, firstPairedSymbol, howManySymbols, mostCount, wholeRun, mostLoops, mostRecords, mostDepth, mostWeight}
+use Rattle.table.specs.Trees.{Tree, node, Forest, nil, _▸_, size, rest, around, records, everyNode}
 
 -- ---- 2 and 3: each node by itself
 
@@ -56,6 +56,29 @@ unfoldable mutual
   listedIn nil = true
   listedIn (t ▸ f) = listed t and listedIn f
 
+-- ---- symbols with a first and a later value
+
+abbrev pub pairedSymbol : ℕ → Bool
+pairedSymbol s = leb firstPairedSymbol s and ltb s howManySymbols
+
+unfoldable pub paired : Number → Bool
+paired (Plain n) = false
+paired (Symbol s) = pairedSymbol s
+
+-- a block of such a symbol
+unfoldable pub pairedBlock : Kind → Bool
+pairedBlock (Block t) = paired t
+pairedBlock Sequence = false
+pairedBlock Choice = false
+pairedBlock (Loop n) = false
+
+abbrev pub single : Node → Bool
+single n = not (pairedBlock (n .kind))
+
+-- no block of such a symbol in the tree
+abbrev pub unpaired : Tree → Bool
+unpaired t = everyNode single t
+
 -- ---- 5: depth, and the most loops around any node, with d around this one
 
 unfoldable mutual
@@ -94,9 +117,13 @@ unfoldable pub share : Limit → ℕ → ℕ
 share Unlimited d = 0
 share (AtMost k m) d = cond (eqb k wholeRun) (2 ^ d) (2 ^ (k - 1))
 
+-- a block of a paired symbol counts as a limit on the whole run, beside its own limit
+unfoldable pub pairedShare : Kind → ℕ → ℕ
+pairedShare k d = cond (pairedBlock k) (2 ^ d) 0
+
 unfoldable mutual
   pub weight : Tree → ℕ → ℕ
-  weight (node n f) d = share (n .limit) d + weightIn (n .kind) f d
+  weight (node n f) d = share (n .limit) d + pairedShare (n .kind) d + weightIn (n .kind) f d
 
   pub weightIn : Kind → Forest → ℕ → ℕ
   weightIn k nil d = 0

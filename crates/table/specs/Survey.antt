@@ -7,10 +7,10 @@ use lib.Dec.{leb, eqb}
 use lib.ListN.{drop, length}
 use Rattle.table.specs.declared.Survey.{Survey}
 use Rattle.table.specs.Asking.{_asks_, firstNo}
-use Rattle.table.specs.Nodes.{Limit, Unlimited, AtMost}
+use Rattle.table.specs.Nodes.{Limit, Unlimited, AtMost, Node}
 use Rattle.table.specs.Numbers.{recordLength, wholeRun, mostLoops, mostWeight}
 use Rattle.table.specs.Trees.{around}
-use Rattle.table.specs.Questions.{nameOk}
+use Rattle.table.specs.Questions.{nameOk, pairedShare}
 use Rattle.table.specs.Table.{firstNode, childByte}
 
 -- the survey of a tree that is not as question 5 asks
@@ -33,10 +33,12 @@ unfoldable pub listedShare : Limit → ℕ → ℕ
 listedShare Unlimited d = 0
 listedShare (AtMost k m) d = nameShare k d
 
--- children, and the node that they belong to, with its limit and d loops around it
-abbrev pub withParent : Limit → ℕ → Survey → Survey
-withParent l d s =
-    cond (s .fits) (record { records = s .records + 1; fits = true; named = nameOk l d && s .named; weight = listedShare l d + s .weight }) unfit
+-- children, and the node that they belong to, with d loops around it
+abbrev pub withParent : Node → ℕ → Survey → Survey
+withParent n d s =
+    cond (s .fits)
+    (record { records = s .records + 1; fits = true; named = nameOk (n .limit) d && s .named; weight = listedShare (n .limit) d + pairedShare (n .kind) d + s .weight })
+    unfit
 
 -- n more trees of b after those of s, with so many loops around the first of them and around the others; f surveys a tree by the loops around it
 -- and the bytes from its record on. A tree that does not fit ends the walk.
@@ -50,7 +52,7 @@ unfoldable pub surveyNode : (h d : ℕ) → List ℕ → Survey
 surveyNode zero d b = unfit
 surveyNode (suc h) d b =
     cond (leb recordLength (length b) && leb d mostLoops)
-    (withParent (firstNode b .limit) d (surveyMore (surveyNode h) (around (firstNode b .kind) d) d (childByte b) (drop recordLength b) empty))
+    (withParent (firstNode b) d (surveyMore (surveyNode h) (around (firstNode b .kind) d) d (childByte b) (drop recordLength b) empty))
     unfit
 
 -- the first n trees of b, each at most h nodes deep
@@ -61,10 +63,14 @@ surveyChildren h first others n b = surveyMore (surveyNode h) first others n b e
 abbrev pub mostShare : ℕ
 mostShare = 2 ^ mostLoops
 
+-- the most that a node adds: as much for its limit, and for a paired symbol
+abbrev pub nodeShare : ℕ
+nodeShare = 2 * mostShare
+
 -- a survey of b that is small enough to add to
 pub record Small (b : List ℕ) (s : Survey) : Type 0 where
   pub short : recordLength * s .records ≤ length b
-  pub light : s .weight ≤ mostShare * s .records
+  pub light : s .weight ≤ nodeShare * s .records
 
 -- the first of questions 5 to 7 that says no, or 0
 abbrev pub surveyRefusal : Survey → ℕ

@@ -1,5 +1,7 @@
 -- The tree of a table: a node with its forest of children. How many children it has is the forest's size.
+use mathlib.Core.Bool.{Bool, true}
 use Prim.Native.Nat.{ℕ, suc, _+_}
+use Rattle.booleans.specs.Tests.{_and_}
 use Rattle.table.specs.Nodes.{Node, Kind, Block, Sequence, Choice, Loop}
 
 mutual
@@ -51,3 +53,12 @@ unfoldable mutual
   pub unaddressedIn : Forest → Forest
   unaddressedIn nil = nil
   unaddressedIn (t ▸ f) = unaddressed t ▸ unaddressedIn f
+
+-- a test of every node
+unfoldable mutual
+  pub everyNode : (Node → Bool) → Tree → Bool
+  everyNode p (node n f) = p n and everyNodeIn p f
+
+  pub everyNodeIn : (Node → Bool) → Forest → Bool
+  everyNodeIn p nil = true
+  everyNodeIn p (t ▸ f) = everyNode p t and everyNodeIn p f

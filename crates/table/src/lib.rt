@@ -8,8 +8,8 @@ ghost use Rattle.table.specs.Questions.{timeInRange, countInRange, kindI
 ghost use Rattle.table.specs.Checking.{fillListed, flagsListed, kindListed, limitCount, limitListed, question1, question2, question3, question4, recordInRange, recordListed, refusal};
 ghost use Rattle.table.specs.Numbers.{mostLoops, mostDepth};
 ghost use Rattle.table.specs.Trees.{around};
-ghost use Rattle.table.specs.Questions.{nameOk};
-ghost use Rattle.table.specs.Survey.{mostShare, nameShare, listedShare, withNext, withParent, Small, surveyNode, surveyChildren, surveyRefusal};
+ghost use Rattle.table.specs.Questions.{nameOk, paired, pairedBlock, pairedShare};
+ghost use Rattle.table.specs.Survey.{mostShare, nodeShare, nameShare, listedShare, withNext, withParent, Small, surveyNode, surveyChildren, surveyRefusal};
 
 // ---- Numbers, as in specs/Numbers.antt
 
@@ -21,9 +21,15 @@ pub const FILL: u8 = 255;
 
 pub const MOST_RECORDS: usize = 512;
 
+pub const HOW_MANY_VALUES: usize = 40;
+
 pub const HOW_MANY_SYMBOLS: u64 = 32;
 
 pub const FIRST_TIME_SYMBOL: u64 = 16;
+
+pub const FIRST_PAIRED_SYMBOL: u64 = 24;
+
+pub const LATER_PLACE: usize = 8;
 
 pub const MOST_TIME: u64 = 1_000_000_000_000;
 
@@ -70,6 +76,28 @@ pub struct Node {
     pub kind: Kind,
     pub limit: Limit,
     pub address: u32,
+}
+
+// Has this time two values, one for its block's first pass and one for the later ones?
+pub fn is_paired(time: Number) -> bool
+    ensures { λ r. ⌜ r ≡ paired time ⌝ }
+{
+    match time {
+        Number::Plain(_) => false,
+        Number::Symbol(s) => (FIRST_PAIRED_SYMBOL <= s) & (s < HOW_MANY_SYMBOLS),
+    }
+}
+
+// Is it a block with such a time?
+pub fn is_paired_block(kind: Kind) -> bool
+    ensures { λ r. ⌜ r ≡ pairedBlock kind ⌝ }
+{
+    match kind {
+        Kind::Block(time) => is_paired(time),
+        Kind::Sequence => false,
+        Kind::Choice => false,
+        Kind::Loop(_) => false,
+    }
 }
 
 // ---- Fields
@@ -466,6 +494,18 @@ fn limit_share(limit: Limit, outer: u8) -> u64
     }
 }
 
+// What a block of a paired symbol adds, beside its limit.
+fn paired_share(kind: Kind, outer: u8) -> u64
+    requires { ⌜ outer ≤ mostLoops ⌝ }
+    ensures { λ r. ⌜ (r ≡ pairedShare kind outer) × (r ≤ mostShare) ⌝ }
+{
+    if is_paired_block(kind) {
+        power_of_two(outer)
+    } else {
+        0
+    }
+}
+
 impl Survey {
     // Of a tree that is not as question 5 asks.
     const UNFIT: Survey = Survey {
@@ -485,7 +525,7 @@ impl Survey {
 
     // Trees that fit, and the next one, which fits too.
     fn with_next(self, next: Survey) -> Survey
-        requires { ⌜ (self .records + next .records ≤ mostRecords) × (self .weight + next .weight ≤ mostShare * mostRecords) ⌝ }
+        requires { ⌜ (self .records + next .records ≤ mostRecords) × (self .weight + next .weight ≤ nodeShare * mostRecords) ⌝ }
         ensures { λ r. ⌜ r ≡ withNext self next ⌝ }
     {
         Survey {
@@ -497,16 +537,18 @@ impl Survey {
     }
 
     // Children, and the node that they belong to.
-    fn with_parent(self, limit: Limit, outer: u8) -> Survey
-        requires { ⌜ (outer ≤ mostLoops) × (self .records ≤ mostRecords) × (self .weight ≤ mostShare * self .records) ⌝ }
-        ensures { λ r. ⌜ (r ≡ withParent limit outer self) × (r .records ≤ self .records + 1) × (r .weight ≤ mostShare * r .records) ⌝ }
+    fn with_parent(self, node: Node, outer: u8) -> Survey
+        requires { ⌜ (outer ≤ mostLoops) × (self .records ≤ mostRecords) × (self .weight ≤ nodeShare * self .records) ⌝ }
+        ensures { λ r. ⌜ (r ≡ withParent node outer self) × (r .records ≤ self .records + 1) × (r .weight ≤ nodeShare * r .records) ⌝ }
     {
+        let kind = node.kind;
+        let limit = node.limit;
         if self.fits {
             Survey {
                 records: self.records + 1,
                 fits: true,
                 named: names_loop(limit, outer) & self.named,
-                weight: limit_share(limit, outer) + self.weight,
+                weight: limit_share(limit, outer) + paired_share(kind, outer) + self.weight,
             }
         } else {
             Survey::UNFIT
@@ -546,11 +588,10 @@ fn survey_node(table: &[u8], depth: usize, outer: u8) -> Survey
     }
     let node = read_node(table);
     let kind = node.kind;
-    let limit = node.limit;
     let count = child_count(table);
     let first = loops_inside(kind, outer);
     let below = survey_children(&table[RECORD_LENGTH..], depth - 1, first, outer, count);
-    below.with_parent(limit, outer)
+    below.with_parent(node, outer)
 }
 
 // The `count` children at the front of `table`, each at most `depth` nodes deep, with `first` loops around the first and `others` around the others.

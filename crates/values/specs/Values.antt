@@ -1,11 +1,11 @@
--- A desk's values: what is asked of them (document 01, "Questions put to a call"; document 02, CR 3), and when none is lower.
+-- A desk's values: what is asked of them (document 01, "Questions put to a call"; document 02, CR 3 and 7), and when none is lower.
 use mathlib.Core.Bool.{Bool, true, cond}
 use mathlib.Core.List.{List, [], _∷_}
-use Prim.Native.Nat.{ℕ, suc, _≤_}
+use Prim.Native.Nat.{ℕ, zero, suc, _+_, _-_, _≤_}
 use lib.Dec.{eqb, leb, ltb}
 use lib.ListN.{getD, length}
 use Rattle.booleans.specs.Tests.{_and_}
-use Rattle.table.specs.Numbers.{howManyValues, firstTimeSymbol, mostCount, mostTime}
+use Rattle.table.specs.Numbers.{howManyValues, howManySymbols, firstPairedSymbol, firstTimeSymbol, laterPlace, mostCount, mostTime}
 use Rattle.table.specs.Asking.{Question, _asks_, firstNo}
 use Rattle.table.specs.Limits.{mostHolds}
 use Rattle.table.specs.Table.{each, firstNode, recordCount}
@@ -22,7 +22,7 @@ unfoldable pub ranged : ℕ → List ℕ → Bool
 ranged i [] = true
 ranged i (x ∷ xs) = leb x (ceiling i) and ranged (suc i) xs
 
--- 9. exactly 32 values, each in its range, used or not
+-- 9. exactly 40 values, each in its range, used or not: the later values of the paired symbols, 32 and on, are times
 unfoldable pub question9 : List ℕ → Bool
 question9 vs = eqb (length vs) howManyValues and ranged 0 vs
 
@@ -40,13 +40,22 @@ recordSmall v b = mostHolds (triangleSmall v) (firstNode b .limit)
 unfoldable pub question13 : (table values : List ℕ) → Bool
 question13 b vs = each (recordSmall (valuesOf vs)) (recordCount b) b
 
--- every question about a desk's values for a table, put by each call that is lent both; 9 is the same for every table
+-- 14. no later value exceeds its first, of n paired symbols from s on
+unfoldable pub laterLow : (n s : ℕ) → Values → Bool
+laterLow zero s v = true
+laterLow (suc n) s v = leb (v (s + laterPlace)) (v s) and laterLow n (suc s) v
+
+-- 14. of all of them, used or not
+unfoldable pub question14 : List ℕ → Bool
+question14 vs = laterLow (howManySymbols - firstPairedSymbol) firstPairedSymbol (valuesOf vs)
+
+-- every question about a desk's values for a table, put by each call that is lent both; 9 and 14 are the same for every table
 unfoldable pub valueQuestions : (table values : List ℕ) → List Question
-valueQuestions b vs = 9 asks question9 vs ∷ 13 asks question13 b vs ∷ []
+valueQuestions b vs = 9 asks question9 vs ∷ 13 asks question13 b vs ∷ 14 asks question14 vs ∷ []
 
 unfoldable pub valuesRefusal : (table values : List ℕ) → ℕ
 valuesRefusal b vs = firstNo (valueQuestions b vs)
 
--- w is none lower than v: each number is at least v's at the same place
+-- w is none lower than v: each number is at least v's at the same place, both numbers of a paired symbol among them
 abbrev pub NoneLower : (v w : List ℕ) → Type 0
 NoneLower v w = (i : ℕ) → getD v i 0 ≤ getD w i 0

@@ -1,5 +1,9 @@
-// The questions about a desk's values: question 9, and 13, which looks at the table too.
+// The questions about a desk's values: questions 9 and 14, and 13, which looks at the table too.
+use table::FIRST_PAIRED_SYMBOL;
 use table::FIRST_TIME_SYMBOL;
+use table::HOW_MANY_SYMBOLS;
+use table::HOW_MANY_VALUES;
+use table::LATER_PLACE;
 use table::Limit;
 use table::MOST_COUNT;
 use table::MOST_TIME;
@@ -12,10 +16,7 @@ ghost use lib.ListN.{length};
 ghost use Rattle.table.specs.Numbers.{recordLength};
 ghost use Rattle.evaluate.specs.Evaluate.{valuesOf};
 ghost use Rattle.values.specs.Flags.{flagFree};
-ghost use Rattle.values.specs.Values.{ceiling, question13, question9, recordSmall, triangleSmall, valuesRefusal};
-
-// How many values a desk holds.
-pub const HOW_MANY_VALUES: usize = 32;
+ghost use Rattle.values.specs.Values.{ceiling, question13, question14, question9, recordSmall, triangleSmall, valuesRefusal};
 
 // The ceiling of value i.
 pub fn ceiling_of(i: usize) -> u64
@@ -28,7 +29,7 @@ pub fn ceiling_of(i: usize) -> u64
     }
 }
 
-// Question 9: exactly 32 values, each within its ceiling, used or not?
+// Question 9: exactly 40 values, each within its ceiling, used or not?
 fn values_allowed(values: &[u64]) -> bool
     ensures { λ r. ⌜ r ≡ question9 (now (values .entry)) ⌝ }
 {
@@ -108,6 +109,21 @@ fn triangles_small(table: &[u8], values: &[u64], free: bool) -> bool
     true
 }
 
+// Question 14: is no later value of a paired symbol above its first, used or not?
+fn laters_low(values: &[u64]) -> bool
+    ensures { λ r. ⌜ r ≡ question14 (now (values .entry)) ⌝ }
+{
+    let mut s = FIRST_PAIRED_SYMBOL;
+    while s < HOW_MANY_SYMBOLS {
+        let later = evaluate::value_of(s + LATER_PLACE as u64, values);
+        if evaluate::value_of(s, values) < later {
+            return false;
+        }
+        s += 1;
+    }
+    true
+}
+
 // The first question about a desk's values for a table that says no, or 0: each call that is lent both asks here.
 pub fn values_refusal(table: &[u8], values: &[u64], free: bool) -> u64
     requires { ⌜ free ≡ flagFree (now table) ⌝ }
@@ -115,8 +131,12 @@ pub fn values_refusal(table: &[u8], values: &[u64], free: bool) -> u64
 {
     let allowed = values_allowed(values);
     let small = triangles_small(table, values, free);
+    let low = laters_low(values);
     if !allowed {
         return 9;
     }
-    if small { 0 } else { 13 }
+    if !small {
+        return 13;
+    }
+    if low { 0 } else { 14 }
 }

@@ -12,13 +12,13 @@ use Rattle.table.specs.declared.Kind.{Kind}
 use Rattle.table.specs.declared.Kind.the-variants.{Block}
 use Rattle.table.specs.declared.Number.{Number}
 use Rattle.table.specs.declared.Limit.{Limit}
-use Rattle.lists.specs.Pairs.{Canonical, ever, places, top, width}
+use Rattle.lists.specs.Pairs.{ever, top}
 use Rattle.evaluate.specs.declared.Valued.{Valued}
-use Rattle.evaluate.specs.Evaluate.{Values, amount, noBranch}
-use Rattle.evaluate.specs.Evaluator.{Found, andThen, checked, evaluateBelow, evaluateMore, evaluateNode, goneRound, joined, limited, unfit}
-use Rattle.evaluate.specs.Shown.{Ready, Shows, evaluateChildren, foundIn, withNext}
-use Rattle.evaluate.specs.Laws.Sane.{Sane, sane, sane-checked, sane-more, sane-next, sane-none, sane-where}
-use Rattle.evaluate.specs.Laws.Shown.{itself-shown, ready-shown, sane-ready, shown-is, then-fits, then-shown}
+use Rattle.evaluate.specs.Evaluate.{Values, noBranch}
+use Rattle.evaluate.specs.Evaluator.{Found, andThen, checked, evaluateBelow, evaluateMore, evaluateNode, goneRound, joined, limited, timePairs, unfit}
+use Rattle.evaluate.specs.Shown.{Limitable, Ready, Shows, evaluateChildren, foundIn, withNext}
+use Rattle.evaluate.specs.Laws.Sane.{Sane, sane, sane-is-below, sane-more, sane-next, sane-none, sane-where}
+use Rattle.evaluate.specs.Laws.Shown.{itself-shown, limitable-shown, ready-shown, sane-ready, shown-is, then-fits, then-shown}
 use Rattle.evaluate.proofs.Others.{Among}
 use Rattle.evaluate.proofs.Steps.{checked-low}
 use Rattle.walking.proofs.Steps.{below-other, more-done, more-next, node-read}
@@ -87,12 +87,10 @@ child-ready v h m b long s i = ready-shown (omega (arith, length-drop m b)) (san
 -- ---- a node
 
 -- what its limit may rely on of its children
-pub children-ready : (v : Values) (h : ℕ) (k : Kind) (n m : ℕ) (b : List ℕ) {r : Valued} {a : List ℕ} → length b ≤ recordLength * mostRecords → Shows r a (evaluateChildren v h k n (drop m b)) → r .fits ≡ true → Ready r a
-children-ready v h k n m b long s i = ready-shown (omega (arith, length-drop m b)) (sane-more v (evaluateNode v h) (sane v h) k 0 n (drop m b) _ (sane-none (drop m b))) s i
-
-pub block-sane : (b : List ℕ) (t : ℕ) → Sane b (checked (ever t) wholeRun 0 noBranch)
-unfolding Canonical width places
-block-sane b t = sane-checked b (ever t) wholeRun 0 noBranch tt (omega arith) (omega arith) (omega arith)
+pub children-limitable : (v : Values) (h : ℕ) (k : Kind) (n m : ℕ) (b : List ℕ) {r : Valued} {a : List ℕ} → length b ≤ recordLength * mostRecords → Shows r a (evaluateChildren v h k n (drop m b)) → r .fits ≡ true → Limitable r a
+children-limitable v h k n m b long s i =
+    let c = drop m b in
+    limitable-shown (omega (arith, length-drop m b)) (sane-is-below c _ (sane-more v (evaluateNode v h) (sane v h) k 0 n c _ (sane-none c))) s i
 
 -- the node at the front of b, of kind k and limit l, which limits what the answer r found below it
 module _ (v : Values) (h : ℕ) (b : List ℕ) {k : Kind} {l : Limit} (its-kind : k ≡ firstNode b .kind) (its-limit : l ≡ firstNode b .limit) (deep : h ≡ 0 → ⊥) (long : recordLength ≤ length b)
@@ -100,9 +98,9 @@ module _ (v : Values) (h : ℕ) (b : List ℕ) {k : Kind} {l : Limit} (its-kind 
   by-below : Shows r a (evaluateBelow v (evaluateNode v (h - 1)) k (childByte b) (drop recordLength b)) → Shows t c (evaluateNode v h b)
   by-below s = subst (Shows t c) (then-shown s (limited v l) ∙ sym (rw (← its-kind, ← its-limit) at (node-read v h b deep long))) shown
 
-  pub block-shown : (x : ℕ) (time : Number) → k ≡ Block time → x ≡ amount v time → Shows r a (checked (ever x) wholeRun 0 noBranch) → Shows t c (evaluateNode v h b)
+  pub block-shown : (time : Number) → k ≡ Block time → Shows r a (checked (timePairs v time) wholeRun 0 noBranch) → Shows t c (evaluateNode v h b)
   unfolding evaluateBelow
-  block-shown x time i q s = by-below (rw (i, ← q) s)
+  block-shown time i s = by-below (rw i s)
 
   pub children-shown : (m : ℕ) → m ≡ childByte b → Among (1 ∷ 2 ∷ 3 ∷ []) k → Shows r a (evaluateChildren v (h - 1) k m (drop recordLength b)) → Shows t c (evaluateNode v h b)
   children-shown m q o s = by-below (rw (← q, ← below-other v (evaluateNode v (h - 1)) k m (drop recordLength b) o) s)

@@ -5,7 +5,6 @@ ghost use Rattle.table.specs.Numbers.{mostDepth, mostRecords, recordLength};
 ghost use Rattle.evaluate.specs.Evaluate.{valuesOf};
 ghost use Rattle.evaluate.specs.Evaluator.{evaluateNode};
 ghost use Rattle.evaluate.specs.Shown.{Roomy, Shows, evaluateChildren};
-use evaluate::NO_BRANCH;
 use evaluate::Pairs;
 use evaluate::Valued;
 use lists::List;
@@ -33,13 +32,7 @@ fn evaluate_node(
     }
     let kind = table::read_kind(table);
     if let Kind::Block(time) = kind {
-        let below = evaluate::repeat_in(
-            evaluate::amount_of(time, values),
-            WHOLE_RUN,
-            0,
-            NO_BRANCH,
-            out,
-        );
+        let below = evaluate::block_in(time, values, out);
         return evaluate::limit_in(table::read_limit(table), values, below, out);
     }
     let count = table::child_count(table);

@@ -6,14 +6,14 @@ use borrow.Author.Needs.{needs}
 use borrow.Author.Tests.{not-false, not-true}
 use Rattle.evaluate.specs.Evaluate.{valuesOf}
 use Rattle.evaluate.specs.Evaluator.{limited}
-use Rattle.evaluate.specs.Shown.{Ready, foundIn}
+use Rattle.evaluate.specs.Shown.{Limitable, foundIn}
 use Rattle.evaluate.specs.Laws.Shown.{found-shown, len-width, then-fits, unfit-shown}
 use Rattle.evaluate.proofs.Steps.{limited-many, limited-room, limited-wide}
 use Rattle.evaluate.proofs.limit_in.Statement.{statement}
 use Rattle.evaluate.proofs.limit_in.Tie as tie
 
--- past the test that they fit, the children are in range
-ready : (c : tie.Else1) → let a = c .before .before .before .args in Ready (a .below) (a .list .now)
+-- past the test that it fits, what is below is in range
+ready : (c : tie.Else1) → let a = c .before .before .before .args in Limitable (a .below) (a .list .now)
 ready c = c .before .before .before .pre .0 (not-false _ (c .if1 .left))
 
 returns : tie.Need-returns

@@ -1,31 +1,35 @@
 -- What the evaluator's walk finds of a node's children, one after the other.
 use mathlib.Core.Path.{_≡_, refl, sym, ap, _∙_}
+use mathlib.Core.Bool.{cond, false}
 use mathlib.Core.List.{List}
-use Prim.Native.Nat.{_≤_, ℕ, _+_, min, suc, _*_, _<_}
+use Prim.Native.Nat.{_≤_, ℕ, _+_, min, zero, suc, _*_, _<_}
 use native.Mathlib.Nat.{le-trans}
 use native.Mathlib.Omega.{arith}
 use lib.Dec.{T, eqb→eq, leb→le}
-use lib.ListN.{drop}
-use Rattle.booleans.specs.Laws.{both, join-and}
+use lib.ListN.{drop as dropped}
+use borrow.Author.Tests.{eq-eqb}
+use Rattle.booleans.specs.Laws.{both, by-cond, join-and}
 use Rattle.table.specs.Numbers.{mostTime, wholeRun, recordLength, mostCount, mostWeight, firstTimeSymbol}
-use Rattle.table.specs.Questions.{arity, kindInRange}
+use Rattle.table.specs.Questions.{arity, kindInRange, paired, pairedBlock, timeInRange}
 use Rattle.table.specs.Trees.{rest, Forest, recordsIn, nil, _▸_, size, Tree, records}
-use Rattle.lists.specs.Pairs.{ever, width, Canonical}
+use Rattle.lists.specs.Pairs.{ArePairs, Canonical, ever, expand, inFront, top, width}
 use Rattle.lists.specs.Streams.{const, Stream}
-use Rattle.lists.specs.Laws.Pairs.{are-pairs}
+use Rattle.lists.specs.Laws.Pairs.{Front, are-pairs, in-front}
+use Rattle.lists.specs.Laws.Falls.{drop, drop-none}
 use Rattle.lists.specs.Laws.Sums.{Falls, const-falls}
 use Rattle.lists.specs.Laws.Union.{expand-ever}
-use Rattle.evaluate.specs.Nodes.{Kind, Block, Sequence, Choice, Loop}
-use Rattle.evaluate.specs.Evaluate.{Values, start, join, before, fits, fitsIn, nameIn, amount, name, list, seen, figure, branchIn, noBranch}
-use Rattle.evaluate.specs.Evaluator.{Agree, Found, evaluateMore, evaluateBelow, nextHolder, noneYet}
+use Rattle.evaluate.specs.Nodes.{Kind, Block, Sequence, Choice, Loop, Number}
+use Rattle.evaluate.specs.Evaluate.{Values, start, join, before, fits, fitsIn, nameIn, amount, later, onceThen, name, list, seen, figure, branchIn, noBranch}
+use Rattle.evaluate.specs.Evaluator.{Agree, Found, evaluateMore, evaluateBelow, nextHolder, noneYet, timePairs}
 use Rattle.evaluate.specs.Laws.Branch.{branch-after, childList, holderAfter}
 use Rattle.evaluate.specs.Laws.Found.{Finds, Holds, known-finds, same-finds, found-holds, checked-finds, then-finds, joined-finds, round-finds}
+use Rattle.evaluate.specs.Laws.Times.{drop-most, later-le, later-same}
 use Rattle.evaluate.specs.Laws.Joins.{join-zero, zero-join, join-assoc, join-left, join-right, rest-join}
 use Rattle.evaluate.specs.Laws.Monotone.{before-falls, nameIn-le, list-falls, turns-falls, join-falls}
 use Rattle.evaluate.specs.Laws.PairCount.{boundIn, bound}
 use Rattle.evaluate.specs.Laws.Ranges.{figure-most}
 use Rattle.evaluate.specs.Laws.Kinds.{grouped, by-rest}
-use Rattle.evaluate.specs.Laws.Alike.{time-alike}
+use Rattle.evaluate.specs.Laws.Alike.{later-alike, time-alike}
 
 -- what the children after the first are joined to, and how
 pub rest-start : (v : Values) (k : Kind) → start v (rest k) ≡ const 0
@@ -69,14 +73,45 @@ from-none v k f e y h =
     let i : join k (const 0) (before v k f) ≡ before v k f = zero-join k _ (before-falls v k f) in
     same-finds (λ x. (rw i at (x .low), x .fits)) (λ x. record { low = rw i (x .0); fits = x .1 }) i (omega arith) (omega (arith, nameIn-le k f)) (omega arith) y h
 
+-- a block
+pub time-front : (v : Values) (t : Number) → Front (amount v t) (ever (later v t)) (timePairs v t)
+unfolding timePairs Canonical top
+time-front v t = in-front (amount v t) (ever (later v t)) tt (later-le v t)
+
+-- without a pair, a single value
+pub time-single : (v : Values) (t : Number) → paired t ≡ false → timePairs v t ≡ ever (amount v t)
+unfolding timePairs inFront
+time-single v t h = rw (later-same v t h, eq-eqb (amount v t) (amount v t) refl) refl
+
+pub time-pairs : (v : Values) (t : Number) → ArePairs (onceThen (amount v t) (later v t)) (timePairs v t)
+time-pairs v t = record { canonical = time-front v t .canonical; means = each }
+  where
+    each : (i : ℕ) → expand (timePairs v t) i ≡ onceThen (amount v t) (later v t) i
+    each zero = unfold onceThen in time-front v t .here
+    each (suc i) = unfold onceThen in time-front v t .later i ∙ unfold expand in refl
+
+pub time-thin : (v : Values) (t : Number) → width (timePairs v t) ≤ cond (paired t) 1 0
+time-thin v t = by-cond (λ x. width (timePairs v t) ≤ x) (paired t) _ _ (λ e. omega (arith, wide, drop-most (amount v t) (later v t))) (λ e. omega (arith, wide, drop-none (amount v t) (later v t) (omega (arith, later-same v t e))))
+  where
+    wide : width (timePairs v t) ≡ drop (amount v t) (later v t) + 0
+    wide = time-front v t .wide ∙ unfold top in unfold width in refl
+
+pub time-wide : (v : Values) (t : Number) → width (timePairs v t) ≤ 1
+time-wide v t = omega (arith, time-thin v t, by-cond (λ x. x ≤ 1) (paired t) 1 0 (λ e. omega arith) (λ e. omega arith))
+
+-- by what is lent to the walk
+pub time-lent : (u v : Values) → Agree u v → (t : Number) → T (timeInRange t) → timePairs u t ≡ timePairs v t
+unfolding timePairs
+time-lent u v agree t r = rw (time-alike u v agree t r, later-alike u v agree t r) refl
+
 -- what is found of a node before its own limit, by what is found of its children
 pub below-finds : (u v : Values) → Agree u v → (k : Kind) (f : Forest) (g : List ℕ → Found) (b : List ℕ) → T (kindInRange k) → T (arity k (size f))
     → (start v k ≡ const 0 → More v (const 0) 0 wholeRun 0 0 0 k f (evaluateMore u g k 0 (size f) b noneYet))
     → Finds ((before v k f 0 ≤ mostTime) × T (fitsIn v f)) (evaluateBelow u g k (size f) b) (before v k f) (boundIn k f) (nameIn k f) (recordsIn f) (branchIn v k f)
-unfolding evaluateBelow start fits before boundIn nameIn recordsIn branchIn arity size Canonical width kindInRange
+unfolding evaluateBelow start fits before boundIn nameIn recordsIn branchIn arity size kindInRange pairedBlock
 below-finds u v agree (Block t) nil g b r i q =
-    rw (time-alike u v agree t r)
-    (same-finds (λ x. (x, tt)) (λ x. x .0) refl refl refl refl refl (checked-finds (const (amount v t)) (ever (amount v t)) 0 wholeRun 0 noBranch (are-pairs tt (expand-ever (amount v t))) (omega arith)))
+    rw (time-lent u v agree t r)
+    (same-finds (λ x. (x, tt)) (λ x. x .0) refl (omega arith) refl refl refl (checked-finds (onceThen (amount v t) (later v t)) (timePairs v t) (cond (paired t) 1 0) wholeRun 0 noBranch (time-pairs v t) (time-thin v t)))
 below-finds u v agree (Block t) (c ▸ f) g b r i q = absurd (omega (arith, eqb→eq (suc (size f)) 0 i))
 below-finds u v agree Sequence f g b r i q = from-none v Sequence f _ (branch-after v Sequence f (leb→le 1 (size f) (both _ _ i .0))) (q refl)
 below-finds u v agree Choice f g b r i q = from-none v Choice f _ (branch-after v Choice f (leb→le 1 (size f) (both _ _ i .0))) (q refl)
@@ -91,7 +126,7 @@ module _ (u v : Values) (agree : Agree u v) (ranged : (k : ℕ) → k < firstTim
   -- The first child, then the others. What is joined on the way has no larger first member than the whole, so the tests on the way ask what question 10 asks of the node.
   pub next-more : (k : Kind) (t : Tree) (f : Forest) (g : List ℕ → Found) (b : List ℕ) (a : Stream) (w j m z o : ℕ) (s : Found) {y : ℕ}
       → SoFar s a w j m z → T (kindInRange k) → w + boundIn k (t ▸ f) ≤ mostWeight
-      → Finds (T (fits v t)) (g (drop (recordLength * s .records) b)) (list v t) (bound t) (name t) (records t) y
+      → Finds (T (fits v t)) (g (dropped (recordLength * s .records) b)) (list v t) (bound t) (name t) (records t) y
       → let x = childList v k t in let p = nextHolder k z (a 0) o (x 0) in
       ((e : Found) → SoFar e (join k a x) (w + grouped k (name t) (bound t)) (min j (seen k (name t))) (m + records t) p
       → More v (join k a x) (w + grouped k (name t) (bound t)) (min j (seen k (name t))) (m + records t) p (suc o) (rest k) f (evaluateMore u g (rest k) (suc o) (size f) b e))

@@ -1,6 +1,6 @@
 -- A closed tree's list is constant and names the whole run; a symbol-free tree's list is the same at all values.
 use mathlib.Core.Path.{_≡_, refl, ap, _∙_, ap₂, sym, subst}
-use mathlib.Core.Bool.{false, cond, Bool, true}
+use mathlib.Core.Bool.{false, cond, Bool, true, not}
 use Prim.Native.Nat.{ℕ, _≤_, _-_, _<_, suc}
 use native.Mathlib.Omega.{arith}
 use lib.Dec.{leb, T, ltb→lt, leb→le}
@@ -8,13 +8,14 @@ use borrow.Author.Tests.{leb-true, leb-false}
 use Rattle.evaluate.specs.Nodes.{Kind, Block, Sequence, Choice, Loop, Limit, Unlimited, AtMost, Number, Plain, Symbol, Most}
 use Rattle.booleans.specs.Laws.{by-cond, both}
 use Rattle.table.specs.Numbers.{wholeRun}
+use Rattle.table.specs.Questions.{paired, pairedBlock}
 use Rattle.table.specs.Trees.{Tree, node, Forest, nil, _▸_, rest, around}
 use Rattle.lists.specs.Streams.{Stream, group, add, merge, const, cap}
 use Rattle.lists.specs.Laws.MergeLaws.{Const, group-const, add-consts, merge-consts}
-use Rattle.evaluate.specs.Evaluate.{rounds, outward, Values, amount, seen, turns, join, start, inner, limit, name, nameIn, list, before, allowed}
+use Rattle.evaluate.specs.Evaluate.{rounds, outward, Values, amount, later, onceThen, seen, turns, join, start, inner, limit, name, nameIn, list, before, allowed}
 use Rattle.evaluate.specs.Closed.{isUnlimited, stays, closed, closedIn, isPlain, plainKind, plainLimit, symbolFree, symbolFreeIn, plainMost}
 use Rattle.evaluate.specs.Laws.Monotone.{name-le, nameIn-le}
-use Rattle.evaluate.specs.Laws.Kinds.{by-join, by-start, by-rest, by-first}
+use Rattle.evaluate.specs.Laws.Kinds.{by-join, by-start, by-rest, by-first, rest-single}
 
 rounds-const : (k n : ℕ) (f : Stream) → (leb k 1 ≡ false → Const f) → Const (rounds k n f)
 unfolding rounds
@@ -48,16 +49,17 @@ mutual
 
   pub list-const : (v : Values) (t : Tree) (d : ℕ) → T (closed t d) → wholeRun ≤ name t → Const (list v t)
   list-const v (node n f) d r h =
-      let (a, b) = both _ _ r in
-      limit-const v (n .limit) d _ _ a h (λ m. before-const v (n .kind) f d b m)
+      let (p, b) = both _ _ r in
+      let (a, q) = both _ _ p in
+      limit-const v (n .limit) d _ _ a h (λ m. before-const v (n .kind) f d q b m)
 
-  pub before-const : (v : Values) (k : Kind) (f : Forest) (d : ℕ) → T (closedIn k f d) → wholeRun ≤ nameIn k f → Const (before v k f)
-  before-const v k nil d r h = by-start Const v k (λ x. (x, refl))
-  before-const v k (t ▸ f) d r h =
+  pub before-const : (v : Values) (k : Kind) (f : Forest) (d : ℕ) → T (not (pairedBlock k)) → T (closedIn k f d) → wholeRun ≤ nameIn k f → Const (before v k f)
+  before-const v k nil d q r h = by-start (λ b s. T (not b) → Const s) v k (λ x o. (x, refl)) (λ x y l o. absurd o) q
+  before-const v k (t ▸ f) d q r h =
       let (a, b) = both _ _ r in
       join-const k _ _
       (turns-const v k (name t) _ (omega arith) (λ m. list-const v t (around k d) a m))
-      (before-const v (rest k) f d b (omega arith))
+      (before-const v (rest k) f d (subst (λ b. T (not b)) (sym (rest-single k)) tt) b (omega arith))
 
 -- ---- the name of a closed tree: one of the d loops around, or the whole run
 
@@ -93,7 +95,7 @@ mutual
   unfolding closed name
 
   closed-named : (t : Tree) (d : ℕ) → T (closed t d) → Named d (name t)
-  closed-named (node n f) d r = let (a, b) = both _ _ r in inner-named d (n .limit) _ a (closedIn-named (n .kind) f d b)
+  closed-named (node n f) d r = let (a, b) = both _ _ r in inner-named d (n .limit) _ (both _ _ a .0) (closedIn-named (n .kind) f d b)
 
   closedIn-named : (k : Kind) (f : Forest) (d : ℕ) → T (closedIn k f d) → Named d (nameIn k f)
   closedIn-named k nil d r = record { low = omega arith; high = λ g. omega arith }
@@ -112,19 +114,32 @@ closedIn-run k f r = let n = closedIn-named k f 0 r in omega (arith, n .high (n 
 pub closed-const : (v : Values) (t : Tree) → T (closed t 0) → Const (list v t)
 closed-const v t r = list-const v t 0 r (omega (arith, closed-run t r))
 
-pub closedIn-const : (v : Values) (k : Kind) (f : Forest) → T (closedIn k f 0) → before v k f ≡ const (before v k f 0)
+pub closedIn-const : (v : Values) (k : Kind) (f : Forest) → T (not (pairedBlock k)) → T (closedIn k f 0) → before v k f ≡ const (before v k f 0)
 unfolding const
-closedIn-const v k f r =
-    let (c, e) = before-const v k f 0 r (omega (arith, closedIn-run k f r)) in
+closedIn-const v k f q r =
+    let (c, e) = before-const v k f 0 q r (omega (arith, closedIn-run k f r)) in
     e ∙ ap const (sym (ap (λ s. s 0) e))
 
 -- ---- symbol-free
+
+pub plain-single : (k : Kind) → T (plainKind k) → T (not (pairedBlock k))
+unfolding plainKind isPlain pairedBlock paired
+plain-single (Block (Plain n)) h = tt
+plain-single (Block (Symbol s)) h = absurd h
+plain-single Sequence h = tt
+plain-single Choice h = tt
+plain-single (Loop n) h = tt
 
 module _ (v w : Values) where
   amount-free : (n : Number) → T (isPlain n) → amount v n ≡ amount w n
   unfolding isPlain amount
   amount-free (Plain n) h = refl
   amount-free (Symbol k) h = absurd h
+
+  later-free : (n : Number) → T (isPlain n) → later v n ≡ later w n
+  unfolding isPlain later
+  later-free (Plain n) h = refl
+  later-free (Symbol k) h = absurd h
 
   allowed-free : (m : Most) → T (plainMost m) → allowed v m ≡ allowed w m
   unfolding plainMost allowed
@@ -139,7 +154,7 @@ module _ (v w : Values) where
 
   start-free : (k : Kind) → T (plainKind k) → start v k ≡ start w k
   unfolding plainKind start
-  start-free (Block t) h = ap const (amount-free t h)
+  start-free (Block t) h = ap₂ onceThen (amount-free t h) (later-free t h)
   start-free Sequence h = refl
   start-free Choice h = refl
   start-free (Loop n) h = refl

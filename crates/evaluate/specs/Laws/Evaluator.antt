@@ -12,9 +12,9 @@ use Rattle.booleans.specs.Laws.{both, T-is, is-T, join-and, same-test}
 use Rattle.table.specs.Bytes.{AreBytes}
 use Rattle.table.specs.Checking.{refusal}
 use Rattle.table.specs.Numbers.{mostLoops, mostWeight, recordLength, wholeRun, mostCount, mostDepth, firstTimeSymbol}
-use Rattle.table.specs.Questions.{listed, loops, named, weight, kindInRange, listedIn, loopsIn, namedIn, weightIn, depth, depthIn}
+use Rattle.table.specs.Questions.{listed, loops, named, weight, pairedShare, kindInRange, listedIn, loopsIn, namedIn, weightIn, depth, depthIn}
 use Rattle.table.specs.Table.{encode, recordBytes, encodes, decode}
-use Rattle.table.specs.Trees.{Tree, Forest, node, _▸_, around, rest, records, nil, size}
+use Rattle.table.specs.Trees.{Tree, Forest, node, _▸_, around, rest, records, nil, size, everyNode}
 use Rattle.table.specs.Laws.Accepted.{is-table}
 use Rattle.table.specs.Laws.NotRefused.{tree-writes}
 use Rattle.table.specs.Laws.RoundTrip.{WritesNode, head-bytes, children-bytes, drop-bytes, length-bytes, Writes, drop-tree}
@@ -29,9 +29,9 @@ use Rattle.evaluate.specs.Laws.Children.{More, SoFar, rest-start, from-n
 use Rattle.evaluate.specs.Laws.Found.{Holds, Finds, known-finds, same-finds, then-finds, limited-holds}
 use Rattle.evaluate.specs.Laws.ListPairs.{pairs-are}
 use Rattle.evaluate.specs.Laws.PairCount.{bound, boundIn}
-use Rattle.evaluate.specs.Laws.Weight.{bound-weight, boundIn-weight}
+use Rattle.evaluate.specs.Laws.Weight.{bound-weight, boundIn-weight, rest-share}
 use Rattle.evaluate.specs.Laws.Kinds.{by-rest}
-use Rattle.table.specs.Limits.{everyLimit, everyLimitIn, everyMost}
+use Rattle.table.specs.Limits.{everyLimitIn, everyMost}
 
 -- ---- with d loops around, what checking lets pass: a tree, and children of a node of kind k
 
@@ -46,7 +46,7 @@ pub record FairIn (k : Kind) (f : Forest) (d : ℕ) : Type 0 where
   pub listed : T (listedIn f)
   pub nested : loopsIn k f d ≤ mostLoops
   pub named : T (namedIn k f d)
-  pub weighed : weightIn k f d ≤ mostWeight
+  pub weighed : pairedShare k d + weightIn k f d ≤ mostWeight
 
 pub fair-below : (n : Node) (f : Forest) (d : ℕ) → Fair (node n f) d → FairIn (n .kind) f d
 unfolding listed loops named weight
@@ -64,7 +64,7 @@ rest-ranged k = by-rest (λ j. T (kindInRange j)) k tt tt
 
 pub fair-rest : (k : Kind) (t : Tree) (f : Forest) (d : ℕ) → FairIn k (t ▸ f) d → FairIn (rest k) f d
 unfolding listed loops named weight
-fair-rest k t f d a = record { ranged = rest-ranged k; listed = both _ _ (a .listed) .1; nested = omega (arith, a .nested); named = both _ _ (a .named) .1; weighed = omega (arith, a .weighed) }
+fair-rest k t f d a = record { ranged = rest-ranged k; listed = both _ _ (a .listed) .1; nested = omega (arith, a .nested); named = both _ _ (a .named) .1; weighed = omega (arith, a .weighed, rest-share k d) }
 
 -- ---- the table of a tree
 
@@ -102,7 +102,7 @@ module _ (u v : Values) (agree : Agree u v) (ranged : (k : ℕ) → k < firstTim
       → ((i : ℕ) → depthIn f ≤ i → start v (n .kind) ≡ const 0
       → More v (const 0) 0 wholeRun 0 0 0 (n .kind) f (evaluateMore u (evaluateNode u i) (n .kind) 0 (size f) (encodes f ++ z) noneYet))
       → Finds (T (fits v (node n f))) (evaluateNode u h b) (list v (node n f)) (bound (node n f)) (name (node n f)) (records (node n f)) (branch v (node n f))
-  unfolding encode depth fits list bound name records branch listed Writes everyLimit
+  unfolding encode depth fits list bound name records branch listed Writes everyNode
   node-finds n f d zero b z e a y l q = absurd (omega arith)
   node-finds n f d (suc h) b z e a y l q =
       let (p, o) = both _ _ (a .listed) in
@@ -111,12 +111,12 @@ module _ (u v : Values) (agree : Agree u v) (ranged : (k : ℕ) → k < firstTim
       (same-finds
       (λ x. join-and _ _ (le→leb _ _ (x .0 .0)) (x .0 .1))
       (λ x. let (x₁, x₂) = both _ _ x in ((leb→le _ _ x₁, x₂), tt))
-      refl refl refl refl refl
+      refl (omega arith) refl refl refl
       (then-finds {q = Unit {0}} (below-finds u v agree (n .kind) f (evaluateNode u h) (encodes f ++ z) (both _ _ (both _ _ p₁ .0) .1) p₂ (q h (omega arith))) (λ x w.
       known-finds tt (limited-holds u v agree ranged (n .limit) _ _ _ _ _ _ w (both _ _ p₁ .1) (both _ _ y .0) (le-trans (bound-weight (node n f) d (a .nested) (a .named)) (a .weighed))))))
 
   mutual
-    unfolding depth encode evaluateMore size boundIn everyLimit
+    unfolding depth encode evaluateMore size boundIn everyNode
 
     pub tree-finds : (t : Tree) (d h : ℕ) (b z : List ℕ) → b ≡ encode t ++ z → Fair t d → T (everyMost (alike u v) t) → depth t ≤ h
         → Finds (T (fits v t)) (evaluateNode u h b) (list v t) (bound t) (name t) (records t) (branch v t)
@@ -137,7 +137,7 @@ module _ (u v : Values) (agree : Agree u v) (ranged : (k : ℕ) → k < firstTim
   -- a node's children, before its own limit, where question 10 says yes
   pub children-found : (n : Node) (f : Forest) (d h : ℕ) (b z : List ℕ) → b ≡ encodes f ++ z → Fair (node n f) d → T (everyMost (alike u v) (node n f)) → depthIn f ≤ h → start v (n .kind) ≡ const 0 → T (fits v (node n f))
       → let e = evaluateMore u (evaluateNode u h) (n .kind) 0 (size f) b noneYet in (e .fits ≡ true) × (top (e .pairs) ≡ before v (n .kind) f 0)
-  unfolding fits everyLimit
+  unfolding fits everyNode
   children-found n f d h b z e a r l o q =
       let c = fair-below n f d a in
       let (x, y) = both _ _ q in

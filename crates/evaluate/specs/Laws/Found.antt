@@ -88,7 +88,7 @@ then-finds {p} {q} {c} {e} {f} {g} {w} {u} {k} {j} {m} {n} {x} {y} a b = go (c .
     go false i = unfit-finds _ g u j n y (λ o. subst T (sym (a .holds (o .0) .fits) ∙ i) tt)
 
 -- the same, said in another way
-pub same-finds : {p q : Type 0} {e : Found} {f g : Stream} {w u k j m n x y : ℕ} → (p → q) → (q → p) → f ≡ g → w ≡ u → k ≡ j → m ≡ n → x ≡ y → Finds p e f w k m x → Finds q e g u j n y
+pub same-finds : {p q : Type 0} {e : Found} {f g : Stream} {w u k j m n x y : ℕ} → (p → q) → (q → p) → f ≡ g → w ≤ u → k ≡ j → m ≡ n → x ≡ y → Finds p e f w k m x → Finds q e g u j n y
 same-finds {e = e} a b i₁ i₂ i₃ i₄ i₅ h = record {
   only = λ o. a (h .only o);
   holds = λ o.

@@ -16,6 +16,7 @@ use Rattle.lists.specs.Laws.Merge.{merge-falls}
 use Rattle.lists.specs.Laws.MergeLaws.{Under, under-refl, merge-mono}
 use Rattle.triangular.specs.Laws.Rule.{triangular-mono}
 use Rattle.evaluate.specs.Evaluate.{Values, amount, limit, rounds, turns, join, start, name, list, before, figure, fits, fitsIn, outward, inner, nameIn, zeros, allowed}
+use Rattle.evaluate.specs.Laws.Times.{later-mono, once-falls, once-mono}
 use Rattle.evaluate.specs.Laws.Kinds.{by-join, by-start, by-first}
 
 -- ---- lists never rise
@@ -43,7 +44,7 @@ mutual
   list-falls v (node n f) = limit-falls v (n .limit) _ (before-falls v (n .kind) f)
 
   pub before-falls : (v : Values) (k : Kind) (f : Forest) → Falls (before v k f)
-  before-falls v k nil = by-start Falls v k const-falls
+  before-falls v k nil = by-start (λ b f. Falls f) v k const-falls once-falls
   before-falls v k (t ▸ f) = join-falls k _ _ (turns-falls v k (name t) _ (list-falls v t)) (before-falls v (rest k) f)
 
 -- ---- larger values
@@ -97,7 +98,7 @@ module _ (v w : Values) (le : (k : ℕ) → v k ≤ w k) where
 
   start-mono : (k : Kind) → Under (start v k) (start w k)
   unfolding start
-  start-mono (Block t) = const-mono _ _ (amount-mono t)
+  start-mono (Block t) = once-mono _ _ _ _ (amount-mono t) (later-mono v w le t)
   start-mono Sequence = under-refl _
   start-mono Choice = under-refl _
   start-mono (Loop n) = under-refl _

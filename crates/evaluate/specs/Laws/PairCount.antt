@@ -4,16 +4,18 @@ use Prim.Native.Nat.{ℕ, suc, _*_, _+_}
 use native.Mathlib.Omega.{arith}
 use lib.Dec.{leb}
 use Rattle.booleans.specs.Laws.{by-conds}
+use Rattle.table.specs.Questions.{pairedBlock}
 use Rattle.table.specs.Trees.{Tree, node, Forest, nil, _▸_, rest}
 use Rattle.lists.specs.Streams.{Stream, taken}
 use Rattle.lists.specs.Laws.Falls.{Few, add-few, merge-few, const-few, group-few, cap-few}
 use Rattle.lists.specs.Laws.Sums.{Falls}
 use Rattle.evaluate.specs.Nodes.{Limit, Unlimited, AtMost, Kind}
 use Rattle.evaluate.specs.Evaluate.{name, join, rounds, Values, amount, turns, limit, list, before, allowed}
+use Rattle.evaluate.specs.Laws.Times.{once-few}
 use Rattle.evaluate.specs.Laws.Monotone.{list-falls}
 use Rattle.evaluate.specs.Laws.Kinds.{grouped, by-join, by-start, by-first}
 
--- a bound on how often a tree's list falls, at all values: each limit is one fall, and a group sees each fall at most twice
+-- a bound on how often a tree's list falls, at all values: each limit and each paired block is one fall, and a group sees each fall at most twice
 unfoldable pub own : Limit → ℕ → ℕ
 own Unlimited w = w
 own (AtMost k m) w = suc w
@@ -23,7 +25,7 @@ unfoldable mutual
   bound (node n f) = own (n .limit) (boundIn (n .kind) f)
 
   pub boundIn : Kind → Forest → ℕ
-  boundIn k nil = 0
+  boundIn k nil = cond (pairedBlock k) 1 0
   boundIn k (t ▸ f) = grouped k (name t) (bound t) + boundIn (rest k) f
 
 join-few : (k : Kind) (w u : ℕ) (f g : Stream) → Few w f → Few u g → Few (w + u) (join k f g)
@@ -52,5 +54,5 @@ mutual
   list-few v (node n f) = limit-few v (n .limit) _ _ (before-few v (n .kind) f)
 
   pub before-few : (v : Values) (k : Kind) (f : Forest) → Few (boundIn k f) (before v k f)
-  before-few v k nil = by-start (Few 0) v k const-few
+  before-few v k nil = by-start (λ b f. Few (cond b 1 0) f) v k const-few (λ x y l. once-few x y)
   before-few v k (t ▸ f) = join-few k _ _ _ _ (turns-few v k (name t) _ _ (list-falls v t) (list-few v t)) (before-few v (rest k) f)

@@ -1,4 +1,5 @@
 -- What the evaluator's walk finds of any bytes, at any values, is in range.
+use mathlib.Core.Path.{_≡_, refl}
 use mathlib.Core.Bool.{Bool, cond}
 use mathlib.Core.List.{List}
 use Prim.Native.Nat.{ℕ, _*_, _≤_, _+_, suc, zero}
@@ -13,18 +14,29 @@ use Rattle.lists.specs.Operations.{first}
 use Rattle.lists.specs.Pairs.{top, width, places, Canonical, ever, Pairs}
 use Rattle.lists.specs.Laws.Cap.{cap-facts}
 use Rattle.lists.specs.Laws.Group.{group-canonical, group-thin}
-use Rattle.evaluate.specs.Nodes.{Kind, Block, Sequence, Choice, Loop, Limit, Unlimited, AtMost}
-use Rattle.evaluate.specs.Evaluate.{Values, amount, noBranch}
-use Rattle.evaluate.specs.Evaluator.{Found, unfit, noneYet, checked, joined, looped, goneRound, limited, evaluateMore, evaluateBelow, evaluateNode, looked}
+use Rattle.evaluate.specs.Nodes.{Kind, Block, Sequence, Choice, Loop, Limit, Unlimited, AtMost, Number}
+use Rattle.evaluate.specs.Evaluate.{Values, amount, later, noBranch}
+use Rattle.evaluate.specs.Evaluator.{Found, timePairs, unfit, noneYet, checked, joined, looped, goneRound, limited, evaluateMore, evaluateBelow, evaluateNode, looked}
 use Rattle.evaluate.specs.Laws.Found.{join-facts}
+use Rattle.evaluate.specs.Laws.Children.{time-front, time-wide}
 
--- what is found at the start of b
-pub record Sane (b : List ℕ) (e : Found) : Type 0 where
+-- what is found at the start of b, with the places that n records may have
+pub record SaneBy (n : ℕ) (b : List ℕ) (e : Found) : Type 0 where
   pub canonical : Canonical (e .pairs)
   pub low : top (e .pairs) ≤ mostTime
   pub thin : width (e .pairs) ≤ mostWeight
-  pub near : places (e .pairs) ≤ mostCount * e .records
+  pub near : places (e .pairs) ≤ mostCount * n
   pub short : recordLength * e .records ≤ length b
+
+abbrev pub Sane : List ℕ → Found → Type 0
+Sane b e = SaneBy (e .records) b e
+
+-- below the first record of b, before its own limit: the record may be a block, with a place of its own
+abbrev pub Below : List ℕ → Found → Type 0
+Below b e = SaneBy (suc (e .records)) b e
+
+pub sane-is-below : (b : List ℕ) (e : Found) → Sane b e → Below b e
+sane-is-below b e p = record { canonical = p .canonical; low = p .low; thin = p .thin; near = omega (arith, p .near); short = p .short }
 
 -- ---- the steps
 
@@ -76,7 +88,7 @@ sane-round v Choice b c p = p
 sane-round v (Loop n) b c p = sane-looped (amount v n) b c p
 
 -- the first record of b, with what is found below it
-pub sane-limited : (v : Values) (l : Limit) (b : List ℕ) (s : Found) → recordLength ≤ length b → Sane (drop recordLength b) s → Sane b (limited v l s)
+pub sane-limited : (v : Values) (l : Limit) (b : List ℕ) (s : Found) → recordLength ≤ length b → Below (drop recordLength b) s → Sane b (limited v l s)
 unfolding limited
 sane-limited v Unlimited b s g p =
     record { canonical = p .canonical; low = p .low; thin = p .thin; near = omega (arith, p .near); short = omega (arith, p .short, length-drop recordLength b) }
@@ -110,12 +122,22 @@ sane-more v f h k i (suc n) b s p =
     let e = joined k i s d in
     sane-where b (c .fits) _ (λ t. sane-where b (d .fits) _ (λ t. sane-where b (e .fits) _ (λ t. sane-more v f h (rest k) (suc i) n b e (sane-next v k i b s c p (h _)))))
 
-pub sane-below : (v : Values) (f : List ℕ → Found) → ((b : List ℕ) → Sane b (f b)) → (k : Kind) (n : ℕ) (b : List ℕ) → Sane b (evaluateBelow v f k n b)
-unfolding evaluateBelow Canonical width places
-sane-below v f h (Block t) n b = sane-checked b (ever (amount v t)) wholeRun 0 noBranch tt (omega arith) (omega arith) (omega arith)
-sane-below v f h Sequence n b = sane-more v f h Sequence 0 n b _ (sane-none b)
-sane-below v f h Choice n b = sane-more v f h Choice 0 n b _ (sane-none b)
-sane-below v f h (Loop m) n b = sane-more v f h (Loop m) 0 n b _ (sane-none b)
+pub below-block : (v : Values) (t : Number) (b : List ℕ) → Below b (checked (timePairs v t) wholeRun 0 noBranch)
+below-block v t b =
+    let f = time-front v t in
+    by-cond (Below b) (leb (top (timePairs v t)) mostTime) _ _
+    (λ e. record { canonical = f .canonical; low = leb→le (top (timePairs v t)) mostTime e; thin = omega (arith, time-wide v t); near = omega (arith, f .reach, none); short = omega arith })
+    (λ e. sane-is-below b unfit (sane-unfit b))
+  where
+    none : places (ever (later v t)) ≡ 0
+    none = unfold places in refl
+
+pub sane-below : (v : Values) (f : List ℕ → Found) → ((b : List ℕ) → Sane b (f b)) → (k : Kind) (n : ℕ) (b : List ℕ) → Below b (evaluateBelow v f k n b)
+unfolding evaluateBelow
+sane-below v f h (Block t) n b = below-block v t b
+sane-below v f h Sequence n b = sane-is-below b _ (sane-more v f h Sequence 0 n b _ (sane-none b))
+sane-below v f h Choice n b = sane-is-below b _ (sane-more v f h Choice 0 n b _ (sane-none b))
+sane-below v f h (Loop m) n b = sane-is-below b _ (sane-more v f h (Loop m) 0 n b _ (sane-none b))
 
 pub sane : (v : Values) (h : ℕ) (b : List ℕ) → Sane b (evaluateNode v h b)
 unfolding evaluateNode

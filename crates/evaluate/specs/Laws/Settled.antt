@@ -7,13 +7,14 @@ use Rattle.evaluate.specs.Nodes.{Kind, Limit, Unlimited, AtMost}
 use Rattle.booleans.specs.Laws.{by-conds, both}
 use Rattle.table.specs.Numbers.{mostCount, firstTimeSymbol}
 use Rattle.table.specs.Trees.{Tree, node, Forest, nil, _▸_, rest}
-use Rattle.table.specs.Questions.{limitInRange, listed, listedIn}
+use Rattle.table.specs.Questions.{limitInRange, listed, listedIn, pairedBlock}
 use Rattle.lists.specs.Streams.{Stream}
 use Rattle.lists.specs.Laws.Sums.{Falls}
 use Rattle.lists.specs.Laws.Settled.{Settled, add-settled, merge-settled, const-settled, group-settled, cap-settled}
 use Rattle.evaluate.specs.Evaluate.{join, rounds, Values, amount, limit, turns, name, list, before, allowed}
 use Rattle.evaluate.specs.ListPairs.{placeOf, turned, place, placeIn}
 use Rattle.evaluate.specs.Laws.Amounts.{allowed-most}
+use Rattle.evaluate.specs.Laws.Times.{once-settled}
 use Rattle.evaluate.specs.Laws.Monotone.{list-falls, before-falls, turns-falls}
 use Rattle.evaluate.specs.Laws.PairCount.{own, bound, boundIn}
 use Rattle.evaluate.specs.Laws.Kinds.{grouped, by-join, by-start, by-first}
@@ -44,7 +45,7 @@ mutual
   list-settled v (node n f) = limit-settled v (n .limit) _ _ (before-settled v (n .kind) f)
 
   pub before-settled : (v : Values) (k : Kind) (f : Forest) → Settled (placeIn v k f) (before v k f)
-  before-settled v k nil = by-start (Settled 0) v k (λ x. const-settled x 0)
+  before-settled v k nil = by-start (λ b f. Settled (cond b 1 0) f) v k (λ x. const-settled x 0) (λ x y l. once-settled x y)
   before-settled v k (t ▸ f) =
       join-settled k _ _ _ _ (turns-falls v k (name t) _ (list-falls v t)) (before-falls v (rest k) f)
       (turns-settled v k (name t) _ _ (list-settled v t)) (before-settled v (rest k) f)
@@ -71,7 +72,7 @@ module _ (v : Values) (ranged : (k : ℕ) → k < firstTimeSymbol → v k ≤ mo
         own-most (n .limit) _ _ (both _ _ (both _ _ p .0) .1) (placeIn-most (n .kind) f q)
 
     pub placeIn-most : (k : Kind) (f : Forest) → T (listedIn f) → placeIn v k f ≤ boundIn k f * mostCount
-    placeIn-most k nil h = omega arith
+    placeIn-most k nil h = by-conds (λ x y. x ≤ y * mostCount) (pairedBlock k) _ _ _ _ (λ e. omega arith) (λ e. omega arith)
     placeIn-most k (t ▸ f) h =
         let (a, b) = both _ _ h in
         omega (arith, turned-most k (name t) (bound t) (place v t) (place-most t a), placeIn-most (rest k) f b)

@@ -15,8 +15,8 @@ use Rattle.evaluate.specs.declared.Valued.{Valued}
 use Rattle.evaluate.specs.Nodes.{Kind}
 use Rattle.evaluate.specs.Evaluate.{Values, noBranch}
 use Rattle.evaluate.specs.Evaluator.{Found, andThen, found, goneRound, joined, unfit}
-use Rattle.evaluate.specs.Shown.{Ready, Roomy, Shows, foundIn, withNext}
-use Rattle.evaluate.specs.Laws.Sane.{Sane}
+use Rattle.evaluate.specs.Shown.{Limitable, Ready, Roomy, Shows, foundIn, withNext}
+use Rattle.evaluate.specs.Laws.Sane.{Below, Sane}
 
 -- ---- arrays
 
@@ -74,6 +74,9 @@ pub ready-shown : {b : List ℕ} {r : Valued} {a : List ℕ} {e : Found} → len
 ready-shown l q s i =
     let h = s .list i in
     record { proper = h .proper; low = rw (h .pairs) (q .low); near = rw (h .pairs, s .records) (q .near); few = omega (arith, q .short, s .records); room = s .room }
+
+pub limitable-shown : {b : List ℕ} {r : Valued} {a : List ℕ} {e : Found} → length b ≤ recordLength * mostRecords → Below b e → Shows r a e → r .fits ≡ true → Limitable r a
+limitable-shown l q s i = record { proper = s .list i .proper; few = omega (arith, q .short, s .records); room = s .room }
 
 pub itself-shown : {r : Valued} {a : List ℕ} → Ready r a → Shows r a (foundIn r a)
 itself-shown h = record { fits = refl; named = refl; records = refl; branch = refl; list = λ _. record { proper = h .proper; pairs = refl }; room = h .room }

@@ -7,14 +7,14 @@ use native.Mathlib.Omega.{arith}
 use lib.Dec.{leb, T, eqb, eqb→eq, leb→le}
 use lib.Pow.{pow-mono}
 use borrow.Author.Tests.{leb-true, leb-false, le-leb, lt-leb, eqb-true}
-use Rattle.booleans.specs.Laws.{both, by-cond}
+use Rattle.booleans.specs.Laws.{both, by-cond, by-conds}
 use Rattle.table.specs.Numbers.{wholeRun, mostLoops}
-use Rattle.table.specs.Questions.{nameOk, named, namedIn, share, loops, loopsIn, weight, weightIn}
+use Rattle.table.specs.Questions.{pairedBlock, pairedShare, nameOk, named, namedIn, share, loops, loopsIn, weight, weightIn}
 use Rattle.table.specs.Trees.{around, Tree, node, Forest, nil, _▸_, rest}
 use Rattle.evaluate.specs.Nodes.{Limit, Unlimited, AtMost, Kind, Most}
 use Rattle.evaluate.specs.Evaluate.{inner, outward, seen, name, nameIn}
 use Rattle.evaluate.specs.Laws.PairCount.{own, bound, boundIn}
-use Rattle.evaluate.specs.Laws.Kinds.{grouped, by-first}
+use Rattle.evaluate.specs.Laws.Kinds.{grouped, by-first, rest-single}
 
 -- ---- question 7
 
@@ -135,6 +135,15 @@ grouped-bound k d n w =
     double : (w x : ℕ) → 2 * w * x ≤ w * (x * 2)
     double w x = omega (arith, mul-assoc 2 w x, mul-assoc w x 2)
 
+-- a paired block's one fall
+paired-bound : (k : Kind) (d : ℕ) → cond (pairedBlock k) 1 0 * 2 ^ within d wholeRun ≤ pairedShare k d
+unfolding pairedShare
+paired-bound k d = rw (within-run d wholeRun (omega arith)) (by-conds (λ x y. x * 2 ^ d ≤ y) (pairedBlock k) _ _ _ _ (λ e. omega arith) (λ e. omega arith))
+
+pub rest-share : (k : Kind) (d : ℕ) → pairedShare (rest k) d ≡ 0
+unfolding pairedShare
+rest-share k d = rw (rest-single k) refl
+
 mutual
   unfolding bound name loops named weight
 
@@ -142,21 +151,25 @@ mutual
   pub weight-bound : (t : Tree) (d : ℕ) → loops t d ≤ mostLoops → T (named t d) → bound t * 2 ^ within d (name t) ≤ weight t d
   weight-bound (node n f) d l h =
       let (a, b) = both _ _ h in
-      own-bound (n .limit) d _ _ _ (omega arith) a (nameIn-near (n .kind) f d b) (weightIn-bound (n .kind) f d (omega arith) b)
+      let w = own-bound (n .limit) d _ _ _ (omega arith) a (nameIn-near (n .kind) f d b) (weightIn-bound (n .kind) f d (omega arith) b) in
+      omega (arith, w)
 
-  pub weightIn-bound : (k : Kind) (f : Forest) (d : ℕ) → loopsIn k f d ≤ mostLoops → T (namedIn k f d) → boundIn k f * 2 ^ within d (nameIn k f) ≤ weightIn k f d
-  weightIn-bound k nil d l h = omega arith
+  pub weightIn-bound : (k : Kind) (f : Forest) (d : ℕ) → loopsIn k f d ≤ mostLoops → T (namedIn k f d) → boundIn k f * 2 ^ within d (nameIn k f) ≤ pairedShare k d + weightIn k f d
+  weightIn-bound k nil d l h = omega (arith, paired-bound k d)
   weightIn-bound k (t ▸ f) d l h =
       let (a, b) = both _ _ h in
       let p = seen-near k d _ (name-near t (around k d) a) in
       let q = nameIn-near (rest k) f d b in
       let n = least (seen k (name t)) (nameIn (rest k) f) d p q in
-      together _ _ _ _ _ _ _
+      more _ _ _ _ (rest-share k d) (together _ _ _ _ _ _ _
       (pow-mono (within-mono d (min (seen k (name t)) (nameIn (rest k) f)) (seen k (name t)) n (omega arith)))
       (pow-mono (within-mono d (min (seen k (name t)) (nameIn (rest k) f)) (nameIn (rest k) f) n (omega arith)))
       (le-trans (grouped-bound k d (name t) (bound t)) (weight-bound t (around k d) (omega arith) a))
-      (weightIn-bound (rest k) f d (omega arith) b)
+      (weightIn-bound (rest k) f d (omega arith) b))
     where
+      more : (x p y z : ℕ) {q : ℕ} → q ≡ 0 → x ≤ y + (q + z) → x ≤ p + (y + z)
+      more x p y z e l = omega arith
+
       together : (u w p x y s z : ℕ) → p ≤ x → p ≤ y → u * x ≤ s → w * y ≤ z → (u + w) * p ≤ s + z
       together u w p x y s z a b c e = omega (arith, mul-le-mul-left u a, mul-le-mul-left w b)
 
@@ -165,6 +178,6 @@ pub bound-weight : (t : Tree) (d : ℕ) → loops t d ≤ mostLoops → T (named
 bound-weight t d l h =
     omega (arith, weight-bound t d l h, mul-le-mul-left (bound t) (pow-mono {i = 0} {j = within d (name t)} (omega arith)))
 
-pub boundIn-weight : (k : Kind) (f : Forest) (d : ℕ) → loopsIn k f d ≤ mostLoops → T (namedIn k f d) → boundIn k f ≤ weightIn k f d
+pub boundIn-weight : (k : Kind) (f : Forest) (d : ℕ) → loopsIn k f d ≤ mostLoops → T (namedIn k f d) → boundIn k f ≤ pairedShare k d + weightIn k f d
 boundIn-weight k f d l h =
     omega (arith, weightIn-bound k f d l h, mul-le-mul-left (boundIn k f) (pow-mono {i = 0} {j = within d (nameIn k f)} (omega arith)))

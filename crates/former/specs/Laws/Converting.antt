@@ -18,7 +18,7 @@ use Rattle.former.specs.Former.{formerCount, formerLength, formerQuestio
 use Rattle.former.specs.Converted.{Converts, newRecord, convertAnswer, convertRefusal, convertWrites, converted}
 use Rattle.former.specs.declared.Conversion.{Conversion}
 use Rattle.former.specs.Laws.Apart.{never-both}
-use Rattle.former.specs.Laws.Converted.{converted-long, same-refusal, same-tree}
+use Rattle.former.specs.Laws.Converted.{converted-long, same-refusal, same-tree, same-unpaired}
 
 -- a record: its former bytes, then those that are noAddress
 pub record-put : (b : List ℕ) (i : ℕ) (out o₁ o₂ : List ℕ) → let at = recordLength * i in
@@ -98,4 +98,4 @@ module _ (b out : List ℕ) where
 -- ---- what is promised
 
 pub converts : (b : List ℕ) → Converts b
-converts b = record { sameRefusal = same-refusal b; sameTree = same-tree b; apart = never-both b }
+converts b = record { sameRefusal = same-refusal b; unpairedRefusal = same-unpaired b; sameTree = same-tree b; apart = never-both b }

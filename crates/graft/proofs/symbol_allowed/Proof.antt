@@ -3,11 +3,11 @@ use borrow.Author.Needs.{needs}
 use Rattle.graft.proofs.symbol_allowed.Statement.{statement}
 use Rattle.graft.proofs.symbol_allowed.Tie as tie
 
-count-occurrences-requires : tie.Need-count-occurrences-requires
-count-occurrences-requires c κs = search needs
+sendable-requires : tie.Need-sendable-requires
+sendable-requires c κs = search needs
 
 returns : tie.Need-returns
-returns c = asked-11 _ (c .before .before .pre) _ _ (c .count-occurrences .ensures .0)
+returns c = asked-11 _ (c .before .before .pre) _ _ (c .sendable .ensures)
 
 pub symbol-allowed-spec : {M : Type 1} → statement M
-symbol-allowed-spec = tie.close (tie.spec count-occurrences-requires returns)
+symbol-allowed-spec = tie.close (tie.spec sendable-requires returns)

@@ -10,14 +10,14 @@ use lib.ListN.{getD, length, length-set, set}
 use lib.Seq.{getD-set-other, getD-set-same}
 use borrow.Author.Tests.{eqb-true, eqb-false, le-ltb}
 use Rattle.booleans.specs.Laws.{both, join-and}
-use Rattle.table.specs.Numbers.{firstTimeSymbol, howManySymbols, howManyValues, mostTime}
+use Rattle.table.specs.Numbers.{firstPairedSymbol, firstTimeSymbol, howManyValues, laterPlace, mostTime}
 use Rattle.table.specs.Table.{decode, recordCount}
 use Rattle.table.specs.Limits.{everyMost}
 use Rattle.table.specs.Checking.{IsTable, refusal}
 use Rattle.table.specs.Laws.Asking.{answered}
-use Rattle.evaluate.specs.Evaluate.{branch, figure, fits, valuesOf}
+use Rattle.evaluate.specs.Evaluate.{Values, branch, figure, fits, valuesOf}
 use Rattle.evaluate.specs.Laws.Ranges.{figure-most}
-use Rattle.values.specs.Values.{ceiling, question13, question9, ranged, triangleSmall}
+use Rattle.values.specs.Values.{ceiling, laterLow, question13, question14, question9, ranged, triangleSmall}
 use Rattle.quoting.specs.Answers.{checkAnswer, figureAnswer, quotedFigure, quotedRefusal}
 use Rattle.quoting.specs.declared.Checked.{Checked}
 use Rattle.quoting.specs.Laws.Figures.{figure-asked, figure-is, figured}
@@ -25,7 +25,7 @@ use Rattle.values.specs.Laws.Values.{thirteen-limits, values-carry, values-nine
 use Rattle.splice.specs.Graft.{graft, uses}
 use Rattle.graft.specs.Answers.{graftTable, question11, question12}
 use Rattle.graft.specs.Promises.{GraftPromised, Quoted, hostValues}
-use Rattle.graft.specs.Laws.Grafted.{graft-branch, graft-figure, graft-fits, graft-needs, set-other, setValue}
+use Rattle.graft.specs.Laws.Grafted.{Replaces, graft-branch, graft-figure, graft-fits, graft-needs, set-other, setValue}
 use Rattle.graft.specs.Laws.Limits.{graft-limits, sent-limits, smalls-but}
 use Rattle.table.specs.Laws.Tables.{accepted-table}
 use Rattle.graft.specs.Laws.Result.{result-reads, result-table, result-unused, sent-is}
@@ -62,13 +62,23 @@ set-allowed vs s x g l h =
     let (a, b) = both _ _ h in
     join-and _ _ (subst (λ k. T (eqb k howManyValues)) (sym (length-set vs s x)) a) (ranged-set 0 vs s x (omega (arith, time-ceiling s g)) b)
 
+-- question 14 does not read it, where it is below the paired symbols
+lows-but : (v w : Values) → ((k : ℕ) → firstPairedSymbol ≤ k → v k ≡ w k) → (n s : ℕ) → firstPairedSymbol ≤ s → laterLow n s v ≡ laterLow n s w
+unfolding laterLow
+lows-but v w same zero s l = refl
+lows-but v w same (suc n) s l = rw (same s l, same (s + laterPlace) (omega arith), lows-but v w same n (suc s) (omega arith)) refl
+
+fourteen-set : (vs : List ℕ) (s x : ℕ) → s < firstPairedSymbol → question14 vs ≡ question14 (set vs s x)
+unfolding question14
+fourteen-set vs s x l = lows-but (valuesOf vs) (valuesOf (set vs s x)) (λ k g. sym (getD-set-other vs s k x 0 (λ e. omega arith))) _ firstPairedSymbol (omega arith)
+
 -- ---- the three figures
 
 -- what the figure call answers of two tables with values, all of them accepted by questions 1 to 9
-quotes-alike : (b c vs ws : List ℕ) → refusal b ≡ 0 → refusal c ≡ 0 → T (question9 vs) → T (question9 ws) → question13 b vs ≡ question13 c ws
+quotes-alike : (b c vs ws : List ℕ) → refusal b ≡ 0 → refusal c ≡ 0 → T (question9 vs) → T (question9 ws) → question13 b vs ≡ question13 c ws → question14 vs ≡ question14 ws
     → fits (valuesOf vs) (decode b) ≡ fits (valuesOf ws) (decode c) → figure (valuesOf vs) (decode b) ≡ figure (valuesOf ws) (decode c) → branch (valuesOf vs) (decode b) ≡ branch (valuesOf ws) (decode c)
     → figureAnswer b vs ≡ figureAnswer c ws
-quotes-alike b c vs ws e f p q j k l m = figure-asked b vs e p ∙ rw (j, k, l, m) (sym (figure-asked c ws f q))
+quotes-alike b c vs ws e f p q i j k l m = figure-asked b vs e p ∙ rw (i, j, k, l, m) (sym (figure-asked c ws f q))
 
 module _ (h b vs : List ℕ) (s : ℕ) (H : IsTable h) (B : IsTable b) (eleven : T (question11 b s)) (twelve : T (question12 (graftTable h b s))) where
   result-is : IsTable (graftTable h b s)
@@ -81,28 +91,31 @@ module _ (h b vs : List ℕ) (s : ℕ) (H : IsTable h) (B : IsTable b) (eleven :
       let f = figured b vs z in
       let x = f .is in
       let nine = values-nine b vs (f .allowed) in
-      let (low, high) = both _ _ (both _ _ eleven .0) in
-      let g = leb→le firstTimeSymbol s low in
+      let (p, alone) = both _ _ eleven in
+      let (low, high) = both _ _ (both _ _ p .0) in
+      let below = ltb→lt s firstPairedSymbol high in
+      let time = leb→le firstTimeSymbol s low in
+      let g : Replaces s (decode b) = record { time = time; low = below; unpaired = alone } in
       let o = sent-is h b s H B in
       let l = H .accepted .listed in
-      let long : s < length vs = omega (arith, ltb→lt s howManySymbols high, eqb→eq (length vs) howManyValues (nine-long nine)) in
+      let long : s < length vs = omega (arith, eqb→eq (length vs) howManyValues (nine-long nine)) in
       let w : valuesOf (hostValues b s vs) ≡ setValue (valuesOf vs) s (figure (valuesOf vs) (decode b)) =
       ap (λ y. valuesOf (set vs s y)) x ∙ values-set vs s (figure (valuesOf vs) (decode b)) long in
       let small : quotedFigure (figureAnswer b vs) ≤ mostTime = omega (arith, x, figure-most (valuesOf vs) (decode b) (f .small)) in
       let fit : fits (valuesOf vs) (graft s (decode b) (decode h)) ≡ fits (valuesOf (hostValues b s vs)) (decode h) =
-      graft-fits (valuesOf vs) s g (decode b) o (f .small) (decode h) l ∙ ap (λ v. fits v (decode h)) (sym w) in
+      graft-fits (valuesOf vs) s (decode b) g o (f .small) (decode h) l ∙ ap (λ v. fits v (decode h)) (sym w) in
       let fig : figure (valuesOf vs) (graft s (decode b) (decode h)) ≡ figure (valuesOf (hostValues b s vs)) (decode h) =
-      graft-figure (valuesOf vs) s g (decode b) o (decode h) l ∙ ap (λ v. figure v (decode h)) (sym w) in
+      graft-figure (valuesOf vs) s (decode b) g o (decode h) l ∙ ap (λ v. figure v (decode h)) (sym w) in
       let side : branch (valuesOf vs) (graft s (decode b) (decode h)) ≡ branch (valuesOf (hostValues b s vs)) (decode h) =
-      graft-branch (valuesOf vs) s g (decode b) o (decode h) l ∙ ap (λ v. branch v (decode h)) (sym w) in
+      graft-branch (valuesOf vs) s (decode b) g o (decode h) l ∙ ap (λ v. branch v (decode h)) (sym w) in
       let reads = result-reads h b s H B in
       let same : everyMost (triangleSmall (valuesOf vs)) (decode h) ≡ everyMost (triangleSmall (valuesOf (hostValues b s vs))) (decode h) =
-      rw w (smalls-but (valuesOf vs) _ s g (set-other (valuesOf vs) s (figure (valuesOf vs) (decode b))) (decode h) l) in
+      rw w (smalls-but (valuesOf vs) _ s time (set-other (valuesOf vs) s (figure (valuesOf vs) (decode b))) (decode h) l) in
       let sent = subst T (thirteen-limits b vs B) (values-thirteen b vs (f .allowed)) in
       let thirteen : question13 (graftTable h b s) vs ≡ question13 h (hostValues b s vs) =
       thirteen-limits _ vs result-is ∙ ap (everyMost (triangleSmall (valuesOf vs))) reads
       ∙ graft-limits (triangleSmall (valuesOf vs)) s (decode b) sent (decode h) l ∙ same ∙ sym (thirteen-limits h _ H) in
-      quotes-alike (graftTable h b s) h vs _ (accepted-table _ result-is) (accepted-table h H) nine (set-allowed vs s _ g small nine) thirteen (ap (fits (valuesOf vs)) reads ∙ fit) (ap (figure (valuesOf vs)) reads ∙ fig) (ap (branch (valuesOf vs)) reads ∙ side)
+      quotes-alike (graftTable h b s) h vs _ (accepted-table _ result-is) (accepted-table h H) nine (set-allowed vs s _ time small nine) thirteen (fourteen-set vs s _ below) (ap (fits (valuesOf vs)) reads ∙ fit) (ap (figure (valuesOf vs)) reads ∙ fig) (ap (branch (valuesOf vs)) reads ∙ side)
     where
       nine-long : T (question9 vs) → T (eqb (length vs) howManyValues)
       nine-long k = unfold question9 in both _ _ k .0

@@ -1,9 +1,9 @@
 -- The grafted tree: the host's named loop, and the host's list with the symbol set to the sent tree's figure.
 use mathlib.Core.Path.{_≡_, refl, ap, ap₂, _∙_, sym, subst}
 use mathlib.Core.Bool.{Bool, true, false, cond, _||_}
-use Prim.Native.Nat.{ℕ, suc, min, _≤_}
+use Prim.Native.Nat.{ℕ, suc, min, _+_, _<_, _≤_}
 use native.Mathlib.Omega.{arith}
-use lib.Dec.{T, eqb, leb, le→leb, ltb, ltb→lt}
+use lib.Dec.{T, eqb, leb, le→leb, leb→le, ltb, ltb→lt}
 use borrow.Author.Tests.{eq-eqb, ne-eqb}
 use Rattle.triangular.specs.Triangular.{triangular}
 use Rattle.table.specs.declared.Most.{Most}
@@ -14,16 +14,17 @@ use Rattle.table.specs.declared.Limit.the-variants.{Unlimited, AtMost}
 use Rattle.table.specs.declared.Kind.{Kind}
 use Rattle.table.specs.declared.Kind.the-variants.{Block, Sequence, Choice, Loop}
 use Rattle.booleans.specs.Tests.{_and_}
-use Rattle.booleans.specs.Laws.{both, join-and, by-cond, either, or-else, is-T, T-is}
-use Rattle.table.specs.Numbers.{firstTimeSymbol, mostTime, wholeRun}
+use Rattle.booleans.specs.Laws.{both, join-and, by-cond, by-conds, either, or-else, is-T, T-is}
+use Rattle.table.specs.Numbers.{firstPairedSymbol, firstTimeSymbol, laterPlace, mostTime, wholeRun}
 use Rattle.table.specs.Trees.{Tree, node, Forest, nil, _▸_, size, rest, around}
-use Rattle.table.specs.Questions.{Accepted, arity, countInRange, isAddress, kindInRange, limitInRange, listed, listedIn, nameOk, named, namedIn, timeInRange, mostInRange}
+use Rattle.table.specs.Questions.{Accepted, arity, countInRange, isAddress, kindInRange, limitInRange, listed, listedIn, nameOk, named, namedIn, paired, pairedBlock, pairedSymbol, timeInRange, mostInRange, unpaired}
 use Rattle.lists.specs.Streams.{Stream, S, add, cap, const, group, shift}
-use Rattle.evaluate.specs.Evaluate.{Values, amount, before, branch, branchIn, figure, fits, fitsIn, holderIn, inner, join, limit, list, name, nameIn, noBranch, rounds, seen, start, turns, allowed}
+use Rattle.evaluate.specs.Evaluate.{Values, amount, before, branch, branchIn, figure, fits, fitsIn, holderIn, inner, join, later, limit, list, name, nameIn, noBranch, onceThen, rounds, seen, start, turns, allowed}
 use Rattle.evaluate.specs.Closed.{stays, closed, closedIn}
 use Rattle.evaluate.specs.Laws.Evaluator.{Fair, rest-ranged}
 use Rattle.evaluate.specs.Laws.Ranges.{figure-most}
 use Rattle.evaluate.specs.Laws.Constant.{closedIn-const, closedIn-run}
+use Rattle.evaluate.specs.Laws.Times.{later-below, once-same}
 use Rattle.splice.specs.Graft.{graft, graftIn, inPlace, isSymbol, rename, uses, usesIn, zeroBlock}
 use Rattle.splice.specs.Laws.Sizes.{size-grafted, symbol-only}
 use Rattle.graft.specs.Laws.Renamed.{rename-closed, rename-fits, rename-list, rename-listed, rename-named}
@@ -31,6 +32,12 @@ use Rattle.graft.specs.Laws.Renamed.{rename-closed, rename-fits, rename-
 -- what is asked of a sent tree
 pub accepted-fair : (u : Tree) → Accepted u → Fair u 0
 accepted-fair u a = record { listed = a .listed; nested = a .nested; named = a .named; weighed = a .weighed }
+
+-- what question 11 asks of the symbol and of a sent tree, besides that it does not use the symbol
+pub record Replaces (s : ℕ) (u : Tree) : Type 0 where
+  pub time : firstTimeSymbol ≤ s
+  pub low : s < firstPairedSymbol
+  pub unpaired : T (unpaired u)
 
 -- ---- a tree that does not use the symbol stays as it is
 
@@ -55,22 +62,26 @@ module _ (s : ℕ) (u : Tree) where
 abbrev placed : Tree → Forest
 placed u = rename u 0 ▸ zeroBlock ▸ nil
 
-placed-closed : (u : Tree) → Fair u 0 → T (closedIn (Loop (Plain 1)) (placed u) 0)
-unfolding closed stays around rest
-placed-closed u s = join-and _ _ (rename-closed u 0 (s .listed) (s .nested) (s .named)) (unfold _and_ in tt)
+placed-closed : (u : Tree) → Fair u 0 → T (unpaired u) → T (closedIn (Loop (Plain 1)) (placed u) 0)
+unfolding closed stays around rest pairedBlock paired
+placed-closed u s i = join-and _ _ (rename-closed u 0 (s .listed) i (s .nested) (s .named)) (unfold _and_ in tt)
 
--- it names the whole run, and its list repeats the symbol's value
-symbol-alone : (s : ℕ) (k : Kind) (f : Forest) → T (isSymbol s k) → T (arity k (size f)) → (nameIn k f ≡ wholeRun) × ((v : Values) → before v k f ≡ const (v s))
-unfolding name list start amount
-symbol-alone s k f h a = let (x, y) = symbol-only s k f h a in (ap₂ nameIn x y, λ v. ap₂ (before v) x y)
+-- a block with the symbol names the whole run, and its list repeats the symbol's value
+symbol-name : (s : ℕ) (k : Kind) (f : Forest) → T (isSymbol s k) → T (arity k (size f)) → nameIn k f ≡ wholeRun
+unfolding name
+symbol-name s k f h a = let (x, y) = symbol-only s k f h a in ap₂ nameIn x y
+
+symbol-list : (v : Values) (s : ℕ) → s < firstPairedSymbol → (k : Kind) (f : Forest) → T (isSymbol s k) → T (arity k (size f)) → before v k f ≡ const (v s)
+unfolding list start amount
+symbol-list v s l k f h a = let (x, y) = symbol-only s k f h a in ap₂ (before v) x y ∙ ap (onceThen (v s)) (later-below v s l) ∙ once-same (v s)
 
 -- ---- names
 
-place-name : (u : Tree) (l : Limit) (i : ℕ) → Fair u 0 → name (inPlace u l i) ≡ inner l wholeRun
+place-name : (u : Tree) (l : Limit) (a : ℕ) → Fair u 0 → T (unpaired u) → name (inPlace u l a) ≡ inner l wholeRun
 unfolding inPlace name
-place-name u l i s = ap (inner l) (closedIn-run (Loop (Plain 1)) (placed u) (placed-closed u s))
+place-name u l a s i = ap (inner l) (closedIn-run (Loop (Plain 1)) (placed u) (placed-closed u s i))
 
-module _ (s : ℕ) (u : Tree) (o : Fair u 0) where
+module _ (s : ℕ) (u : Tree) (o : Fair u 0) (i : T (unpaired u)) where
   mutual
     unfolding graft listed name
 
@@ -78,7 +89,7 @@ module _ (s : ℕ) (u : Tree) (o : Fair u 0) where
     graft-name (node n f) h =
         let (p, c) = both _ _ h in
         by-cond (λ t. name t ≡ inner (n .limit) (nameIn (n .kind) f)) (isSymbol s (n .kind)) _ _
-        (λ b. place-name u (n .limit) (n .address) o ∙ ap (inner (n .limit)) (sym (symbol-alone s (n .kind) f b (both _ _ p .1) .0)))
+        (λ b. place-name u (n .limit) (n .address) o i ∙ ap (inner (n .limit)) (sym (symbol-name s (n .kind) f b (both _ _ p .1))))
         (λ e. ap (inner (n .limit)) (graftIn-name (n .kind) f c))
 
     pub graftIn-name : (k : Kind) (f : Forest) → T (listedIn f) → nameIn k (graftIn s u f) ≡ nameIn k f
@@ -96,16 +107,16 @@ first-turn k f = by-cond (λ (g : Stream). g 0 ≡ f 0) (leb k 1) (const (group 
 
 -- the loop's first member before its limit is the sent tree's figure
 place-first : (v : Values) (u : Tree) → Fair u 0 → before v (Loop (Plain 1)) (placed u) 0 ≡ figure v u
-unfolding list join add turns amount rest start const figure limit
+unfolding list join add turns amount rest start const onceThen figure limit
 place-first v u s =
     let e = first-turn (name (rename u 0)) (list v (rename u 0)) in
     let q = ap (λ f. f 0) (rename-list v u 0 (s .nested) (s .named)) in
     omega (arith, e, q)
 
-place-list : (v : Values) (u : Tree) (l : Limit) (i : ℕ) → Fair u 0 → list v (inPlace u l i) ≡ limit v l (const (figure v u))
-unfolding inPlace list
-place-list v u l i s =
-    ap (limit v l) (closedIn-const v (Loop (Plain 1)) (placed u) (placed-closed u s) ∙ ap const (place-first v u s))
+place-list : (v : Values) (u : Tree) (l : Limit) (a : ℕ) → Fair u 0 → T (unpaired u) → list v (inPlace u l a) ≡ limit v l (const (figure v u))
+unfolding inPlace list pairedBlock
+place-list v u l a s i =
+    ap (limit v l) (closedIn-const v (Loop (Plain 1)) (placed u) tt (placed-closed u s i) ∙ ap const (place-first v u s))
 
 -- ---- values that agree but for symbol s: of symbols from 16 on, only times read them
 
@@ -129,13 +140,21 @@ module _ (v w : Values) (s : ℕ) (h : firstTimeSymbol ≤ s) (same : (k : ℕ) 
   limit-but Unlimited f r = refl
   limit-but (AtMost k m) f r = ap (λ n. cap n f) (allowed-but m (both _ _ r .1))
 
-  start-but : (k : Kind) → T (kindInRange k) → isSymbol s k ≡ false → start v k ≡ start w k
-  unfolding start isSymbol amount
-  start-but (Block (Plain n)) r e = refl
-  start-but (Block (Symbol k)) r e = ap const (same k e)
-  start-but Sequence r e = refl
-  start-but Choice r e = refl
-  start-but (Loop n) r e = refl
+  -- the later value of a paired symbol is behind them all
+  later-but : s < firstPairedSymbol → (k : ℕ) → eqb k s ≡ false → later v (Symbol k) ≡ later w (Symbol k)
+  unfolding later paired
+  later-but l k e =
+      by-conds _≡_ (pairedSymbol k) _ _ _ _
+      (λ p. ap₂ min (same k e) (same (k + laterPlace) (ne-eqb (k + laterPlace) s (λ q. omega (arith, leb→le firstPairedSymbol k (both _ _ p .0))))))
+      (λ p. same k e)
+
+  start-but : s < firstPairedSymbol → (k : Kind) → T (kindInRange k) → isSymbol s k ≡ false → start v k ≡ start w k
+  unfolding start isSymbol amount later
+  start-but l (Block (Plain n)) r e = refl
+  start-but l (Block (Symbol k)) r e = ap₂ onceThen (same k e) (later-but l k e)
+  start-but l Sequence r e = refl
+  start-but l Choice r e = refl
+  start-but l (Loop n) r e = refl
 
   turns-but : (k : Kind) (i : ℕ) (f : Stream) → T (kindInRange k) → turns v k i f ≡ turns w k i f
   unfolding turns kindInRange
@@ -163,7 +182,7 @@ set-there : (v : Values) (s x : ℕ) → setValue v s x s ≡ x
 unfolding setValue
 set-there v s x = rw (eq-eqb s s refl) refl
 
-module _ (v : Values) (s : ℕ) (g : firstTimeSymbol ≤ s) (u : Tree) (o : Fair u 0) where
+module _ (v : Values) (s : ℕ) (u : Tree) (g : Replaces s u) (o : Fair u 0) where
   mutual
     unfolding graft listed list
 
@@ -175,16 +194,16 @@ module _ (v : Values) (s : ℕ) (g : firstTimeSymbol ≤ s) (u : Tree) (o : Fair
         let (k, l) = both _ _ q in
         by-cond (λ t. list v t ≡ limit (setValue v s (figure v u)) (n .limit) (before (setValue v s (figure v u)) (n .kind) f)) (isSymbol s (n .kind)) _ _
         (λ b.
-        place-list v u (n .limit) (n .address) o ∙ limit-but v (setValue v s (figure v u)) s g (set-other v s (figure v u)) (n .limit) _ l
-        ∙ ap (limit (setValue v s (figure v u)) (n .limit)) (ap const (sym (set-there v s (figure v u))) ∙ sym (symbol-alone s (n .kind) f b a .1 (setValue v s (figure v u)))))
-        (λ e. limit-but v (setValue v s (figure v u)) s g (set-other v s (figure v u)) (n .limit) _ l ∙ ap (limit (setValue v s (figure v u)) (n .limit)) (graft-before (n .kind) f (both _ _ k .1) e c))
+        place-list v u (n .limit) (n .address) o (g .unpaired) ∙ limit-but v (setValue v s (figure v u)) s (g .time) (set-other v s (figure v u)) (n .limit) _ l
+        ∙ ap (limit (setValue v s (figure v u)) (n .limit)) (ap const (sym (set-there v s (figure v u))) ∙ sym (symbol-list (setValue v s (figure v u)) s (g .low) (n .kind) f b a)))
+        (λ e. limit-but v (setValue v s (figure v u)) s (g .time) (set-other v s (figure v u)) (n .limit) _ l ∙ ap (limit (setValue v s (figure v u)) (n .limit)) (graft-before (n .kind) f (both _ _ k .1) e c))
 
     pub graft-before : (k : Kind) (f : Forest) → T (kindInRange k) → isSymbol s k ≡ false → T (listedIn f) → before v k (graftIn s u f) ≡ before (setValue v s (figure v u)) k f
-    graft-before k nil r e h = start-but v (setValue v s (figure v u)) s g (set-other v s (figure v u)) k r e
+    graft-before k nil r e h = start-but v (setValue v s (figure v u)) s (g .time) (set-other v s (figure v u)) (g .low) k r e
     graft-before k (t ▸ f) r e h =
         let (a, b) = both _ _ h in
         ap₂ (join k)
-        (turns-but v (setValue v s (figure v u)) s g (set-other v s (figure v u)) k _ _ r ∙ ap₂ (turns (setValue v s (figure v u)) k) (graft-name s u o t a) (graft-list t a))
+        (turns-but v (setValue v s (figure v u)) s (g .time) (set-other v s (figure v u)) k _ _ r ∙ ap₂ (turns (setValue v s (figure v u)) k) (graft-name s u o (g .unpaired) t a) (graft-list t a))
         (graft-before (rest k) f (rest-ranged k) (rest-no-symbol s k) b)
 
   -- the grafted figure equals the host's figure with the symbol set to the sent tree's figure
@@ -222,7 +241,7 @@ module _ (v : Values) (s : ℕ) (g : firstTimeSymbol ≤ s) (u : Tree) (o : Fair
 -- ---- question 10
 
 zero-fits : (v : Values) → T (fits v zeroBlock and true)
-unfolding fits list start amount const _and_
+unfolding fits list start amount onceThen _and_
 zero-fits v = tt
 
 place-fits : (v : Values) (u : Tree) (l : Limit) (i : ℕ) → Fair u 0 → T (fits v u) → T (fits v (inPlace u l i))
@@ -231,13 +250,13 @@ place-fits v u l i s h =
     join-and _ _ (subst (λ x. T (leb x mostTime)) (sym (place-first v u s)) (le→leb _ _ (figure-most v u h)))
     (join-and _ _ (is-T _ (rename-fits v u 0 (s .nested) (s .named) ∙ T-is _ h)) (zero-fits v))
 
-symbol-fits : (w : Values) (s : ℕ) (k : Kind) (f : Forest) → T (isSymbol s k) → T (arity k (size f)) → w s ≤ mostTime → T (leb (before w k f 0) mostTime and fitsIn w f)
+symbol-fits : (w : Values) (s : ℕ) → s < firstPairedSymbol → (k : Kind) (f : Forest) → T (isSymbol s k) → T (arity k (size f)) → w s ≤ mostTime → T (leb (before w k f 0) mostTime and fitsIn w f)
 unfolding fits const
-symbol-fits w s k f h a l =
-    let first : before w k f 0 ≡ w s = ap (λ (g : Stream). g 0) (symbol-alone s k f h a .1 w) in
+symbol-fits w s o k f h a l =
+    let first : before w k f 0 ≡ w s = ap (λ (g : Stream). g 0) (symbol-list w s o k f h a) in
     join-and _ _ (le→leb (before w k f 0) mostTime (omega (arith, first))) (subst (λ (g : Forest). T (fitsIn w g)) (sym (symbol-only s k f h a .1)) tt)
 
-module _ (v : Values) (s : ℕ) (g : firstTimeSymbol ≤ s) (u : Tree) (o : Fair u 0) (y : T (fits v u)) where
+module _ (v : Values) (s : ℕ) (u : Tree) (g : Replaces s u) (o : Fair u 0) (y : T (fits v u)) where
   set-low : setValue v s (figure v u) s ≤ mostTime
   set-low = omega (arith, set-there v s (figure v u), figure-most v u y)
 
@@ -250,8 +269,8 @@ module _ (v : Values) (s : ℕ) (g : firstTimeSymbol ≤ s) (u : Tree) (o : Fair
         let (p, c) = both _ _ h in
         let (q, a) = both _ _ p in
         by-cond (λ t. fits v t ≡ (leb (before (setValue v s (figure v u)) (n .kind) f 0) mostTime and fitsIn (setValue v s (figure v u)) f)) (isSymbol s (n .kind)) _ _
-        (λ b. T-is _ (place-fits v u (n .limit) (n .address) o y) ∙ sym (T-is _ (symbol-fits (setValue v s (figure v u)) s (n .kind) f b a set-low)))
-        (λ e. ap₂ _and_ (ap (λ k. leb (k 0) mostTime) (graft-before v s g u o (n .kind) f (both _ _ (both _ _ q .0) .1) e c)) (graftIn-fits f c))
+        (λ b. T-is _ (place-fits v u (n .limit) (n .address) o y) ∙ sym (T-is _ (symbol-fits (setValue v s (figure v u)) s (g .low) (n .kind) f b a set-low)))
+        (λ e. ap₂ _and_ (ap (λ k. leb (k 0) mostTime) (graft-before v s u g o (n .kind) f (both _ _ (both _ _ q .0) .1) e c)) (graftIn-fits f c))
 
     graftIn-fits : (f : Forest) → T (listedIn f) → fitsIn v (graftIn s u f) ≡ fitsIn (setValue v s (figure v u)) f
     graftIn-fits nil h = refl

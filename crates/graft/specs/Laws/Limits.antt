@@ -9,10 +9,10 @@ use Rattle.table.specs.declared.Most.{Most}
 use Rattle.table.specs.declared.Limit.{Limit}
 use Rattle.table.specs.declared.Limit.the-variants.{Unlimited, AtMost}
 use Rattle.table.specs.declared.Kind.{Kind}
-use Rattle.table.specs.Limits.{limitHolds, everyLimit, everyLimitIn, everyMost, mostHolds}
+use Rattle.table.specs.Limits.{limitHolds, everyLimitIn, everyMost, mostHolds}
 use Rattle.table.specs.Numbers.{firstTimeSymbol}
 use Rattle.table.specs.Questions.{limitInRange, listed, listedIn, mostInRange}
-use Rattle.table.specs.Trees.{Tree, node, Forest, nil, _▸_, around, rest}
+use Rattle.table.specs.Trees.{Tree, node, Forest, nil, _▸_, around, rest, everyNode}
 use Rattle.evaluate.specs.Evaluate.{Values}
 use Rattle.triangular.specs.Triangular.{mostTriangular}
 use Rattle.values.specs.Values.{triangleSmall}
@@ -30,7 +30,7 @@ module _ (q : Most → Bool) where
   limit-renamed (AtMost k m) d = refl
 
   mutual
-    unfolding rename everyLimit
+    unfolding rename everyNode
 
     rename-limits : (t : Tree) (d : ℕ) → everyMost q (rename t d) ≡ everyMost q t
     rename-limits (node n f) d = ap₂ _and_ (limit-renamed (n .limit) d) (renameIn-limits (n .kind) f d)
@@ -40,12 +40,12 @@ module _ (q : Most → Bool) where
     renameIn-limits k (t ▸ f) d = ap₂ _and_ (rename-limits t (around k d)) (renameIn-limits (rest k) f d)
 
   place-limits : (u : Tree) (l : Limit) (i : ℕ) → everyMost q (inPlace u l i) ≡ (mostHolds q l and everyMost q u)
-  unfolding inPlace everyLimit limitHolds _and_
+  unfolding inPlace everyNode limitHolds _and_
   place-limits u l i = ap (λ x. mostHolds q l and x) (and-true _ ∙ rename-limits u 0)
 
   module _ (s : ℕ) (u : Tree) where
     mutual
-      unfolding graft listed everyLimit
+      unfolding graft listed everyNode
 
       -- where it holds of the sent tree's, it says of the grafted tree's what it says of the host's
       pub graft-limits : T (everyMost q u) → (t : Tree) → T (listed t) → everyMost q (graft s u t) ≡ everyMost q t
@@ -61,7 +61,7 @@ module _ (q : Most → Bool) where
       graftIn-limits y (t ▸ f) h = let (a, b) = both _ _ h in ap₂ _and_ (graft-limits y t a) (graftIn-limits y f b)
 
     mutual
-      unfolding graft uses everyLimit
+      unfolding graft uses everyNode
 
       -- where the host uses the symbol, it holds of the grafted tree's only if it does of the sent tree's
       pub sent-limits : (t : Tree) → T (uses s t) → T (everyMost q (graft s u t)) → T (everyMost q u)
@@ -85,7 +85,7 @@ module _ (v w : Values) (s : ℕ) (h : firstTimeSymbol ≤ s) (same : (k : ℕ) 
   small-but (AtMost k (Most.Triangular j)) r = ap (λ x. leb x mostTriangular) (count-but v w s h same j (both _ _ r .1))
 
   mutual
-    unfolding listed everyLimit
+    unfolding listed everyNode
 
     pub smalls-but : (t : Tree) → T (listed t) → everyMost (triangleSmall v) t ≡ everyMost (triangleSmall w) t
     smalls-but (node n f) l =

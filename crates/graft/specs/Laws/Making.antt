@@ -1,6 +1,6 @@
 -- The program's pieces on accepted tables: question 11, and the result.
-use mathlib.Core.Path.{_≡_, refl, ap, _∙_}
-use mathlib.Core.Bool.{false, _&&_}
+use mathlib.Core.Path.{_≡_, refl, ap, sym, _∙_}
+use mathlib.Core.Bool.{Bool, false, _&&_}
 use mathlib.Core.List.{List}
 use Prim.Native.Nat.{ℕ, suc, _+_, _*_, _%_, _<_, _≤_}
 use native.Mathlib.Nat.{mul-le-mul-left, mul-le-mul-right, le-trans}
@@ -9,9 +9,9 @@ use lib.Dec.{eqb, leb, ltb}
 use lib.ListN.{length}
 use borrow.Author.Tests.{lt-leb}
 use Rattle.booleans.specs.Tests.{_and_}
-use Rattle.booleans.specs.Laws.{and-false, and-is}
-use Rattle.table.specs.Numbers.{firstTimeSymbol, howManySymbols, mostRecords, recordLength}
-use Rattle.table.specs.Table.{decode, encode, recordCount}
+use Rattle.booleans.specs.Laws.{and-assoc, and-false, and-is}
+use Rattle.table.specs.Numbers.{firstPairedSymbol, firstTimeSymbol, mostRecords, recordLength}
+use Rattle.table.specs.Table.{decode, each, encode, recordCount}
 use Rattle.table.specs.Trees.{records}
 use Rattle.table.specs.Checking.{IsTable, question1}
 use Rattle.table.specs.Laws.RoundTrip.{length-encode}
@@ -20,16 +20,16 @@ use Rattle.table.specs.Laws.Trees.{some-records}
 use Rattle.writing.specs.Records.{front}
 use Rattle.splice.specs.Graft.{graft}
 use Rattle.splice.specs.Renaming.{renamedTable}
-use Rattle.splice.specs.Splice.{occurrencesIn, splice, spliceRecords}
-use Rattle.splice.specs.Laws.Splice.{graft-records, long-table, occurrences-table, splice-table, uses-none}
+use Rattle.splice.specs.Splice.{occurrencesIn, sendableFirst, splice, spliceRecords}
+use Rattle.splice.specs.Laws.Splice.{graft-records, long-table, occurrences-table, sendable-table, splice-table}
 use Rattle.graft.specs.Answers.{graftTable, question11, question12}
 use Rattle.graft.specs.Making.{GraftMade}
 
 -- ---- question 11
 
-pub asked-11 : (b : List ℕ) → IsTable b → (s count : ℕ) → count ≡ occurrencesIn s (recordCount b) b → (leb firstTimeSymbol s && ltb s howManySymbols && eqb count 0) ≡ question11 b s
+pub asked-11 : (b : List ℕ) → IsTable b → (s : ℕ) (sends : Bool) → sends ≡ each (sendableFirst s) (recordCount b) b → (leb firstTimeSymbol s && ltb s firstPairedSymbol && sends) ≡ question11 b s
 unfolding question11
-asked-11 b t s count e = rw (and-is, and-is, uses-none b t s count e) refl
+asked-11 b t s sends e = rw (and-is, and-is, e, sendable-table b t s) (sym (and-assoc (leb firstTimeSymbol s and ltb s firstPairedSymbol) _ _))
 
 -- ---- the result
 

@@ -12,8 +12,8 @@ use Rattle.table.specs.declared.Kind.the-variants.{Block, Sequence, Choice, Loo
 use Rattle.booleans.specs.Tests.{_and_}
 use Rattle.booleans.specs.Laws.{both, join-and, or-false, or-left}
 use Rattle.table.specs.Numbers.{wholeRun, mostLoops, mostTime, mostWeight}
-use Rattle.table.specs.Trees.{Tree, node, Forest, nil, _▸_, rest, around}
-use Rattle.table.specs.Questions.{limitInRange, listed, listedIn, loops, loopsIn, nameOk, named, namedIn, share, weight, weightIn}
+use Rattle.table.specs.Trees.{Tree, node, Forest, nil, _▸_, rest, around, everyNode, everyNodeIn}
+use Rattle.table.specs.Questions.{limitInRange, listed, listedIn, loops, loopsIn, nameOk, named, namedIn, share, single, unpaired, weight, weightIn}
 use Rattle.lists.specs.Streams.{Stream, group, const}
 use Rattle.evaluate.specs.Evaluate.{Values, amount, inner, outward, seen, name, nameIn, limit, rounds, turns, join, list, before, fits, fitsIn}
 use Rattle.evaluate.specs.Closed.{stays, closed, closedIn}
@@ -150,20 +150,22 @@ stays-renamed (AtMost k m) d g r h = go (eqb k wholeRun) refl
         join-and _ _ (join-and _ _ (le→leb 1 k low) (le→leb k (suc d) (omega arith))) (lt→ltb k wholeRun (omega arith))
 
 mutual
-  unfolding listed loops named closed rename
+  unfolding listed everyNode loops named closed rename
 
-  pub rename-closed : (t : Tree) (d : ℕ) → T (listed t) → loops t d ≤ mostLoops → T (named t d) → T (closed (rename t d) (suc d))
-  rename-closed (node n f) d r l h =
+  pub rename-closed : (t : Tree) (d : ℕ) → T (listed t) → T (unpaired t) → loops t d ≤ mostLoops → T (named t d) → T (closed (rename t d) (suc d))
+  rename-closed (node n f) d r u l h =
       let (p, c) = both _ _ r in
+      let (i, j) = both _ _ u in
       let (a, b) = both _ _ h in
-      join-and _ _ (stays-renamed (n .limit) d (omega arith) (both _ _ (both _ _ p .0) .1) a) (renameIn-closed (n .kind) f d c (omega arith) b)
+      join-and _ _ (join-and _ _ (stays-renamed (n .limit) d (omega arith) (both _ _ (both _ _ p .0) .1) a) i) (renameIn-closed (n .kind) f d c j (omega arith) b)
 
-  renameIn-closed : (k : Kind) (f : Forest) (d : ℕ) → T (listedIn f) → loopsIn k f d ≤ mostLoops → T (namedIn k f d) → T (closedIn k (renameIn k f d) (suc d))
-  renameIn-closed k nil d r l h = tt
-  renameIn-closed k (t ▸ f) d r l h =
+  renameIn-closed : (k : Kind) (f : Forest) (d : ℕ) → T (listedIn f) → T (everyNodeIn single f) → loopsIn k f d ≤ mostLoops → T (namedIn k f d) → T (closedIn k (renameIn k f d) (suc d))
+  renameIn-closed k nil d r u l h = tt
+  renameIn-closed k (t ▸ f) d r u l h =
       let (x, y) = both _ _ r in
+      let (i, j) = both _ _ u in
       let (a, b) = both _ _ h in
-      join-and _ _ (rw (around-suc k d) (rename-closed t (around k d) x (omega arith) a)) (renameIn-closed (rest k) f d y (omega arith) b)
+      join-and _ _ (rw (around-suc k d) (rename-closed t (around k d) x i (omega arith) a)) (renameIn-closed (rest k) f d y j (omega arith) b)
 
 -- ---- question 10 says the same of it
 

@@ -4,7 +4,7 @@ use mathlib.Core.List.{List, [], _∷_}
 use Prim.Native.Nat.{ℕ, _≤_}
 use native.Mathlib.Omega.{arith}
 use lib.Dec.{T}
-use Rattle.booleans.specs.Laws.{both, T-is}
+use Rattle.booleans.specs.Laws.{T-is}
 use Rattle.table.specs.Table.{decode}
 use Rattle.table.specs.Asking.{_asks_, byRefusal, firstNo}
 use Rattle.table.specs.Checking.{refusal}
@@ -13,9 +13,9 @@ use Rattle.table.specs.Laws.Refusal.{check-passed, check-passes}
 use Rattle.evaluate.specs.Evaluate.{valuesOf, figure, branch, fits}
 use Rattle.evaluate.specs.Laws.Monotone.{figure-mono}
 use Rattle.quoting.specs.declared.Quote.{Quote}
-use Rattle.values.specs.Values.{NoneLower, question13, question9, ranged, valueQuestions, valuesRefusal}
+use Rattle.values.specs.Values.{NoneLower, question13, question14, question9, valueQuestions, valuesRefusal}
 use Rattle.quoting.specs.Answers.{figureAnswer, figureRefusal, quoteOf, quoteQuestions, quotedBranch, quotedFigure, quotedRefusal}
-use Rattle.values.specs.Laws.Values.{values-nine, values-thirteen}
+use Rattle.values.specs.Laws.Values.{values-fourteen, values-nine, values-thirteen}
 
 module _ (b vs : List ℕ) where
   -- a question about the values says no
@@ -30,13 +30,13 @@ module _ (b vs : List ℕ) where
 
   -- the figure call on a table and values that questions 1 to 9 accept
   pub figure-asked : refusal b ≡ 0 → T (question9 vs)
-      → figureAnswer b vs ≡ byRefusal (firstNo (13 asks question13 b vs ∷ 10 asks fits (valuesOf vs) (decode b) ∷ [])) (quoteOf b vs) Quote.Refused
+      → figureAnswer b vs ≡ byRefusal (firstNo (13 asks question13 b vs ∷ 14 asks question14 vs ∷ 10 asks fits (valuesOf vs) (decode b) ∷ [])) (quoteOf b vs) Quote.Refused
   unfolding figureAnswer figureRefusal quoteQuestions valueQuestions firstNo
   figure-asked e n = ap (λ x. byRefusal x (quoteOf b vs) Quote.Refused) (check-passes b _ e ∙ rw (T-is (question9 vs) n) refl)
 
   pub figure-is : refusal b ≡ 0 → valuesRefusal b vs ≡ 0 → T (fits (valuesOf vs) (decode b)) → figureAnswer b vs ≡ quoteOf b vs
   unfolding byRefusal firstNo
-  figure-is e q f = figure-asked e (values-nine b vs q) ∙ rw (T-is (question13 b vs) (values-thirteen b vs q), T-is (fits (valuesOf vs) (decode b)) f) refl
+  figure-is e q f = figure-asked e (values-nine b vs q) ∙ rw (T-is (question13 b vs) (values-thirteen b vs q), T-is (question14 vs) (values-fourteen b vs q), T-is (fits (valuesOf vs) (decode b)) f) refl
 
   pub record Figured : Type 0 where
     pub accepted : refusal b ≡ 0
@@ -61,8 +61,3 @@ module _ (b vs : List ℕ) where
 pub figure-monotone : (b vs ws : List ℕ) → NoneLower vs ws → quotedRefusal (figureAnswer b vs) ≡ 0 → quotedRefusal (figureAnswer b ws) ≡ 0
     → quotedFigure (figureAnswer b vs) ≤ quotedFigure (figureAnswer b ws)
 figure-monotone b vs ws l p q = omega (arith, figured b vs p .is, figured b ws q .is, figure-mono (valuesOf vs) (valuesOf ws) l (decode b))
-
--- values that get a figure are in range
-pub figured-ranged : (b vs : List ℕ) → quotedRefusal (figureAnswer b vs) ≡ 0 → T (ranged 0 vs)
-unfolding question9
-figured-ranged b vs p = both _ _ (values-nine b vs (figured b vs p .allowed)) .1

@@ -50,8 +50,8 @@ module _ (vs ns : List ℕ) (long : length vs ≡ howManyValues) (t : Triangles 
   lent-alike (Most.Symbol k) h = is-T (eqb (getD ns k 0) (getD vs k 0)) (eq-eqb _ _ (lent-agree k (omega (arith, ltb→lt k firstTimeSymbol h))))
   lent-alike (Most.Triangular k) h =
       let l = ltb→lt k firstTimeSymbol h in
-      let behind : getD ns (howManySymbols + k) 0 ≡ triangular (getD vs k 0) = ap (λ n. getD ns (n + k) 0) (sym long) ∙ t .behind k (omega arith) in
-      is-T (eqb (cond (ltb k howManySymbols) (getD ns (howManySymbols + k) 0) 0) (triangular (getD vs k 0))) (rw (lt-ltb k howManySymbols (omega arith)) (eq-eqb _ _ behind))
+      let behind : getD ns (howManyValues + k) 0 ≡ triangular (getD vs k 0) = ap (λ n. getD ns (n + k) 0) (sym long) ∙ t .behind k (omega arith) in
+      is-T (eqb (cond (ltb k howManySymbols) (getD ns (howManyValues + k) 0) 0) (triangular (getD vs k 0))) (rw (lt-ltb k howManySymbols (omega arith)) (eq-eqb _ _ behind))
 
   pub lent-walked : (b : List ℕ) {r : Valued} {out : List ℕ} → Shows r out (evaluateNode (valuesOf ns) mostDepth b) → Walked b vs r out
   lent-walked b s = record {

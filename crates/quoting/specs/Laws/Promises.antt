@@ -27,11 +27,11 @@ use Rattle.writing.specs.Over.{over}
 use Rattle.quoting.specs.Answers.{figureAnswer, listAnswer, listRefusal, listWrites, listedPairs, listedRefusal, quotedFigure, quotedRefusal}
 use Rattle.quoting.specs.Branches.{BranchPromises}
 use Rattle.quoting.specs.Promises.{ListPromises, NeverLowered, Promised, Promises, byRule}
-use Rattle.values.specs.Values.{triangleSmall}
+use Rattle.values.specs.Values.{question14, triangleSmall}
 use Rattle.writing.specs.Laws.Over.{take-over}
 use Rattle.quoting.specs.Laws.Branches.{branch-of}
 use Rattle.quoting.specs.Laws.Figures.{figure-monotone, figured}
-use Rattle.values.specs.Laws.Values.{small-rule, thirteen-limits, values-thirteen}
+use Rattle.values.specs.Laws.Values.{later-own, small-rule, thirteen-limits, values-fourteen, values-thirteen}
 use Rattle.quoting.specs.Laws.Evaluated.{Lists}
 
 small-ruled : (v : Values) (m : Most) → T (triangleSmall v m) → T (byRule v m)
@@ -40,12 +40,14 @@ small-ruled v (Most.Plain n) h = tt
 small-ruled v (Most.Symbol s) h = tt
 small-ruled v (Most.Triangular s) h = rw (small-rule v s h) (eqb-refl (rule (v s)))
 
-figure-promised : (v : Values) (t : Tree) → Accepted t → T (everyMost (triangleSmall v) t) → Promised v t (figure v t)
-figure-promised v t a h = record {
-  covered = covered v t;
-  reached = λ f. reached v t f (a .listed);
-  ruled = limits-follow _ _ (λ k m. small-ruled v m) t h;
-}
+figure-promised : (vs : List ℕ) (t : Tree) → let v = valuesOf vs in Accepted t → T (everyMost (triangleSmall v) t) → T (question14 vs) → Promised v t (figure v t)
+figure-promised vs t a h l =
+    let v = valuesOf vs in record {
+      covered = covered v t;
+      reached = λ f. reached v t f (a .listed);
+      ruled = limits-follow _ _ (λ k m. small-ruled v m) t h;
+      laters = later-own vs l;
+    }
 
 pub figure-promises : (b vs : List ℕ) → AreBytes b → Promises b vs (figureAnswer b vs)
 unfolding Promises
@@ -53,7 +55,7 @@ figure-promises b vs h = λ p.
     let f = figured b vs p in
     let i = is-table b h (f .accepted) in
     let small = subst T (thirteen-limits b vs i) (values-thirteen b vs (f .allowed)) in
-    subst (Promised (valuesOf vs) (decode b)) (sym (f .is)) (figure-promised (valuesOf vs) (decode b) (i .accepted) small)
+    subst (Promised (valuesOf vs) (decode b)) (sym (f .is)) (figure-promised vs (decode b) (i .accepted) small (values-fourteen b vs (f .allowed)))
 
 pub branch-promises : (b vs : List ℕ) → AreBytes b → BranchPromises b vs (figureAnswer b vs)
 unfolding BranchPromises

@@ -16,21 +16,21 @@ use Rattle.runs.specs.Runs.{total, All, Pass, PassIn, Spot, SpotIn, limi
 
 -- every node passes a test
 unfoldable mutual
-  pub everyNode : (t : Tree) → (Spot t → Bool) → Bool
-  everyNode (node n f) p = p (inl tt) and everyNodeIn f (λ x. p (inr x))
+  pub everySpot : (t : Tree) → (Spot t → Bool) → Bool
+  everySpot (node n f) p = p (inl tt) and everySpotIn f (λ x. p (inr x))
 
-  pub everyNodeIn : (f : Forest) → (SpotIn f → Bool) → Bool
-  everyNodeIn nil p = true
-  everyNodeIn (t ▸ f) p = everyNode t (λ x. p (inl x)) and everyNodeIn f (λ x. p (inr x))
+  pub everySpotIn : (f : Forest) → (SpotIn f → Bool) → Bool
+  everySpotIn nil p = true
+  everySpotIn (t ▸ f) p = everySpot t (λ x. p (inl x)) and everySpotIn f (λ x. p (inr x))
 
 mutual
-  unfolding everyNode
+  unfolding everySpot
 
-  pub at-node : (t : Tree) (p : Spot t → Bool) → T (everyNode t p) → (x : Spot t) → T (p x)
+  pub at-node : (t : Tree) (p : Spot t → Bool) → T (everySpot t p) → (x : Spot t) → T (p x)
   at-node (node n f) p h (inl x) = both _ _ h .0
   at-node (node n f) p h (inr x) = at-nodeIn f (λ y. p (inr y)) (both _ _ h .1) x
 
-  pub at-nodeIn : (f : Forest) (p : SpotIn f → Bool) → T (everyNodeIn f p) → (x : SpotIn f) → T (p x)
+  pub at-nodeIn : (f : Forest) (p : SpotIn f → Bool) → T (everySpotIn f p) → (x : SpotIn f) → T (p x)
   at-nodeIn nil p h x = absurd x
   at-nodeIn (t ▸ f) p h (inl x) = at-node t (λ y. p (inl y)) (both _ _ h .0) x
   at-nodeIn (t ▸ f) p h (inr x) = at-nodeIn f (λ y. p (inr y)) (both _ _ h .1) x
@@ -80,7 +80,7 @@ module _ (v : Values) where
     admitsIn (t ▸ f) Choice (inr r) = admitsIn f Choice r
     admitsIn (t ▸ f) (Loop n) r =
         leb (length (r .0)) (amount v n)
-        and (everyNode t (λ x. keepsHere (limitAt t x) (total (λ p. count t p x) (r .0)))
+        and (everySpot t (λ x. keepsHere (limitAt t x) (total (λ p. count t p x) (r .0)))
         and (every (λ p. admits t p) (r .0) and admitsIn f Sequence (r .1)))
 
   mutual
@@ -107,7 +107,7 @@ module _ (v : Values) where
 
   -- this pass is an admitted run
   unfoldable pub isRun : (t : Tree) → Pass t → Bool
-  isRun t r = admits t r and everyNode t (λ x. keepsLimit (limitAt t x) (count t r x))
+  isRun t r = admits t r and everySpot t (λ x. keepsLimit (limitAt t x) (count t r x))
 
   pub run-costs : (t : Tree) (r : Pass t) (x : ℕ) → T (isRun t r) → cost v t r ≡ x → Costs v t x
   unfolding isRun

@@ -1,139 +1,25 @@
 -- No admitted run costs more than the figure.
-use mathlib.Core.Path.{_≡_, refl, ap}
+use mathlib.Core.Path.{_≡_, refl, ap, sym, _∙_, fun-ext}
 use mathlib.Core.Bool.{cond, Bool, true, false}
 use mathlib.Core.List.{List, [], _∷_, map, _++_}
-use mathlib.Core.Logic.{_⊎_, inl, inr}
-use Prim.Native.Nat.{ℕ, _+_, suc, _*_, _≤_, _<_, _-_, min, zero-le}
-use native.Mathlib.Nat.{le-trans, le-of-eq}
+use mathlib.Core.Logic.{inl, inr}
+use Prim.Native.Nat.{ℕ, _+_, zero, suc, _*_, _≤_, _<_, _-_, min, zero-le}
+use native.Mathlib.Nat.{le-trans}
 use native.Mathlib.Omega.{arith}
 use lib.Dec.{leb}
-use lib.ListN.{length, length-append}
+use lib.ListN.{length}
 use borrow.Author.Tests.{leb-true, leb-false, lt-leb}
-use Rattle.runs.specs.Nodes.{Limit, Unlimited, AtMost, Kind, Block, Sequence, Choice, Loop}
+use Rattle.runs.specs.Nodes.{Limit, Unlimited, AtMost, Kind, Block, Sequence, Choice, Loop, Number}
 use Rattle.table.specs.Numbers.{wholeRun}
 use Rattle.table.specs.Trees.{Tree, node, Forest, nil, _▸_, rest}
 use Rattle.lists.specs.Streams.{Stream, S, group, const}
 use Rattle.lists.specs.Laws.Sums.{S-group, S-const, S-mono, S-add, S-cap}
 use Rattle.lists.specs.Laws.Merge.{merge-over}
-use Rattle.evaluate.specs.Evaluate.{inner, outward, rounds, Values, amount, seen, name, nameIn, limit, turns, join, start, list, before, figure, allowed}
-use Rattle.runs.specs.Runs.{total, All, Pass, PassIn, Spot, SpotIn, out, seenLimit, limitAt, limitIn, count, countIn, cost, costIn, keeps, here, Admitted, AdmittedIn, Run}
+use Rattle.evaluate.specs.Evaluate.{inner, outward, rounds, Values, amount, later, onceThen, seen, name, nameIn, limit, turns, join, start, list, before, figure, allowed}
+use Rattle.runs.specs.Runs.{total, All, Pass, PassIn, Spot, SpotIn, out, seenLimit, limitAt, limitIn, count, countIn, charged, ownCharge, charge, chargeIn, cost, keeps, here, Admitted, AdmittedIn, Run}
+use Rattle.evaluate.specs.Laws.Times.{later-le, once-sum}
 use Rattle.evaluate.specs.Laws.Monotone.{list-falls, before-falls}
-
--- totals over lists
-pub total-map : {A B : Type 0} (f : B → ℕ) (g : A → B) (xs : List A) → total f (map g xs) ≡ total (λ x. f (g x)) xs
-unfolding total
-total-map f g [] = refl
-total-map f g (x ∷ xs) = ap (λ n. f (g x) + n) (total-map f g xs)
-
-pub length-map : {A B : Type 0} (g : A → B) (xs : List A) → length (map g xs) ≡ length xs
-length-map g [] = refl
-length-map g (x ∷ xs) = ap suc (length-map g xs)
-
-pub total-add : {A : Type 0} (f g : A → ℕ) (xs : List A) → total (λ x. f x + g x) xs ≡ total f xs + total g xs
-unfolding total
-total-add f g [] = refl
-total-add f g (x ∷ xs) = omega (arith, total-add f g xs)
-
-pub total-const : {A : Type 0} (c : ℕ) (xs : List A) → total (λ x. c) xs ≡ length xs * c
-unfolding total
-total-const c [] = omega arith
-total-const c (x ∷ xs) = omega (arith, total-const c xs)
-
-pub total-none : (f : ⊥ → ℕ) (xs : List ⊥) → total f xs ≡ 0
-unfolding total
-total-none f [] = refl
-total-none f (x ∷ xs) = absurd x
-
-pub total-append : {A : Type 0} (f : A → ℕ) (xs ys : List A) → total f (xs ++ ys) ≡ total f xs + total f ys
-unfolding total
-total-append f [] ys = omega arith
-total-append f (x ∷ xs) ys = omega (arith, total-append f xs ys)
-
--- the two sides of a list of choices
-unfoldable pub lefts : {A B : Type 0} → List (A ⊎ B) → List A
-lefts [] = []
-lefts (inl a ∷ xs) = a ∷ lefts xs
-lefts (inr b ∷ xs) = lefts xs
-
-unfoldable pub rights : {A B : Type 0} → List (A ⊎ B) → List B
-rights [] = []
-rights (inl a ∷ xs) = rights xs
-rights (inr b ∷ xs) = b ∷ rights xs
-
-pub sides : {A B : Type 0} (xs : List (A ⊎ B)) → length (lefts xs) + length (rights xs) ≡ length xs
-unfolding lefts rights
-sides [] = refl
-sides (inl a ∷ xs) = omega (arith, sides xs)
-sides (inr b ∷ xs) = omega (arith, sides xs)
-
-pub total-sides : {A B : Type 0} (h : A ⊎ B → ℕ) (xs : List (A ⊎ B))
-    → total h xs ≡ total (λ a. h (inl a)) (lefts xs) + total (λ b. h (inr b)) (rights xs)
-unfolding lefts rights total
-total-sides h [] = refl
-total-sides h (inl a ∷ xs) = omega (arith, total-sides h xs)
-total-sides h (inr b ∷ xs) = omega (arith, total-sides h xs)
-
--- the bodies of a list of loops' passes
-unfoldable pub flat : {A B : Type 0} → List (List A × B) → List A
-flat [] = []
-flat (x ∷ xs) = x .0 ++ flat xs
-
-pub total-flat : {A B : Type 0} (f : A → ℕ) (xs : List (List A × B)) → total f (flat xs) ≡ total (λ x. total f (x .0)) xs
-unfolding flat total
-total-flat f [] = refl
-total-flat f (x ∷ xs) = omega (arith, total-append f (x .0) (flat xs), total-flat f xs)
-
-pub length-flat : {A B : Type 0} (n : ℕ) (xs : List (List A × B)) → All (λ x. length (x .0) ≤ n) xs → length (flat xs) ≤ n * length xs
-unfolding flat
-length-flat n [] h = omega arith
-length-flat n (x ∷ xs) h = omega (arith, length-append (x .0) (flat xs), length-flat n xs (h .1), h .0)
-
--- what holds of every member
-pub all-to : {A B : Type 0} (P : A → Type 0) (Q : B → Type 0) (g : A → B) → ((x : A) → P x → Q (g x)) → (xs : List A) → All P xs → All Q (map g xs)
-all-to P Q g f [] h = tt
-all-to P Q g f (x ∷ xs) h = (f x (h .0), all-to P Q g f xs (h .1))
-
-pub all-impl : {A : Type 0} (P Q : A → Type 0) → ((x : A) → P x → Q x) → (xs : List A) → All P xs → All Q xs
-all-impl P Q f [] h = tt
-all-impl P Q f (x ∷ xs) h = (f x (h .0), all-impl P Q f xs (h .1))
-
-pub all-lefts : {A B : Type 0} (P : A ⊎ B → Type 0) (Q : A → Type 0) → ((a : A) → P (inl a) → Q a) → (xs : List (A ⊎ B)) → All P xs → All Q (lefts xs)
-unfolding lefts
-all-lefts P Q f [] h = tt
-all-lefts P Q f (inl a ∷ xs) h = (f a (h .0), all-lefts P Q f xs (h .1))
-all-lefts P Q f (inr b ∷ xs) h = all-lefts P Q f xs (h .1)
-
-pub all-rights : {A B : Type 0} (P : A ⊎ B → Type 0) (Q : B → Type 0) → ((b : B) → P (inr b) → Q b) → (xs : List (A ⊎ B)) → All P xs → All Q (rights xs)
-unfolding rights
-all-rights P Q f [] h = tt
-all-rights P Q f (inl a ∷ xs) h = all-rights P Q f xs (h .1)
-all-rights P Q f (inr b ∷ xs) h = (f b (h .0), all-rights P Q f xs (h .1))
-
-pub all-append : {A : Type 0} (P : A → Type 0) (xs ys : List A) → All P xs → All P ys → All P (xs ++ ys)
-all-append P [] ys h k = k
-all-append P (x ∷ xs) ys h k = (h .0, all-append P xs ys (h .1) k)
-
-pub all-flat : {A B : Type 0} (P : A → Type 0) (xs : List (List A × B)) → All (λ x. All P (x .0)) xs → All P (flat xs)
-unfolding flat
-all-flat P [] h = tt
-all-flat P (x ∷ xs) h = all-append P (x .0) (flat xs) (h .0) (all-flat P xs (h .1))
-
-pub total-le : {A : Type 0} (f : A → ℕ) (c : ℕ) (xs : List A) → All (λ x. f x ≤ c) xs → total f xs ≤ length xs * c
-unfolding total
-total-le f c [] h = omega arith
-total-le f c (x ∷ xs) h = omega (arith, h .0, total-le f c xs (h .1))
-
-pub all-both : {A : Type 0} (P Q : A → Type 0) (xs : List A) → All P xs → All Q xs → All (λ x. P x × Q x) xs
-all-both P Q [] h k = tt
-all-both P Q (x ∷ xs) h k = ((h .0, k .0), all-both P Q xs (h .1) (k .1))
-
--- what the totals keep to, each member keeps to
-pub all-down : {A N : Type 0} (f : A → N → ℕ) (Q : N → ℕ → Type 0) → ((x : N) (y z : ℕ) → y ≤ z → Q x z → Q x y)
-    → (xs : List A) → ((x : N) → Q x (total (λ a. f a x) xs)) → All (λ a. (x : N) → Q x (f a x)) xs
-unfolding total
-all-down f Q d [] h = tt
-all-down f Q d (a ∷ xs) h =
-    (λ x. d x _ _ (omega arith) (h x), all-down f Q d xs (λ x. d x _ _ (omega arith) (h x)))
+use Rattle.runs.specs.Laws.PassLists.{total-map, length-map, total-const, total-append, lefts, rights, sides, total-sides, flat, total-flat, length-flat, all-to, all-impl, all-lefts, all-rights, all-flat, total-le, all-both, all-down, total-zero, total-one}
 
 inner-le : (l : Limit) (k : ℕ) → inner l k ≤ k
 unfolding inner
@@ -156,22 +42,126 @@ group-first n f =
     let e : n * 1 ≡ n = omega arith in
     omega (arith, rw e at (S-group n f 1))
 
-rounds-sound : {B E : Type 0} (k n : ℕ) (f : Stream) (c : B → ℕ) (rs : List (List B × E)) → All (λ r. length (r .0) ≤ n) rs
-    → (leb k 1 ≡ true → All (λ r. total c (r .0) ≤ S f (length (r .0))) rs)
-    → (leb k 1 ≡ false → total c (flat rs) ≤ S f (length (flat rs)))
-    → total (λ r. total c (r .0)) rs ≤ S (rounds k n f) (length rs)
+-- c is what a list of passes costs together, no more than its parts do
+pub record Subadditive {B : Type 0} (c : List B → ℕ) : Type 0 where
+  pub none : c [] ≡ 0
+  pub parts : (xs ys : List B) → c (xs ++ ys) ≤ c xs + c ys
+
+flat-parts : {B E : Type 0} (c : List B → ℕ) → Subadditive c → (rs : List (List B × E)) → c (flat rs) ≤ total (λ r. c (r .0)) rs
+unfolding flat total
+flat-parts c h [] = omega (arith, h .none)
+flat-parts c h (r ∷ rs) = omega (arith, h .parts (r .0) (flat rs), flat-parts c h rs)
+
+rounds-sound : {B E : Type 0} (k n : ℕ) (f : Stream) (c : List B → ℕ) (rs : List (List B × E)) → Subadditive c → All (λ r. length (r .0) ≤ n) rs
+    → (leb k 1 ≡ true → All (λ r. c (r .0) ≤ S f (length (r .0))) rs)
+    → (leb k 1 ≡ false → c (flat rs) ≤ S f (length (flat rs)))
+    → c (flat rs) ≤ S (rounds k n f) (length rs)
 unfolding rounds
-rounds-sound k n f c rs w h₁ h₂ = go (leb k 1) refl
+rounds-sound k n f c rs t w h₁ h₂ = go (leb k 1) refl
   where
-    go : (b : Bool) → leb k 1 ≡ b → total (λ r. total c (r .0)) rs ≤ S (cond b (const (group n f 0)) (group n f)) (length rs)
+    go : (b : Bool) → leb k 1 ≡ b → c (flat rs) ≤ S (cond b (const (group n f 0)) (group n f)) (length rs)
     go true e =
         rw (S-const, group-first)
+        (le-trans (flat-parts c t rs)
         (total-le _ (S f n) rs
-        (all-impl _ _ (λ r h. le-trans (h .1) (S-mono f _ _ (h .0))) rs (all-both _ _ rs w (h₁ e))))
+        (all-impl _ _ (λ r h. le-trans (h .1) (S-mono f _ _ (h .0))) rs (all-both _ _ rs w (h₁ e)))))
     go false e =
-        omega (arith, total-flat c rs, h₂ e, S-mono f _ _ (length-flat n rs w), S-group n f (length rs))
+        omega (arith, h₂ e, S-mono f _ _ (length-flat n rs w), S-group n f (length rs))
+
+-- ---- how often the nodes are passed
+
+abbrev pub counts : (t : Tree) → List (Pass t) → Spot t → ℕ
+counts t rs x = total (λ r. count t r x) rs
+
+abbrev pub countsIn : (f : Forest) (k : Kind) → List (PassIn f k) → SpotIn f → ℕ
+countsIn f k rs x = total (λ r. countIn f k r x) rs
+
+-- ---- how a list of passes of a node passes what is below it
+
+first-counts : (t : Tree) (f : Forest) (rs : List (PassIn (t ▸ f) Sequence)) → (λ x. countsIn (t ▸ f) Sequence rs (inl x)) ≡ counts t (map (λ r. r .0) rs)
+unfolding count
+first-counts t f rs = fun-ext (λ x. sym (total-map (λ r. count t r x) (λ (r : PassIn (t ▸ f) Sequence). r .0) rs))
+
+rest-counts : (t : Tree) (f : Forest) (rs : List (PassIn (t ▸ f) Sequence)) → (λ x. countsIn (t ▸ f) Sequence rs (inr x)) ≡ countsIn f Sequence (map (λ r. r .1) rs)
+unfolding count
+rest-counts t f rs = fun-ext (λ x. sym (total-map (λ r. countIn f Sequence r x) (λ (r : PassIn (t ▸ f) Sequence). r .1) rs))
+
+left-counts : (t : Tree) (f : Forest) (rs : List (PassIn (t ▸ f) Choice)) → (λ x. countsIn (t ▸ f) Choice rs (inl x)) ≡ counts t (lefts rs)
+unfolding count
+left-counts t f rs = fun-ext (λ x. total-sides (λ r. countIn (t ▸ f) Choice r (inl x)) rs ∙ omega (arith, total-zero (rights rs)))
+
+right-counts : (t : Tree) (f : Forest) (rs : List (PassIn (t ▸ f) Choice)) → (λ x. countsIn (t ▸ f) Choice rs (inr x)) ≡ countsIn f Choice (rights rs)
+unfolding count
+right-counts t f rs = fun-ext (λ x. total-sides (λ r. countIn (t ▸ f) Choice r (inr x)) rs ∙ omega (arith, total-zero (lefts rs)))
+
+body-counts : (t : Tree) (f : Forest) (n : Number) (rs : List (PassIn (t ▸ f) (Loop n))) → (λ x. countsIn (t ▸ f) (Loop n) rs (inl x)) ≡ counts t (flat rs)
+unfolding count
+body-counts t f n rs = fun-ext (λ x. sym (total-flat (λ p. count t p x) rs))
+
+exit-counts : (t : Tree) (f : Forest) (n : Number) (rs : List (PassIn (t ▸ f) (Loop n))) → (λ x. countsIn (t ▸ f) (Loop n) rs (inr x)) ≡ countsIn f Sequence (map (λ r. r .1) rs)
+unfolding count
+exit-counts t f n rs = fun-ext (λ x. sym (total-map (λ r. countIn f Sequence r x) (λ (r : PassIn (t ▸ f) (Loop n)). r .1) rs))
 
 module _ (v : Values) where
+  -- ---- what they are charged
+
+  pub charged-sum : (x : Number) (P : ℕ) → charged v x P ≡ S (onceThen (amount v x) (later v x)) P
+  charged-sum x zero = unfold charged in unfold S in refl
+  charged-sum x (suc P) = unfold charged in omega (arith, once-sum (amount v x) (later v x) P)
+
+  -- the first value is charged once for all, so passes together cost no more than apart
+  charged-parts : (x : Number) (a b : ℕ) → charged v x (a + b) ≤ charged v x a + charged v x b
+  unfolding charged
+  charged-parts x zero b = let e : 0 + b ≡ b = omega arith in rw e (omega arith)
+  charged-parts x (suc a) zero = let e : suc a + 0 ≡ suc a = omega arith in rw e (omega arith)
+  charged-parts x (suc a) (suc b) = let e : suc a + suc b ≡ suc (a + suc b) = omega arith in rw e (omega (arith, later-le v x))
+
+  own-parts : (k : Kind) (a b : ℕ) → ownCharge v k (a + b) ≤ ownCharge v k a + ownCharge v k b
+  unfolding ownCharge
+  own-parts (Block x) a b = charged-parts x a b
+  own-parts Sequence a b = omega arith
+  own-parts Choice a b = omega arith
+  own-parts (Loop n) a b = omega arith
+
+  own-none : (k : Kind) → ownCharge v k 0 ≡ 0
+  unfolding ownCharge charged
+  own-none (Block x) = refl
+  own-none Sequence = refl
+  own-none Choice = refl
+  own-none (Loop n) = refl
+
+  mutual
+    unfolding charge
+
+    charge-parts : (t : Tree) (c d : Spot t → ℕ) → charge v t (λ x. c x + d x) ≤ charge v t c + charge v t d
+    charge-parts (node n f) c d = omega (arith, own-parts (n .kind) (c (inl tt)) (d (inl tt)), chargeIn-parts f (λ x. c (inr x)) (λ x. d (inr x)))
+
+    chargeIn-parts : (f : Forest) (c d : SpotIn f → ℕ) → chargeIn v f (λ x. c x + d x) ≤ chargeIn v f c + chargeIn v f d
+    chargeIn-parts nil c d = omega arith
+    chargeIn-parts (t ▸ f) c d = omega (arith, charge-parts t (λ x. c (inl x)) (λ x. d (inl x)), chargeIn-parts f (λ x. c (inr x)) (λ x. d (inr x)))
+
+  mutual
+    unfolding charge
+
+    pub charge-none : (t : Tree) → charge v t (λ x. 0) ≡ 0
+    charge-none (node n f) = omega (arith, own-none (n .kind), chargeIn-none f)
+
+    chargeIn-none : (f : Forest) → chargeIn v f (λ x. 0) ≡ 0
+    chargeIn-none nil = refl
+    chargeIn-none (t ▸ f) = omega (arith, charge-none t, chargeIn-none f)
+
+  -- a list of passes of a tree
+  pub together : (t : Tree) → Subadditive (λ (rs : List (Pass t)). charge v t (counts t rs))
+  unfolding total
+  together t = record {
+    none = charge-none t;
+    parts = λ xs ys.
+        let e : counts t (xs ++ ys) ≡ (λ x. counts t xs x + counts t ys x) = fun-ext (λ x. total-append (λ r. count t r x) xs ys) in
+        rw e (charge-parts t (counts t xs) (counts t ys));
+  }
+
+  -- ---- limits
+
   -- z passes of a node keep its limit, if that names loop k or one further out
   unfoldable ok : ℕ → Limit → ℕ → Type 0
   ok k Unlimited z = Unit {0}
@@ -235,59 +225,71 @@ module _ (v : Values) where
   abbrev GoodIn : (f : Forest) (k : Kind) → PassIn f k → Type 0
   GoodIn f k r = AdmittedIn v f k r × FitsIn f k 0 (countIn f k r)
 
-  mutual
-    unfolding list name count cost limitAt turns join seen rest seenLimit start
+  no-passes : (t : Tree) (f : Forest) (y : Number) (rs : List ⊥) (c : ⊥ → SpotIn (t ▸ f) → ℕ) → ownCharge v (Block y) (length rs) + chargeIn v (t ▸ f) (λ x. total (λ r. c r x) rs) ≡ 0
+  unfolding total
+  no-passes t f y [] c = omega (arith, own-none (Block y), chargeIn-none (t ▸ f))
+  no-passes t f y (r ∷ rs) c = absurd r
 
-    sound : (t : Tree) (rs : List (Pass t)) → All (Good t) rs → Fits t (name t) (λ x. total (λ r. count t r x) rs)
-        → total (cost v t) rs ≤ S (list v t) (length rs)
+  mutual
+    unfolding list name charge ownCharge limitAt turns join seen rest seenLimit start count
+
+    -- passes of a tree, each within its limits, and all within those on the named loop and outward, together cost at most as many members of the list
+    sound : (t : Tree) (rs : List (Pass t)) → All (Good t) rs → Fits t (name t) (counts t rs) → charge v t (counts t rs) ≤ S (list v t) (length rs)
     sound (node n f) rs g h =
         limit-sound (n .limit) _ _ (nameIn (n .kind) f) _ (own _ (n .limit) rs (h (inl tt)))
-        (soundIn f (n .kind) rs (all-impl _ _ (λ r q. (q .0, λ x. q .1 (inr x))) rs g) (λ x. ok-outer _ _ _ _ (inner-le (n .limit) _) (h (inr x))))
+        (rw (total-one rs) (soundIn f (n .kind) rs (all-impl _ _ (λ r q. (q .0, λ x. q .1 (inr x))) rs g) (λ x. ok-outer _ _ _ _ (inner-le (n .limit) _) (h (inr x)))))
 
-    soundIn : (f : Forest) (k : Kind) (rs : List (PassIn f k)) → All (GoodIn f k) rs → FitsIn f k (nameIn k f) (λ x. total (λ r. countIn f k r x) rs)
-        → total (costIn v f k) rs ≤ S (before v k f) (length rs)
-    soundIn nil (Block y) rs g h = omega (arith, total-const (amount v y) rs, S-const (amount v y) (length rs))
-    soundIn nil Sequence rs g h = omega (arith, total-const 0 rs)
-    soundIn nil Choice rs g h = omega (arith, total-none (costIn v nil Choice) rs)
-    soundIn nil (Loop n) rs g h = omega (arith, total-const 0 rs)
-    soundIn (t ▸ f) (Block y) rs g h = omega (arith, total-none (costIn v (t ▸ f) (Block y)) rs)
+    soundIn : (f : Forest) (k : Kind) (rs : List (PassIn f k)) → All (GoodIn f k) rs → FitsIn f k (nameIn k f) (countsIn f k rs)
+        → ownCharge v k (length rs) + chargeIn v f (countsIn f k rs) ≤ S (before v k f) (length rs)
+    soundIn nil (Block y) rs g h = omega (arith, charged-sum y (length rs))
+    soundIn nil Sequence rs g h = omega arith
+    soundIn nil Choice rs g h = omega arith
+    soundIn nil (Loop n) rs g h = omega arith
+    soundIn (t ▸ f) (Block y) rs g h = omega (arith, no-passes t f y rs (λ r x. countIn (t ▸ f) (Block y) r x))
     soundIn (t ▸ f) Sequence rs g h =
         let a = sound t (map (λ r. r .0) rs) (all-to _ _ _ (λ r q. (q .0 .0, λ x. q .1 (inl x))) rs g)
-        (λ x. ok-fewer _ _ _ _ (le-of-eq (total-map (λ r. count t r x) (λ (r : PassIn (t ▸ f) Sequence). r .0) rs)) (ok-outer (min (name t) (nameIn Sequence f)) (name t) _ _ (omega arith) (h (inl x)))) in
+        (λ x. rw (← ap (λ c. c x) (first-counts t f rs)) (ok-outer (min (name t) (nameIn Sequence f)) (name t) _ _ (omega arith) (h (inl x)))) in
         let b = soundIn f Sequence (map (λ r. r .1) rs) (all-to _ _ _ (λ r q. (q .0 .1, λ x. q .1 (inr x))) rs g)
-        (λ x. ok-fewer _ _ _ _ (le-of-eq (total-map (λ r. countIn f Sequence r x) (λ (r : PassIn (t ▸ f) Sequence). r .1) rs)) (ok-outer (min (name t) (nameIn Sequence f)) (nameIn Sequence f) _ _ (omega arith) (h (inr x)))) in
+        (λ x. rw (← ap (λ c. c x) (rest-counts t f rs)) (ok-outer (min (name t) (nameIn Sequence f)) (nameIn Sequence f) _ _ (omega arith) (h (inr x)))) in
         omega
-        (arith, total-add (λ r. cost v t (r .0)) (λ r. costIn v f Sequence (r .1)) rs, S-add (list v t) (before v Sequence f) (length rs), simp (total-map, length-map) at a, simp (total-map, length-map) at b)
+        (arith, S-add (list v t) (before v Sequence f) (length rs), ap (charge v t) (first-counts t f rs), ap (chargeIn v f) (rest-counts t f rs), simp length-map at a, simp length-map at b)
     soundIn (t ▸ f) Choice rs g h =
         let a = sound t (lefts rs) (all-lefts _ _ (λ r q. (q .0, λ x. q .1 (inl x))) rs g)
-        (λ x. ok-fewer (name t) (limitAt t x) (total (λ r. count t r x) (lefts rs)) (total (λ r. countIn (t ▸ f) Choice r (inl x)) rs) (omega (arith, total-sides (λ r. countIn (t ▸ f) Choice r (inl x)) rs)) (ok-outer (min (name t) (nameIn Choice f)) (name t) _ _ (omega arith) (h (inl x)))) in
+        (λ x. rw (← ap (λ c. c x) (left-counts t f rs)) (ok-outer (min (name t) (nameIn Choice f)) (name t) _ _ (omega arith) (h (inl x)))) in
         let b = soundIn f Choice (rights rs) (all-rights _ _ (λ r q. (q .0, λ x. q .1 (inr x))) rs g)
-        (λ x. ok-fewer (nameIn Choice f) (limitIn f Choice x) (total (λ r. countIn f Choice r x) (rights rs)) (total (λ r. countIn (t ▸ f) Choice r (inr x)) rs) (omega (arith, total-sides (λ r. countIn (t ▸ f) Choice r (inr x)) rs)) (ok-outer (min (name t) (nameIn Choice f)) (nameIn Choice f) _ _ (omega arith) (h (inr x)))) in
-        omega
-        (arith, total-sides (costIn v (t ▸ f) Choice) rs, a, b, rw (sides rs) at (merge-over (list v t) (before v Choice f) (list-falls v t) (before-falls v Choice f) (length (lefts rs)) (length (rights rs))))
+        (λ x. rw (← ap (λ c. c x) (right-counts t f rs)) (ok-outer (min (name t) (nameIn Choice f)) (nameIn Choice f) _ _ (omega arith) (h (inr x)))) in
+        omega (
+          arith,
+          a,
+          b,
+          ap (charge v t) (left-counts t f rs),
+          ap (chargeIn v f) (right-counts t f rs),
+          rw (sides rs) at (merge-over (list v t) (before v Choice f) (list-falls v t) (before-falls v Choice f) (length (lefts rs)) (length (rights rs))),
+        )
     soundIn (t ▸ f) (Loop n) rs g h =
-        let bodies : (r : PassIn (t ▸ f) (Loop n)) → GoodIn (t ▸ f) (Loop n) r → Fits t 0 (λ x. total (λ p. count t p x) (r .0))
+        let bodies : (r : PassIn (t ▸ f) (Loop n)) → GoodIn (t ▸ f) (Loop n) r → Fits t 0 (counts t (r .0))
         = λ r q x. ok-both (limitAt t x) _ (q .0 .1 x) (q .1 (inl x)) in
         let good : (r : PassIn (t ▸ f) (Loop n)) → GoodIn (t ▸ f) (Loop n) r → All (Good t) (r .0)
         = λ r q.
         all-both _ _ (r .0) (q .0 .2)
         (all-down (count t) (λ x z. ok 0 (limitAt t x) z) (λ x y z. ok-fewer 0 (limitAt t x) y z) (r .0) (bodies r q)) in
-        let i : total (λ r. total (cost v t) (r .0)) rs ≤ S (rounds (name t) (amount v n) (list v t)) (length rs)
-        = rounds-sound (name t) (amount v n) (list v t) (cost v t) rs
+        let i : charge v t (counts t (flat rs)) ≤ S (rounds (name t) (amount v n) (list v t)) (length rs)
+        = rounds-sound (name t) (amount v n) (list v t) (λ ps. charge v t (counts t ps)) rs (together t)
         (all-impl (GoodIn (t ▸ f) (Loop n)) _ (λ r q. q .0 .0) rs g)
         (λ e. all-impl (GoodIn (t ▸ f) (Loop n)) _ (λ r q. sound t (r .0) (good r q) (λ x. ok-outer 0 (name t) _ _ zero-le (bodies r q x))) rs g)
         (λ e. sound t (flat rs) (all-flat _ rs (all-impl (GoodIn (t ▸ f) (Loop n)) _ good rs g))
-        (λ x. ok-fewer _ _ _ _ (le-of-eq (total-flat (λ p. count t p x) rs))
+        (λ x. rw (← ap (λ c. c x) (body-counts t f n rs))
         (ok-into (name t) (min (outward (name t)) (nameIn Sequence f)) (limitAt t x) _ (omega arith) e (h (inl x))))) in
         let j = soundIn f Sequence (map (λ r. r .1) rs) (all-to (GoodIn (t ▸ f) (Loop n)) _ _ (λ r q. (q .0 .3, λ x. q .1 (inr x))) rs g)
-        (λ x. ok-fewer _ _ _ _ (le-of-eq (total-map (λ p. countIn f Sequence p x) (λ (r : PassIn (t ▸ f) (Loop n)). r .1) rs))
+        (λ x. rw (← ap (λ c. c x) (exit-counts t f n rs))
         (ok-outer (min (outward (name t)) (nameIn Sequence f)) (nameIn Sequence f) _ _ (omega arith) (h (inr x)))) in
         omega
-        (arith, total-add (λ r. total (cost v t) (r .0)) (λ r. costIn v f Sequence (r .1)) rs, S-add (rounds (name t) (amount v n) (list v t)) (before v Sequence f) (length rs), i, simp (total-map, length-map) at j)
+        (arith, S-add (rounds (name t) (amount v n) (list v t)) (before v Sequence f) (length rs), i, ap (charge v t) (body-counts t f n rs), ap (chargeIn v f) (exit-counts t f n rs), simp length-map at j)
 
   -- no admitted run costs more than the figure
   pub covered : (t : Tree) (r : Pass t) → Run v t r → cost v t r ≤ figure v t
-  unfolding figure total S
+  unfolding figure cost S total
   covered t r h =
       let w : Fits t 0 (count t r) = λ x. keeps-ok _ _ (h .whole x) in
-      omega (arith, sound t (r ∷ []) ((h .inside, w), tt) (λ x. ok-outer 0 (name t) _ _ zero-le (ok-fewer 0 _ (count t r x + 0) (count t r x) (omega arith) (w x))))
+      let e : counts t (r ∷ []) ≡ (λ x. count t r x) = fun-ext (λ x. omega arith) in
+      omega (arith, ap (charge v t) e, sound t (r ∷ []) ((h .inside, w), tt) (λ x. ok-outer 0 (name t) _ _ zero-le (ok-fewer 0 _ (count t r x + 0) (count t r x) (omega arith) (w x))))

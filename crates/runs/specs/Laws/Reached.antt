@@ -1,38 +1,28 @@
 -- Where no node has a limit, some admitted run costs exactly the figure.
-use mathlib.Core.Path.{_≡_, refl, ap, sym, ap₂, _∙_, subst}
-use mathlib.Core.Bool.{Bool, true, false}
-use mathlib.Core.List.{List, [], _∷_}
+use mathlib.Core.Path.{_≡_, refl, ap, sym, ap₂, _∙_, subst, fun-ext}
+use mathlib.Core.List.{List, [], _∷_, map, _++_}
 use mathlib.Core.Logic.{inl, inr}
-use Prim.Native.Nat.{ℕ, zero, suc, _*_, _≤_, _+_, _<_, max}
+use Prim.Native.Nat.{ℕ, suc, _*_, _≤_, _+_}
 use native.Mathlib.Omega.{arith}
-use lib.Dec.{T, leb→le, eqb→eq, leb}
-use lib.ListN.{length}
-use borrow.Author.Tests.{leb-true, leb-false}
-use Rattle.runs.specs.Nodes.{Limit, Unlimited, AtMost, Kind, Block, Sequence, Choice, Loop, Number, Node}
-use Rattle.booleans.specs.Laws.{both, join-and, by-cond}
-use Rattle.table.specs.Trees.{Tree, node, Forest, nil, _▸_, rest, around, size}
+use lib.Dec.{T, leb→le, eqb→eq}
+use lib.ListN.{length, length-append, length-replicate, replicate}
+use Rattle.runs.specs.Nodes.{Limit, Unlimited, Kind, Block, Sequence, Choice, Loop, Number, Node}
+use Rattle.booleans.specs.Laws.{both}
+use Rattle.table.specs.Numbers.{wholeRun}
+use Rattle.table.specs.Trees.{Tree, node, Forest, nil, _▸_, rest, size}
 use Rattle.table.specs.Questions.{arity, listed, listedIn}
-use Rattle.lists.specs.Streams.{Stream, const, add, merge, taken}
-use Rattle.lists.specs.Laws.MergeLaws.{group-const}
-use Rattle.evaluate.specs.Evaluate.{rounds, Values, amount, name, limit, turns, join, start, list, before, figure}
-use Rattle.evaluate.specs.Closed.{isUnlimited, stays, closed, closedIn}
-use Rattle.runs.specs.Runs.{limitFree, limitFreeIn, out, seenLimit, Spot, SpotIn, limitAt, limitIn, total, All, Pass, PassIn, cost, costIn, keeps, here, Admitted, AdmittedIn, Costs}
-use Rattle.evaluate.specs.Laws.Constant.{closed-const, unlimited-is}
+use Rattle.lists.specs.Streams.{Stream, S, merge, group}
+use Rattle.lists.specs.Laws.Sums.{S-add, S-group, S-const}
+use Rattle.lists.specs.Laws.MergeLaws.{is-merge, merge-zero}
+use Rattle.evaluate.specs.Evaluate.{rounds, outward, seen, inner, Values, amount, name, nameIn, limit, turns, join, start, list, before, figure}
+use Rattle.evaluate.specs.Closed.{isUnlimited}
+use Rattle.runs.specs.Runs.{limitFree, limitFreeIn, out, seenLimit, Spot, SpotIn, limitAt, limitIn, total, All, Pass, PassIn, count, countIn, ownCharge, charge, chargeIn, cost, keeps, here, Admitted, AdmittedIn, Costs}
+use Rattle.evaluate.specs.Laws.Constant.{unlimited-is}
+use Rattle.evaluate.specs.Laws.Monotone.{list-falls, before-falls}
+use Rattle.runs.specs.Laws.PassLists.{total-map, length-map, total-append, all-to, all-append, total-zero, total-one, all-copies, zip, zip-length, zip-left, zip-right, zip-all, cut, cut-length, cut-total, cut-all}
+use Rattle.runs.specs.Laws.Covered.{counts, countsIn, charged-sum}
 
-stays-free : (l : Limit) (d : ℕ) → T (isUnlimited l) → T (stays l d)
-unfolding isUnlimited stays
-stays-free Unlimited d h = tt
-stays-free (AtMost k m) d h = absurd h
-
-mutual
-  unfolding limitFree closed
-
-  free-closed : (t : Tree) (d : ℕ) → T (limitFree t) → T (closed t d)
-  free-closed (node n f) d h = let (a, b) = both _ _ h in join-and _ _ (stays-free (n .limit) d a) (free-closedIn (n .kind) f d b)
-
-  free-closedIn : (k : Kind) (f : Forest) (d : ℕ) → T (limitFreeIn f) → T (closedIn k f d)
-  free-closedIn k nil d h = tt
-  free-closedIn k (t ▸ f) d h = let (a, b) = both _ _ h in join-and _ _ (free-closed t (around k d) a) (free-closedIn (rest k) f d b)
+-- ---- no limit in sight
 
 seen-free : (k : Kind) (l : Limit) → l ≡ Unlimited → seenLimit k l ≡ Unlimited
 unfolding seenLimit out
@@ -53,26 +43,35 @@ mutual
   no-limitIn (t ▸ f) k h (inl x) = seen-free k _ (no-limit t (both _ _ h .0) x)
   no-limitIn (t ▸ f) k h (inr x) = no-limitIn f (rest k) (both _ _ h .1) x
 
-unfoldable copies : {A : Type 0} → ℕ → A → List A
-copies zero a = []
-copies (suc n) a = a ∷ copies n a
+-- ---- so each list names the whole run
 
-copies-length : {A : Type 0} (n : ℕ) (a : A) → length (copies n a) ≡ n
-unfolding copies
-copies-length zero a = refl
-copies-length (suc n) a = ap suc (copies-length n a)
+seen-run : (k : Kind) → seen k wholeRun ≡ wholeRun
+unfolding seen outward
+seen-run (Block x) = refl
+seen-run Sequence = refl
+seen-run Choice = refl
+seen-run (Loop n) = refl
 
-copies-total : {A : Type 0} (f : A → ℕ) (n : ℕ) (a : A) → total f (copies n a) ≡ n * f a
-unfolding copies total
-copies-total f zero a = omega arith
-copies-total f (suc n) a = omega (arith, copies-total f n a)
+mutual
+  unfolding limitFree name inner
 
-copies-all : {A : Type 0} (P : A → Type 0) (n : ℕ) (a : A) → P a → All P (copies n a)
-unfolding copies
-copies-all P zero a h = tt
-copies-all P (suc n) a h = (h, copies-all P n a h)
+  free-run : (t : Tree) → T (limitFree t) → name t ≡ wholeRun
+  free-run (node n f) h =
+      let (a, b) = both _ _ h in
+      ap (λ l. inner l (nameIn (n .kind) f)) (unlimited-is (n .limit) a) ∙ free-runIn (n .kind) f b
 
--- a pass can be had of so many children
+  free-runIn : (k : Kind) (f : Forest) → T (limitFreeIn f) → nameIn k f ≡ wholeRun
+  free-runIn k nil h = refl
+  free-runIn k (t ▸ f) h =
+      let (a, b) = both _ _ h in
+      omega (arith, ap (seen k) (free-run t a), seen-run k, free-runIn (rest k) f b)
+
+rounds-run : (k n : ℕ) (f : Stream) → k ≡ wholeRun → rounds k n f ≡ group n f
+unfolding rounds
+rounds-run k n f e = rw e refl
+
+-- ---- a pass can be had of so many children
+
 unfoldable Open : Kind → ℕ → Type 0
 Open (Block x) c = c ≡ 0
 Open Sequence c = Unit {0}
@@ -86,21 +85,7 @@ open-of Sequence c h = tt
 open-of Choice c h = leb→le 1 c (both _ _ h .0)
 open-of (Loop n) c h = tt
 
-rounds-first : (k n c : ℕ) (f : Stream) → f ≡ const c → rounds k n f 0 ≡ n * c
-unfolding rounds const
-rounds-first k n c f e = rw e (by-cond (λ (g : Stream). g 0 ≡ n * c) (leb k 1) _ _ (λ h. ap (λ g. g 0) (group-const n c)) (λ h. ap (λ g. g 0) (group-const n c)))
-
 module _ (v : Values) where
-  record Best (t : Tree) : Type 0 where
-    pass : Pass t
-    good : Admitted v t pass
-    costs : cost v t pass ≡ list v t 0
-
-  record BestIn (f : Forest) (k : Kind) : Type 0 where
-    pass : PassIn f k
-    good : AdmittedIn v f k pass
-    costs : costIn v f k pass ≡ before v k f 0
-
   here-free : (l : Limit) (z : ℕ) → l ≡ Unlimited → here v l z
   unfolding here
   here-free l z e = subst (λ x. here v x z) (sym e) tt
@@ -109,83 +94,183 @@ module _ (v : Values) where
   unfolding keeps
   keeps-free l z e = subst (λ x. keeps v x z) (sym e) tt
 
-  loop-best : (n : Number) (t : Tree) (f : Forest) → T (limitFree t) → Best t → BestIn f Sequence → BestIn (t ▸ f) (Loop n)
-  unfolding cost list turns join add rest
-  loop-best n t f h a b =
-      let (c, e) = closed-const v t (free-closed t 0 h) in
-      let c₀ : list v t 0 ≡ c = unfold const in ap (λ g. g 0) e in
-      let m = amount v n in
-      record {
-        pass = (copies m (a .pass), b .pass);
-        good = (
-          omega (arith, copies-length m (a .pass)),
-          λ x. here-free _ _ (no-limit t h x),
-          copies-all (λ p. Admitted v t p) m (a .pass) (a .good),
-          b .good,
-        );
-        costs = ap₂ (λ x y. x + y) (copies-total (λ p. cost v t p) m (a .pass) ∙ ap (λ x. m * x) (a .costs ∙ c₀) ∙ sym (rounds-first (name t) m c (list v t) e)) (b .costs);
-      }
+  -- P passes of t that together cost what its list's first P members come to
+  pub record Attained (t : Tree) (P : ℕ) : Type 0 where
+    pub passes : List (Pass t)
+    pub many : length passes ≡ P
+    pub good : All (λ r. Admitted v t r) passes
+    pub costs : charge v t (counts t passes) ≡ S (list v t) P
 
-  more : (f : Forest) (x : ℕ) → x < before v Choice f 0 → 1 ≤ size f
-  unfolding list start const size
-  more nil x h = absurd (omega arith)
-  more (t ▸ f) x h = omega arith
+  record AttainedIn (f : Forest) (k : Kind) (P : ℕ) : Type 0 where
+    passes : List (PassIn f k)
+    many : length passes ≡ P
+    good : All (λ r. AdmittedIn v f k r) passes
+    costs : ownCharge v k P + chargeIn v f (countsIn f k passes) ≡ S (before v k f) P
 
-  choice-best : (t : Tree) (f : Forest) → Best t → (1 ≤ size f → BestIn f Choice) → BestIn (t ▸ f) Choice
-  choice-best t f a b = go (leb (before v Choice f 0) (list v t 0)) refl
-    where
-      first : before v Choice (t ▸ f) 0 ≡ max (list v t 0) (before v Choice f 0)
-      first = unfold list in unfold turns in unfold join in unfold rest in unfold merge in unfold taken in refl
+  -- ---- one child more
 
-      go : (x : Bool) → leb (before v Choice f 0) (list v t 0) ≡ x → BestIn (t ▸ f) Choice
-      go true e = record { pass = inl (a .pass); good = a .good; costs = unfold cost in omega (arith, a .costs, first, leb-true (before v Choice f 0) (list v t 0) e) }
-      go false e =
-          let q = b (more f (list v t 0) (leb-false _ _ e)) in
-          record { pass = inr (q .pass); good = q .good; costs = unfold cost in omega (arith, q .costs, first, leb-false (before v Choice f 0) (list v t 0) e) }
-
-  whole-best : (n : Node) (f : Forest) → T (isUnlimited (n .limit)) → BestIn f (n .kind) → Best (node n f)
-  unfolding cost list limit
-  whole-best n f h b = record {
-    pass = b .pass;
-    good = b .good;
-    costs = b .costs ∙ sym (ap (λ l. limit v l (before v (n .kind) f) 0) (unlimited-is (n .limit) h));
+  sequence-more : (t : Tree) (f : Forest) (P : ℕ) → Attained t P → AttainedIn f Sequence P → AttainedIn (t ▸ f) Sequence P
+  sequence-more t f P a b = record {
+    passes = zip (a .passes) (b .passes);
+    many = zip-length (a .passes) (b .passes) long ∙ a .many;
+    good = zip-all _ _ _ (λ x y h k. (h, k)) (a .passes) (b .passes) (a .good) (b .good);
+    costs = spent (b .costs);
   }
+    where
+      long : length (a .passes) ≡ length (b .passes)
+      long = a .many ∙ sym (b .many)
+
+      first : (λ x. countsIn (t ▸ f) Sequence (zip (a .passes) (b .passes)) (inl x)) ≡ counts t (a .passes)
+      first = unfold count in fun-ext (λ x. zip-left (λ r. count t r x) (a .passes) (b .passes) long)
+
+      others : (λ x. countsIn (t ▸ f) Sequence (zip (a .passes) (b .passes)) (inr x)) ≡ countsIn f Sequence (b .passes)
+      others = unfold count in fun-ext (λ x. zip-right (λ r. countIn f Sequence r x) (a .passes) (b .passes) long)
+
+      spent : ownCharge v Sequence P + chargeIn v f (countsIn f Sequence (b .passes)) ≡ S (before v Sequence f) P
+          → ownCharge v Sequence P + chargeIn v (t ▸ f) (countsIn (t ▸ f) Sequence (zip (a .passes) (b .passes))) ≡ S (before v Sequence (t ▸ f)) P
+      spent e =
+          unfold charge in unfold list in unfold turns in unfold join in unfold rest in
+          omega (arith, ap (charge v t) first, ap (chargeIn v f) others, a .costs, S-add (list v t) (before v Sequence f) P)
+
+  choice-more : (t : Tree) (f : Forest) (P p q : ℕ) → p + q ≡ P → S (merge (list v t) (before v Choice f)) P ≡ S (list v t) p + S (before v Choice f) q
+      → Attained t p → AttainedIn f Choice q → AttainedIn (t ▸ f) Choice P
+  unfolding ownCharge
+  choice-more t f P p q e s a b = record {
+    passes = mixed;
+    many = length-append (map inl (a .passes)) (map inr (b .passes)) ∙ ap₂ (λ x y. x + y) (length-map inl (a .passes) ∙ a .many) (length-map inr (b .passes) ∙ b .many) ∙ e;
+    good = all-append _ (map inl (a .passes)) (map inr (b .passes)) (all-to _ _ inl (λ r h. h) (a .passes) (a .good)) (all-to _ _ inr (λ r h. h) (b .passes) (b .good));
+    costs = spent (b .costs);
+  }
+    where
+      mixed : List (PassIn (t ▸ f) Choice)
+      mixed = map inl (a .passes) ++ map inr (b .passes)
+
+      sides : (h : PassIn (t ▸ f) Choice → ℕ) → total h mixed ≡ total (λ r. h (inl r)) (a .passes) + total (λ r. h (inr r)) (b .passes)
+      sides h = total-append h (map inl (a .passes)) (map inr (b .passes)) ∙ ap₂ (λ x y. x + y) (total-map h inl (a .passes)) (total-map h inr (b .passes))
+
+      first : (λ x. countsIn (t ▸ f) Choice mixed (inl x)) ≡ counts t (a .passes)
+      first = unfold count in fun-ext (λ x. sides (λ r. countIn (t ▸ f) Choice r (inl x)) ∙ omega (arith, total-zero (b .passes)))
+
+      others : (λ x. countsIn (t ▸ f) Choice mixed (inr x)) ≡ countsIn f Choice (b .passes)
+      others = unfold count in fun-ext (λ x. sides (λ r. countIn (t ▸ f) Choice r (inr x)) ∙ omega (arith, total-zero (a .passes)))
+
+      spent : ownCharge v Choice q + chargeIn v f (countsIn f Choice (b .passes)) ≡ S (before v Choice f) q
+          → ownCharge v Choice P + chargeIn v (t ▸ f) (countsIn (t ▸ f) Choice mixed) ≡ S (before v Choice (t ▸ f)) P
+      spent h =
+          unfold charge in unfold list in unfold turns in unfold join in unfold rest in
+          omega (arith, ap (charge v t) first, ap (chargeIn v f) others, a .costs)
+
+  -- the only child takes all
+  choice-one : (t : Tree) (P : ℕ) → Attained t P → AttainedIn (t ▸ nil) Choice P
+  choice-one t P a = choice-more t nil P P 0 (omega arith) (spent (list-falls v t)) a none
+    where
+      spent : ((i : ℕ) → list v t (suc i) ≤ list v t i) → S (merge (list v t) (before v Choice nil)) P ≡ S (list v t) P + S (before v Choice nil) 0
+      spent h = unfold list in unfold start in rw (merge-zero (list v t) h, S-const) (omega arith)
+
+      none : AttainedIn nil Choice 0
+      none = record { passes = []; many = refl; good = tt; costs = unfold charge in unfold ownCharge in unfold list in unfold start in rw S-const (omega arith) }
+
+  -- the body's passes, one pass of the loop taking as many as its bound
+  loop-more : (n : Number) (t : Tree) (f : Forest) (P : ℕ) → T (limitFree t) → Attained t (amount v n * P) → AttainedIn f Sequence P → AttainedIn (t ▸ f) (Loop n) P
+  unfolding ownCharge
+  loop-more n t f P h a b = record {
+    passes = turn;
+    many = zip-length parts (b .passes) long ∙ cut-length (amount v n) P (a .passes);
+    good = zip-all _ _ _ (λ x y i j. (i .0, λ z. here-free _ _ (no-limit t h z), i .1, j)) parts (b .passes) (cut-all (λ r. Admitted v t r) (amount v n) P (a .passes) (a .good)) (b .good);
+    costs = spent (b .costs);
+  }
+    where
+      parts : List (List (Pass t))
+      parts = cut (amount v n) P (a .passes)
+
+      turn : List (PassIn (t ▸ f) (Loop n))
+      turn = zip parts (b .passes)
+
+      long : length parts ≡ length (b .passes)
+      long = cut-length (amount v n) P (a .passes) ∙ sym (b .many)
+
+      first : (λ x. countsIn (t ▸ f) (Loop n) turn (inl x)) ≡ counts t (a .passes)
+      first = unfold count in fun-ext (λ x. zip-left (λ ps. total (λ r. count t r x) ps) parts (b .passes) long ∙ cut-total (λ r. count t r x) (amount v n) P (a .passes) (a .many))
+
+      others : (λ x. countsIn (t ▸ f) (Loop n) turn (inr x)) ≡ countsIn f Sequence (b .passes)
+      others = unfold count in fun-ext (λ x. zip-right (λ r. countIn f Sequence r x) parts (b .passes) long)
+
+      spent : ownCharge v Sequence P + chargeIn v f (countsIn f Sequence (b .passes)) ≡ S (before v Sequence f) P
+          → ownCharge v (Loop n) P + chargeIn v (t ▸ f) (countsIn (t ▸ f) (Loop n) turn) ≡ S (before v (Loop n) (t ▸ f)) P
+      spent e =
+          unfold charge in unfold list in unfold turns in unfold join in unfold rest in
+          rw (rounds-run (name t) (amount v n) (list v t) (free-run t h))
+          (omega (arith, ap (charge v t) first, ap (chargeIn v f) others, a .costs, S-group (amount v n) (list v t) P, S-add (group (amount v n) (list v t)) (before v Sequence f) P))
+
+  -- ---- trees
+
+  whole-more : (n : Node) (f : Forest) (P : ℕ) → T (isUnlimited (n .limit)) → AttainedIn f (n .kind) P → Attained (node n f) P
+  unfolding charge list limit count
+  whole-more n f P h b = record {
+    passes = b .passes;
+    many = b .many;
+    good = b .good;
+    costs = rw (once, unlimited-is (n .limit) h) (b .costs);
+  }
+    where
+      once : total (λ r. 1) (b .passes) ≡ P
+      once = total-one (b .passes) ∙ b .many
+
+  block-more : (x : Number) (P : ℕ) → AttainedIn nil (Block x) P
+  unfolding charge ownCharge list start
+  block-more x P = record { passes = replicate P tt; many = length-replicate P tt; good = all-copies _ P tt tt; costs = omega (arith, charged-sum v x P) }
 
   mutual
-    unfolding limitFree listed Open size list start turns join add const rest cost
+    unfolding limitFree listed Open size charge ownCharge list start
 
-    best : (t : Tree) → T (limitFree t) → T (listed t) → Best t
-    best (node n f) h l =
+    attained : (t : Tree) (P : ℕ) → T (limitFree t) → T (listed t) → Attained t P
+    attained (node n f) P h l =
         let (a, b) = both _ _ h in
         let (p, q) = both _ _ l in
-        whole-best n f a (bestIn f (n .kind) b q (open-of (n .kind) (size f) (both _ _ p .1)))
+        whole-more n f P a (attainedIn f (n .kind) P b q (open-of (n .kind) (size f) (both _ _ p .1)))
 
-    bestIn : (f : Forest) (k : Kind) → T (limitFreeIn f) → T (listedIn f) → Open k (size f) → BestIn f k
-    bestIn nil (Block x) h l o = record { pass = tt; good = tt; costs = refl }
-    bestIn nil Sequence h l o = record { pass = tt; good = tt; costs = refl }
-    bestIn nil Choice h l o = absurd (omega arith)
-    bestIn nil (Loop n) h l o = record { pass = tt; good = tt; costs = refl }
-    bestIn (t ▸ f) (Block x) h l o = absurd (omega arith)
-    bestIn (t ▸ f) Sequence h l o =
+    attainedIn : (f : Forest) (k : Kind) (P : ℕ) → T (limitFreeIn f) → T (listedIn f) → Open k (size f) → AttainedIn f k P
+    attainedIn nil (Block x) P h l o = block-more x P
+    attainedIn nil Sequence P h l o = record { passes = replicate P tt; many = length-replicate P tt; good = all-copies _ P tt tt; costs = omega (arith, S-const 0 P) }
+    attainedIn nil Choice P h l o = absurd (omega arith)
+    attainedIn nil (Loop n) P h l o = record { passes = replicate P tt; many = length-replicate P tt; good = all-copies _ P tt tt; costs = omega (arith, S-const 0 P) }
+    attainedIn (t ▸ f) (Block x) P h l o = absurd (omega arith)
+    attainedIn (t ▸ f) Sequence P h l o =
         let (a, b) = both _ _ h in
         let (p, q) = both _ _ l in
-        let x = best t a p in
-        let y = bestIn f Sequence b q tt in
-        record { pass = (x .pass, y .pass); good = (x .good, y .good); costs = ap₂ (λ i j. i + j) (x .costs) (y .costs) }
-    bestIn (t ▸ f) Choice h l o =
+        sequence-more t f P (attained t P a p) (attainedIn f Sequence P b q tt)
+    attainedIn (t ▸ nil) Choice P h l o =
         let (a, b) = both _ _ h in
         let (p, q) = both _ _ l in
-        choice-best t f (best t a p) (λ z. bestIn f Choice b q z)
-    bestIn (t ▸ f) (Loop n) h l o =
+        choice-one t P (attained t P a p)
+    attainedIn (t ▸ u ▸ f) Choice P h l o =
         let (a, b) = both _ _ h in
         let (p, q) = both _ _ l in
-        loop-best n t f a (best t a p) (bestIn f Sequence b q tt)
+        let (i, j, e, s) = is-merge _ _ (list-falls v t) (before-falls v Choice (u ▸ f)) .met P in
+        choice-more t (u ▸ f) P i j e s (attained t i a p) (attainedIn (u ▸ f) Choice j b q (omega arith))
+    attainedIn (t ▸ f) (Loop n) P h l o =
+        let (a, b) = both _ _ h in
+        let (p, q) = both _ _ l in
+        loop-more n t f P a (attained t (amount v n * P) a p) (attainedIn f Sequence P b q tt)
+
+  -- one pass is a run
+  one-pass : (t : Tree) (r : Pass t) → T (limitFree t) → Admitted v t r → charge v t (counts t (r ∷ [])) ≡ S (list v t) 1 → Costs v t (figure v t)
+  unfolding figure cost S total
+  one-pass t r h g c =
+      let e : counts t (r ∷ []) ≡ (λ x. count t r x) = fun-ext (λ x. omega arith) in
+      record {
+        pass = r;
+        run = record { inside = g; whole = λ x. keeps-free _ _ (no-limit t h x) };
+        costs = omega (arith, ap (charge v t) e);
+      }
+
+  first-pass : (t : Tree) → T (limitFree t) → Attained t 1 → Costs v t (figure v t)
+  first-pass t h a = go (a .passes) (a .many) (a .good) (a .costs)
+    where
+      go : (rs : List (Pass t)) → length rs ≡ 1 → All (λ r. Admitted v t r) rs → charge v t (counts t rs) ≡ S (list v t) 1 → Costs v t (figure v t)
+      go [] m g c = absurd (omega arith)
+      go (r ∷ []) m g c = one-pass t r h (g .0) c
+      go (r ∷ s ∷ rs) m g c = absurd (omega arith)
 
   pub reached : (t : Tree) → T (limitFree t) → T (listed t) → Costs v t (figure v t)
-  reached t h l =
-      let b = best t h l in
-      record {
-        pass = b .pass;
-        run = record { inside = b .good; whole = λ x. keeps-free _ _ (no-limit t h x) };
-        costs = unfold figure in b .costs;
-      }
+  reached t h l = first-pass t h (attained t 1 h l)

@@ -7,13 +7,14 @@ use lib.Dec.{T, le→leb}
 use Rattle.booleans.specs.Laws.{both, join-and}
 use Rattle.booleans.specs.Tests.{_and_}
 use Rattle.table.specs.Numbers.{wholeRun, mostTime}
-use Rattle.table.specs.Questions.{arity, isAddress, timeInRange, kindInRange, limitInRange, listed, nameOk, named, share, weight, loops, depth}
+use Rattle.table.specs.Questions.{arity, isAddress, timeInRange, kindInRange, limitInRange, listed, nameOk, named, share, weight, paired, pairedBlock, pairedShare, loops, depth}
 use Rattle.table.specs.Limits.{everyLimit, limitHolds}
-use Rattle.table.specs.Trees.{Tree, node, nil, _▸_, size, records}
+use Rattle.table.specs.Trees.{Tree, node, nil, _▸_, size, records, everyNode}
 use Rattle.lists.specs.Streams.{const}
 use Rattle.evaluate.specs.Closed.{isPlain, isUnlimited, plainKind}
-use Rattle.evaluate.specs.Evaluate.{Values, amount, limit, start, list, inner, name, fits}
+use Rattle.evaluate.specs.Evaluate.{Values, amount, later, onceThen, limit, start, list, inner, name, fits}
 use Rattle.evaluate.specs.Laws.Constant.{unlimited-is}
+use Rattle.evaluate.specs.Laws.Times.{once-same}
 use Rattle.simplify.specs.Nodes.{Plain, Symbol, Kind, Block, Sequence, Choice, Loop, Unlimited, Limit, Most, Node}
 use Rattle.simplify.specs.Rules.{isBlock, timeOfKind, leaf, bare, timeOf}
 
@@ -36,7 +37,7 @@ bare-parts n h =
 
 pub bare-list : (v : Values) (t : Tree) → T (bare t) → list v t ≡ const (timeOf t)
 unfolding bare timeOf list
-bare-list v (node n nil) h = let (k, l) = bare-parts n h in ap₂ (λ x y. limit v x (start v y)) l k ∙ unfold limit in unfold start in unfold amount in refl
+bare-list v (node n nil) h = let (k, l) = bare-parts n h in ap₂ (λ x y. limit v x (start v y)) l k ∙ unfold limit in unfold start in unfold amount in unfold later in once-same (timeOfKind (n .kind))
 bare-list v (node n (t ▸ f)) h = absurd h
 
 pub bare-name : (t : Tree) → T (bare t) → name t ≡ wholeRun
@@ -44,16 +45,20 @@ unfolding bare name
 bare-name (node n nil) h = ap (λ l. inner l wholeRun) (bare-parts n h .1) ∙ unfold inner in refl
 bare-name (node n (t ▸ f)) h = absurd h
 
+pub leaf-limited : (v : Values) (x : ℕ) (l : Limit) → list v (leaf x l) ≡ limit v l (const x)
+unfolding leaf list start amount later
+leaf-limited v x l = ap (limit v l) (once-same x)
+
 pub leaf-list : (v : Values) (x : ℕ) → list v (leaf x Unlimited) ≡ const x
-unfolding leaf list limit start amount
-leaf-list v x = refl
+unfolding limit
+leaf-list v x = leaf-limited v x Unlimited
 
 pub leaf-name : (x : ℕ) → name (leaf x Unlimited) ≡ wholeRun
 unfolding leaf name inner
 leaf-name x = refl
 
 pub leaf-fits : (v : Values) (x : ℕ) (l : Limit) → x ≤ mostTime → T (fits v (leaf x l))
-unfolding leaf fits list start amount const
+unfolding leaf fits list start amount onceThen
 leaf-fits v x l h = join-and _ _ (le→leb x mostTime h) tt
 
 pub leaf-listed : (x : ℕ) (l : Limit) → x ≤ mostTime → T (limitInRange l) → T (listed (leaf x l))
@@ -65,12 +70,16 @@ unfolding leaf named nameOk _and_
 leaf-named x d = tt
 
 pub leaf-limits : (p : ℕ → Most → Bool) (x : ℕ) → T (everyLimit p (leaf x Unlimited))
-unfolding leaf everyLimit limitHolds _and_
+unfolding leaf everyNode limitHolds _and_
 leaf-limits p x = tt
 
+pub leaf-share : (x : ℕ) (l : Limit) (d : ℕ) → weight (leaf x l) d ≡ share l d
+unfolding leaf weight pairedShare pairedBlock paired
+leaf-share x l d = omega arith
+
 pub leaf-weight : (x d : ℕ) → weight (leaf x Unlimited) d ≡ 0
-unfolding leaf weight share
-leaf-weight x d = refl
+unfolding share
+leaf-weight x d = leaf-share x Unlimited d
 
 pub leaf-loops : (x : ℕ) (l : Limit) (d : ℕ) → loops (leaf x l) d ≡ d
 unfolding leaf loops

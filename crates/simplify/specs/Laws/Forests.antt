@@ -7,7 +7,7 @@ use lib.Dec.{T}
 use Rattle.booleans.specs.Laws.{both, join-and}
 use Rattle.table.specs.Questions.{depth, depthIn, listed, listedIn, named, namedIn}
 use Rattle.table.specs.Limits.{everyLimit, everyLimitIn}
-use Rattle.table.specs.Trees.{Tree, Forest, nil, _▸_, _⧺_, size, records, recordsIn}
+use Rattle.table.specs.Trees.{Tree, Forest, nil, _▸_, _⧺_, size, records, recordsIn, everyNode}
 use Rattle.evaluate.specs.Evaluate.{Values, fits, fitsIn}
 use Rattle.simplify.specs.Nodes.{Kind, Most}
 use Rattle.simplify.specs.Laws.Refines.{SumKind}
@@ -45,7 +45,7 @@ unfolding listed
 listed-each = record { none = tt; apart = λ t f h. both _ _ h; more = λ t f h i. join-and _ _ h i }
 
 pub limits-each : (p : ℕ → Most → Bool) → Each (everyLimit p) (everyLimitIn p)
-unfolding everyLimit
+unfolding everyNode
 limits-each p = record { none = tt; apart = λ t f h. both _ _ h; more = λ t f h i. join-and _ _ h i }
 
 pub named-each : (k : Kind) → SumKind k → (d : ℕ) → Each (λ t. named t d) (λ f. namedIn k f d)

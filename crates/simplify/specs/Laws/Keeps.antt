@@ -1,6 +1,6 @@
 -- What any change that keeps quotes keeps of a tree: `Keeps asked u t`, u is no worse than t in anything that the calls ask, and the same in what they answer.
 -- It says nothing of the number of records, so that it holds of a rule and of a change of order alike. `asked` says what `stillListed` presupposes: where it
--- is true, that question 10 says yes of t with every symbol 0, which puts the time of a rule's new block in range; where it is false, nothing.
+-- is true, that question 10 says yes of t with every value 0, which puts the time of a rule's new block in range; where it is false, nothing.
 use mathlib.Core.Path.{_≡_, sym, ap, subst, ap₂, refl, _∙_}
 use mathlib.Core.Bool.{Bool}
 use Prim.Native.Nat.{ℕ, _≤_, min}
@@ -11,7 +11,7 @@ use Rattle.booleans.specs.Laws.{both, join-and}
 use Rattle.table.specs.Numbers.{mostTime}
 use Rattle.table.specs.Questions.{listed, depth, loops, named, weight, listedIn, depthIn, loopsIn, namedIn, weightIn, arity, Accepted}
 use Rattle.table.specs.Limits.{everyLimit, everyLimitIn}
-use Rattle.table.specs.Trees.{Tree, records, Forest, node, size, _▸_, rest, around}
+use Rattle.table.specs.Trees.{Tree, records, Forest, node, size, _▸_, rest, around, everyNode}
 use Rattle.evaluate.specs.Evaluate.{Values, name, list, fits, zeros, nameIn, before, fitsIn, inner, limit, seen, turns, join, figure}
 use Rattle.evaluate.specs.Laws.Joins.{join-right}
 use Rattle.simplify.specs.Nodes.{Kind, Node, Most}
@@ -99,7 +99,7 @@ keepsIn-trans k f g h p q = record {
 -- ---- it passes through a context
 
 pub node-keeps : {asked : Bool} (n : Node) (g f : Forest) → KeepsIn asked (n .kind) g f → (T (listedIn f) → T (arity (n .kind) (size f)) → T (arity (n .kind) (size g))) → Keeps asked (node n g) (node n f)
-unfolding name list fits listed depth loops named weight everyLimit
+unfolding name list fits listed depth loops named weight everyNode
 node-keeps n g f r s = record {
   sameName = ap (inner (n .limit)) (r .sameName);
   sameList = λ v. ap (limit v (n .limit)) (r .sameList v);
@@ -118,7 +118,7 @@ node-keeps n g f r s = record {
 }
 
 pub head-keeps : {asked : Bool} (k : Kind) (u t : Tree) (f : Forest) → Keeps asked u t → KeepsIn asked k (u ▸ f) (t ▸ f)
-unfolding name list fits listed depth loops named weight everyLimit
+unfolding name list fits listed depth loops named weight everyNode
 head-keeps k u t f r = record {
   sameName = ap (λ x. min (seen k x) (nameIn (rest k) f)) (r .sameName);
   sameList = λ v. ap₂ (λ x s. join k (turns v k x s) (before v (rest k) f)) (r .sameName) (r .sameList v);
@@ -132,7 +132,7 @@ head-keeps k u t f r = record {
 }
 
 pub tail-keeps : {asked : Bool} (k : Kind) (t : Tree) (g f : Forest) → KeepsIn asked (rest k) g f → KeepsIn asked k (t ▸ g) (t ▸ f)
-unfolding name list fits listed depth loops named weight everyLimit
+unfolding name list fits listed depth loops named weight everyNode
 tail-keeps k t g f r = record {
   sameName = ap (min (seen k (name t))) (r .sameName);
   sameList = λ v. ap (join k (turns v k (name t) (list v t))) (r .sameList v);

@@ -6,8 +6,7 @@ use lib.Dec.{T, eqb→eq}
 use Rattle.booleans.specs.Laws.{both, by-cond, or-else}
 use Rattle.table.specs.Numbers.{wholeRun}
 use Rattle.table.specs.Questions.{listed, depth}
-use Rattle.table.specs.Limits.{everyLimit}
-use Rattle.table.specs.Trees.{Tree, nil, _▸_, records, Forest, size, node}
+use Rattle.table.specs.Trees.{Tree, nil, _▸_, records, Forest, size, node, everyNode}
 use Rattle.table.specs.Laws.Trees.{some-records}
 use Rattle.lists.specs.Streams.{const}
 use Rattle.evaluate.specs.Evaluate.{Values, fits, join, before, list, name}
@@ -31,7 +30,7 @@ zero-name t h = bare-name t (both _ _ h .0)
 
 module _ (k : Kind) (s : SumKind k) where
   dropped : (t : Tree) (f : Forest) → T (isZero t) → RefinesIn k f (t ▸ f)
-  unfolding fits listed depth everyLimit records
+  unfolding fits listed depth everyNode records
   dropped t f z = record {
     keeps = record {
       sameName = omega (arith, s .names t f, zero-name t z, nameIn-le k f);

@@ -9,7 +9,7 @@ use Rattle.booleans.specs.Tests.{_and_}
 use Rattle.table.specs.Numbers.{mostTime, wholeRun}
 use Rattle.table.specs.Questions.{listed, depth, depthIn, loops, loopsIn, named, weight, weightIn, arity, isAddress, kindInRange, limitInRange, nameOk, share}
 use Rattle.table.specs.Limits.{everyLimit, limitHolds}
-use Rattle.table.specs.Trees.{nil, _▸_, node, Tree, Forest, size, rest, around, records, recordsIn}
+use Rattle.table.specs.Trees.{nil, _▸_, node, Tree, Forest, size, rest, around, records, recordsIn, everyNode}
 use Rattle.lists.specs.Streams.{const, add, merge}
 use Rattle.lists.specs.Laws.MergeLaws.{merge-zero, merge-lift, add-zero-r}
 use Rattle.lists.specs.Laws.Sums.{const-falls, add-falls}
@@ -182,7 +182,7 @@ module _ (l : Limit) (a : ℕ) (t : Tree) (f : Forest) where
       join-and _ _ i (join-and _ _ (join-and _ _ tt (each-first (named-each Choice choice-sum d) (λ i u w m. both _ _ (both _ _ m .1) .0) (t ▸ f) b)) z)
 
   shared-limits : (p : ℕ → Most → Bool) → T (everyLimit p old) → T (everyLimit p new)
-  unfolding everyLimit asPairs limitHolds
+  unfolding everyNode asPairs limitHolds
   shared-limits p q =
       let (i, b) = both _ _ q in
       let (g, o) = both _ _ b in

@@ -8,8 +8,7 @@ use borrow.Author.Tests.{eqb-true}
 use Rattle.booleans.specs.Laws.{by-cond, both}
 use Rattle.table.specs.Numbers.{wholeRun}
 use Rattle.table.specs.Questions.{listed, depth, loops, named, weight, share}
-use Rattle.table.specs.Limits.{everyLimit}
-use Rattle.table.specs.Trees.{nil, _▸_, records, node, Tree, rest, around}
+use Rattle.table.specs.Trees.{nil, _▸_, records, node, Tree, rest, around, everyNode}
 use Rattle.lists.specs.Streams.{const, Stream, S, group, add}
 use Rattle.lists.specs.Laws.MergeLaws.{add-zero-r, add-zero-l}
 use Rattle.evaluate.specs.Evaluate.{rounds, outward, amount, inner, name, limit, start, list, fits, seen, turns, join}
@@ -32,7 +31,7 @@ names-run k h = go (eqb k 1) refl h
     go false e h = ap outward (eqb→eq k wholeRun h) ∙ unfold outward in refl
 
 pub rule9-refines : (a : ℕ) (b e : Tree) → outward (name b) ≡ wholeRun → Refines e (node (at (Loop (Plain 0)) Unlimited a) (b ▸ e ▸ nil))
-unfolding name seen rest inner list limit turns start amount join fits listed depth loops around named weight share everyLimit records
+unfolding name seen rest inner list limit turns start amount join fits listed depth loops around named weight share everyNode records
 rule9-refines a b e h = record {
   keeps = record {
     sameName = omega (arith, name-le e);

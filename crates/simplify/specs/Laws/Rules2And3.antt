@@ -6,8 +6,7 @@ use lib.Dec.{T, leb→le}
 use Rattle.booleans.specs.Laws.{both, join-and, by-cond, or-else}
 use Rattle.table.specs.Numbers.{mostChildren}
 use Rattle.table.specs.Questions.{depth, listed, listedIn, loops, loopsIn, nameOk, named, share, weight, weightIn}
-use Rattle.table.specs.Limits.{everyLimit}
-use Rattle.table.specs.Trees.{Forest, nil, _▸_, _⧺_, size, records, Tree, node}
+use Rattle.table.specs.Trees.{Forest, nil, _▸_, _⧺_, size, records, Tree, node, everyNode}
 use Rattle.evaluate.specs.Closed.{isUnlimited}
 use Rattle.evaluate.specs.Evaluate.{limit, join, Values, fits, inner, name, nameIn, list, before}
 use Rattle.evaluate.specs.Laws.Constant.{unlimited-is}
@@ -46,7 +45,7 @@ module _ (k : Kind) (s : SumKind k) where
   -- ---- rule 2
 
   pub splice : (a : ℕ) (g f : Forest) → RefinesIn k (g ⧺ f) (node (at k Unlimited a) g ▸ f)
-  unfolding name list inner limit fits listed depth loops nameOk named share weight everyLimit records
+  unfolding name list inner limit fits listed depth loops nameOk named share weight everyNode records
   splice a g f = record {
     keeps = record {
       sameName = name-⧺ g f ∙ sym (s .names (node (at k Unlimited a) g) f);
@@ -113,7 +112,7 @@ rule2-refines n f i h =
 -- ---- rule 3
 
 pub alone-free : (k : Kind) → SumKind k → (a : ℕ) (t : Tree) → Refines t (node (at k Unlimited a) (t ▸ nil))
-unfolding name list inner limit fits listed depth loops nameOk named share weight everyLimit records
+unfolding name list inner limit fits listed depth loops nameOk named share weight everyNode records
 alone-free k s a t = record {
   keeps = record {
     sameName = omega (arith, s .names t nil, name-le t);
@@ -130,7 +129,7 @@ alone-free k s a t = record {
 }
 
 pub alone-limited : (k : Kind) → SumKind k → (l : Limit) (a : ℕ) (j : Kind) (i : ℕ) (g : Forest) → Refines (node (at j l i) g) (node (at k l a) (node (at j Unlimited i) g ▸ nil))
-unfolding name list fits listed depth loops named weight everyLimit records
+unfolding name list fits listed depth loops named weight everyNode records
 alone-limited k s l a j i g =
     let t = node (at j Unlimited i) g in record {
       keeps = record {

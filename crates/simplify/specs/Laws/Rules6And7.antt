@@ -7,8 +7,7 @@ use lib.Dec.{T}
 use Rattle.booleans.specs.Laws.{join-and, by-cond, by-conds}
 use Rattle.table.specs.Numbers.{mostTime}
 use Rattle.table.specs.Questions.{listed, depth, depthIn, limitInRange, loopsIn, weightIn}
-use Rattle.table.specs.Limits.{everyLimit}
-use Rattle.table.specs.Trees.{nil, _▸_, Forest, records, recordsIn, size, Tree, node}
+use Rattle.table.specs.Trees.{nil, _▸_, Forest, records, recordsIn, size, Tree, node, everyNode}
 use Rattle.table.specs.Laws.Trees.{some-records, some-depth, some-loops}
 use Rattle.lists.specs.Streams.{const, Stream}
 use Rattle.lists.specs.Laws.MergeLaws.{add-consts, merge-consts}
@@ -198,7 +197,7 @@ module _ (k : Kind) (s : SumKind k) where
     bares-size f = omega (arith, others-size f)
 
     pub one-for-all : (f : Forest) → 2 ≤ bares f → RefinesIn k (leaf (acc f) Unlimited ▸ others f) f
-    unfolding fits listed depth everyLimit records limitInRange
+    unfolding fits listed depth everyNode records limitInRange
     one-for-all f p =
         let n : 1 ≤ size f = omega (arith, bares-size f) in record {
           keeps = record {

@@ -1,25 +1,26 @@
 -- The host's records, each copied or with the sent table in its place, are the grafted tree's table.
 use mathlib.Core.Path.{_≡_, refl, ap, ap₂, sym, subst, _∙_}
-use mathlib.Core.Bool.{Bool, true, false, cond, not, _||_}
+use mathlib.Core.Bool.{Bool, true, false, cond, not, _&&_, _||_}
 use mathlib.Core.List.{List, [], _++_, append-assoc, append-nil}
-use Prim.Native.Nat.{ℕ, zero, suc, _+_, _*_}
+use Prim.Native.Nat.{ℕ, suc, _+_, _*_}
 use native.Mathlib.Nat.{add-assoc, add-zero, suc-add, zero-add}
 use native.Mathlib.Omega.{arith}
-use lib.Dec.{T, eqb, ltb}
+use lib.Dec.{T}
 use lib.Seq.{take-at}
-use borrow.Author.Tests.{lt-ltb, ne-eqb}
-use Rattle.booleans.specs.Laws.{both}
+use Rattle.booleans.specs.Tests.{_and_}
+use Rattle.booleans.specs.Laws.{and-false, and-is, both}
 use Rattle.table.specs.Numbers.{recordLength}
-use Rattle.table.specs.Questions.{arity, listed, listedIn}
-use Rattle.table.specs.Table.{decode, encode, encodes, recordBytes, recordCount}
-use Rattle.table.specs.Trees.{Forest, Tree, nil, node, records, recordsIn, size, _▸_}
+use Rattle.table.specs.Questions.{arity, listed, listedIn, pairedBlock, single, unpaired}
+use Rattle.table.specs.Table.{decode, each, encode, encodes, firstNode, recordBytes, recordCount}
+use Rattle.table.specs.Trees.{Forest, Tree, everyNode, everyNodeIn, nil, node, records, recordsIn, size, _▸_}
 use Rattle.table.specs.Checking.{IsTable}
+use Rattle.table.specs.Laws.EveryNode.{table-nodes}
 use Rattle.table.specs.Laws.RoundTrip.{WritesNode, Writes, drop-bytes, head-bytes, length-bytes}
 use Rattle.table.specs.Laws.NotRefused.{tree-writes}
 use Rattle.table.specs.Laws.Tables.{count-is, whole-table}
-use Rattle.splice.specs.Nodes.{Limit, Node}
+use Rattle.splice.specs.Nodes.{Kind, Limit, Node}
 use Rattle.splice.specs.Graft.{graft, graftIn, inPlace, isSymbol, rename, uses, usesIn}
-use Rattle.splice.specs.Splice.{occursFirst, occurrences, occurrencesIn, occurrencesOf, placeBytes, splice, spliceFirst, spliceRecords}
+use Rattle.splice.specs.Splice.{occursFirst, occurrences, occurrencesIn, occurrencesOf, placeBytes, sendableFirst, splice, spliceFirst, spliceRecords}
 use Rattle.splice.specs.Laws.Sizes.{rename-records, size-grafted, symbol-only}
 
 place-encode : (u : Tree) (l : Limit) (a : ℕ) → encode (inPlace u l a) ≡ placeBytes (encode (rename u 0)) l a
@@ -99,24 +100,6 @@ mutual
       let (a, b) = both _ _ h in
       rw (add-assoc, add-assoc, append-assoc) (occurrences-tree s t a (recordsIn f + m) (encodes f ++ z) ∙ ap (λ (x : ℕ). occurrences s t + x) (occurrences-forest s f b m z))
 
-some-of : (a b : ℕ) → (ltb 0 a || ltb 0 b) ≡ ltb 0 (a + b)
-some-of zero b = rw zero-add refl
-some-of (suc a) b = rw (lt-ltb 0 (suc a) (omega arith)) (sym (lt-ltb 0 (suc a + b) (omega arith)))
-
-one-some : (c : Bool) → c ≡ ltb 0 (cond c 1 0)
-one-some true = refl
-one-some false = refl
-
-mutual
-  unfolding uses occurrences
-
-  pub uses-occurrences : (s : ℕ) (t : Tree) → uses s t ≡ ltb 0 (occurrences s t)
-  uses-occurrences s (node n f) = ap₂ _||_ (one-some (isSymbol s (n .kind))) (usesIn-occurrences s f) ∙ some-of (cond (isSymbol s (n .kind)) 1 0) (occurrencesOf s f)
-
-  usesIn-occurrences : (s : ℕ) (f : Forest) → usesIn s f ≡ ltb 0 (occurrencesOf s f)
-  usesIn-occurrences s nil = refl
-  usesIn-occurrences s (t ▸ f) = ap₂ _||_ (uses-occurrences s t) (usesIn-occurrences s f) ∙ some-of (occurrences s t) (occurrencesOf s f)
-
 -- ---- how many records the grafted tree has
 
 module _ (s : ℕ) (u : Tree) where
@@ -163,10 +146,29 @@ module _ (h : List ℕ) (t : IsTable h) where
   unfolding spliceRecords
   long-table s u = rw (occurrences-table s) (omega (arith, count-is h t, graft-records s u (decode h) (t .accepted .listed)))
 
--- the program's count answers whether the sent table uses the symbol
-pub uses-none : (b : List ℕ) → IsTable b → (s count : ℕ) → count ≡ occurrencesIn s (recordCount b) b → eqb count 0 ≡ not (uses s (decode b))
-uses-none b t s count e = go count (e ∙ occurrences-table b t s)
-  where
-    go : (k : ℕ) → k ≡ occurrences s (decode b) → eqb k 0 ≡ not (uses s (decode b))
-    go zero q = rw (uses-occurrences s (decode b), ← q) refl
-    go (suc k) q = rw (uses-occurrences s (decode b), ← q, lt-ltb 0 (suc k) (omega arith), ne-eqb (suc k) 0 (omega arith)) refl
+-- ---- which tables may be sent
+
+pub may-send : (s : ℕ) (b : List ℕ) {k : Kind} {x y : Bool} → k ≡ firstNode b .kind → x ≡ isSymbol s k → y ≡ pairedBlock k → (not x && not y) ≡ sendableFirst s b
+unfolding sendableFirst
+may-send s b e f g = rw (and-is, f, g, e) refl
+
+neither : (a b c d : Bool) → ((not a and b) and (not c and d)) ≡ (not (a || c) and (b and d))
+unfolding _and_
+neither true b c d = refl
+neither false b true d = and-false b
+neither false b false d = refl
+
+mutual
+  unfolding uses everyNode _and_
+
+  sendable-nodes : (s : ℕ) (t : Tree) → everyNode (λ n. not (isSymbol s (n .kind)) and single n) t ≡ (not (uses s t) and unpaired t)
+  sendable-nodes s (node n f) =
+      ap (λ x. (not (isSymbol s (n .kind)) and single n) and x) (sendable-nodesIn s f) ∙ neither (isSymbol s (n .kind)) (single n) (usesIn s f) (everyNodeIn single f)
+
+  sendable-nodesIn : (s : ℕ) (f : Forest) → everyNodeIn (λ n. not (isSymbol s (n .kind)) and single n) f ≡ (not (usesIn s f) and everyNodeIn single f)
+  sendable-nodesIn s nil = refl
+  sendable-nodesIn s (t ▸ f) = ap₂ _and_ (sendable-nodes s t) (sendable-nodesIn s f) ∙ neither (uses s t) (unpaired t) (usesIn s f) (everyNodeIn single f)
+
+pub sendable-table : (b : List ℕ) → IsTable b → (s : ℕ) → each (sendableFirst s) (recordCount b) b ≡ (not (uses s (decode b)) and unpaired (decode b))
+unfolding sendableFirst
+sendable-table b t s = table-nodes (λ n. not (isSymbol s (n .kind)) and single n) b t ∙ sendable-nodes s (decode b)

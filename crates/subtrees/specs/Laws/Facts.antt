@@ -1,15 +1,15 @@
 -- The facts kept of a subtree say what the rules ask, and those of a node follow from its children's.
 use mathlib.Core.Path.{_≡_, refl, ap, sym, _∙_}
-use mathlib.Core.Bool.{Bool, true, false, cond, _||_}
+use mathlib.Core.Bool.{Bool, true, false, cond, not, _||_}
 use Prim.Native.Nat.{ℕ, _+_, _-_, _<_, _≤_, max, min, suc}
 use native.Mathlib.Nat.{add-assoc, zero-add}
 use native.Mathlib.Omega.{arith}
 use lib.Dec.{T, eqb, eqb→eq, leb, leb→le, le→leb, lt→ltb}
-use borrow.Author.Tests.{le-leb, leb-true}
+use borrow.Author.Tests.{le-leb, lt-leb, leb-true}
 use Rattle.booleans.specs.Laws.{both, is-T, join-and, same-test}
 use Rattle.booleans.specs.Tests.{_and_}
 use Rattle.table.specs.Numbers.{mostLoops, wholeRun}
-use Rattle.table.specs.Questions.{depth, depthIn, limitInRange, listed, listedIn}
+use Rattle.table.specs.Questions.{pairedBlock, depth, depthIn, limitInRange, listed, listedIn}
 use Rattle.table.specs.Table.{loopByte}
 use Rattle.table.specs.Trees.{Forest, Tree, nil, node, _▸_, around, records, recordsIn, rest}
 use Rattle.table.specs.Laws.Trees.{some-depth}
@@ -17,7 +17,7 @@ use Rattle.evaluate.specs.Closed.{closed, closedIn, stays, symbolFree, symbolFr
 use Rattle.evaluate.specs.Evaluate.{name, nameIn, outward, seen}
 use Rattle.evaluate.specs.Laws.Monotone.{nameIn-le}
 use Rattle.subtrees.specs.Nodes.{AtMost, Block, Choice, Kind, Limit, Loop, Sequence, Unlimited}
-use Rattle.subtrees.specs.Facts.{belowOf, childIn, isLoop, noChild, outer, passed, reach, reachIn, symbols, symbolsIn}
+use Rattle.subtrees.specs.Facts.{belowOf, childIn, isLoop, noChild, outer, pairedReach, passed, reach, reachIn, symbols, symbolsIn}
 use Rattle.subtrees.specs.declared.Below.{Below}
 use Rattle.subtrees.specs.Laws.Forests.{Sound}
 
@@ -70,13 +70,22 @@ around-most Sequence d = omega arith
 around-most Choice d = omega arith
 around-most (Loop n) d = omega arith
 
+single-is : (k : Kind) (d : ℕ) → d < wholeRun → not (pairedBlock k) ≡ leb (pairedReach k) d
+unfolding pairedReach
+single-is k d h = go (pairedBlock k)
+  where
+    go : (x : Bool) → not x ≡ leb (cond x wholeRun 0) d
+    go true = sym (lt-leb wholeRun d h)
+    go false = sym (le-leb 0 d (omega arith))
+
 mutual
   unfolding closed reach listed depth
 
   pub closed-is : (t : Tree) (d : ℕ) → T (listed t) → d + depth t < wholeRun → closed t d ≡ leb (reach t) d
   closed-is (node n f) d l h =
       let (p, q) = both _ _ l in
-      rw (stays-is (n .limit) d (both _ _ (both _ _ p .0) .1) (omega arith), closedIn-is (n .kind) f d q (omega arith)) (and-max _ _ d)
+      rw (stays-is (n .limit) d (both _ _ (both _ _ p .0) .1) (omega arith), single-is (n .kind) d (omega arith), closedIn-is (n .kind) f d q (omega arith), and-max (loopByte (n .limit)) (pairedReach (n .kind)) d)
+      (and-max _ _ d)
 
   pub closedIn-is : (k : Kind) (f : Forest) (d : ℕ) → T (listedIn f) → d + suc (depthIn f) < wholeRun → closedIn k f d ≡ leb (reachIn k f) d
   closedIn-is k nil d l h = sym (le-leb 0 d (omega arith))

@@ -17,7 +17,7 @@ use Rattle.table.specs.Trees.{Forest, Tree, node, _▸_, records, recordsIn}
 use Rattle.evaluate.specs.Closed.{isPlain, plainKind, plainLimit, symbolFree, symbolFreeIn, plainMost}
 use Rattle.evaluate.specs.Evaluate.{inner, name}
 use Rattle.subtrees.specs.Nodes.{AtMost, Block, Choice, Kind, Limit, Loop, Node, Number, Plain, Sequence, Symbol, Unlimited, Most}
-use Rattle.subtrees.specs.Facts.{Known, MarkedAt, Moved, Outdated, Own, OwnBefore, SameFacts, Surveyed, Unchanged, belowAt, belowOf, childIn, isLoop, marksEach, noChild, reach, reachBelow, symbols, symbolsIn}
+use Rattle.subtrees.specs.Facts.{Known, MarkedAt, Moved, Outdated, Own, OwnBefore, SameFacts, Surveyed, Unchanged, belowAt, belowOf, childIn, isLoop, marksEach, noChild, pairedReach, reach, reachBelow, symbols, symbolsIn}
 use Rattle.subtrees.specs.Marks.{limitedName, marked}
 use Rattle.table.specs.Checking.{IsTable}
 use Rattle.subtrees.specs.Parts.{subtree, treesAt}
@@ -294,7 +294,7 @@ module _ (b : List ℕ) (s : IsTable b) (i : ℕ) (l : i < recordCount b) where
   newMarks marks c =
       let r = drop (recordLength * i) b in
       let k = loopByte (firstNode r .limit) in
-      marked marks i (cond (flagless r) (c .symbols) 1) (limitedName k (c .named)) (max k (c .reach)) (c .reach)
+      marked marks i (cond (flagless r) (c .symbols) 1) (limitedName k (c .named)) (max (max k (pairedReach (firstNode r .kind))) (c .reach)) (c .reach)
 
   fresh-extent : (extents : List ℕ) → recordCount b ≤ length extents → (c : Below) → c ≡ belowAt (treesAt b i) → getD (newExtents extents c) i 0 ≡ records (subtree b i)
   unfolding records

@@ -1,5 +1,5 @@
 -- A test of each record's limit is a test of every limit of the table's tree.
-use mathlib.Core.Path.{_≡_, refl, sym, ap, _∙_}
+use mathlib.Core.Path.{_≡_, refl}
 use mathlib.Core.Bool.{Bool, true}
 use mathlib.Core.List.{List}
 use Prim.Native.Nat.{ℕ, zero, suc, _/_, _<_}
@@ -7,38 +7,18 @@ use native.Mathlib.Omega.{arith}
 use lib.Dec.{T}
 use lib.ListN.{drop, getD}
 use borrow.Author.Tests.{ltb-true}
-use Rattle.booleans.specs.Tests.{_and_}
-use Rattle.booleans.specs.Laws.{and-assoc, and-true, both, is-T, join-and, T-is}
+use Rattle.booleans.specs.Laws.{both, is-T, join-and, T-is}
 use Rattle.table.specs.Nodes.{Most, Limit, Unlimited, AtMost}
 use Rattle.table.specs.Numbers.{recordLength}
-use Rattle.table.specs.Trees.{Forest, nil, _▸_, Tree, node}
+use Rattle.table.specs.Trees.{Forest, nil, _▸_, Tree, node, everyNode}
 use Rattle.table.specs.Limits.{limitHolds, everyLimit, everyLimitIn, mostHolds}
-use Rattle.table.specs.Table.{afterOnes, childByte, decode, each, eachBy, field, firstNode, firstOnes, forest, forestBy, limitFrom, mostFrom, recordCount, withoutFour}
+use Rattle.table.specs.Table.{firstNode, field, each, eachBy, decode, limitFrom, mostFrom, recordCount, withoutFour}
 use Rattle.table.specs.Questions.{limitInRange, listed, listedIn, mostInRange}
 use Rattle.table.specs.Checking.{IsTable}
-use Rattle.table.specs.Laws.RoundTrip.{whole-forest}
-use Rattle.table.specs.Laws.NotRefused.{tree-writes}
+use Rattle.table.specs.Laws.EveryNode.{table-nodes}
 
-module _ (p : ℕ → Most → Bool) where
-  split-limits : (n : ℕ) (f : Forest) → (everyLimitIn p (firstOnes n f) and everyLimitIn p (afterOnes n f)) ≡ everyLimitIn p f
-  unfolding firstOnes afterOnes everyLimit _and_
-  split-limits zero f = refl
-  split-limits (suc n) nil = refl
-  split-limits (suc n) (t ▸ f) = and-assoc (everyLimit p t) _ _ ∙ ap (λ x. everyLimit p t and x) (split-limits n f)
-
-  forest-limits : (n : ℕ) (b : List ℕ) → each (λ r. limitHolds p (firstNode r .limit)) n b ≡ everyLimitIn p (forest n b)
-  unfolding eachBy forestBy everyLimit
-  forest-limits zero b = refl
-  forest-limits (suc n) b =
-      let f = forest n (drop recordLength b) in
-      let holds = limitHolds p (firstNode b .limit) in
-      ap (λ x. holds and x) (forest-limits n (drop recordLength b) ∙ sym (split-limits (childByte b) f)) ∙ sym (and-assoc holds _ _)
-
-  pub table-limits : (b : List ℕ) → IsTable b → each (λ r. limitHolds p (firstNode r .limit)) (recordCount b) b ≡ everyLimit p (decode b)
-  unfolding everyLimit
-  table-limits b i =
-      let whole = ap (λ x. forest (recordCount x) x) (sym (i .back)) ∙ whole-forest (decode b) (tree-writes (decode b) (i .accepted .listed)) in
-      forest-limits (recordCount b) b ∙ ap (everyLimitIn p) whole ∙ and-true (everyLimit p (decode b))
+pub table-limits : (p : ℕ → Most → Bool) (b : List ℕ) → IsTable b → each (λ r. limitHolds p (firstNode r .limit)) (recordCount b) b ≡ everyLimit p (decode b)
+table-limits p = table-nodes (λ n. limitHolds p (n .limit))
 
 -- a test that follows from another
 module _ (p q : ℕ → Most → Bool) (implies : (k : ℕ) (m : Most) → T (p k m) → T (q k m)) where
@@ -48,7 +28,7 @@ module _ (p q : ℕ → Most → Bool) (implies : (k : ℕ) (m : Most) → T (p 
   limit-follows (AtMost k m) h = implies k m h
 
   mutual
-    unfolding everyLimit
+    unfolding everyNode
 
     pub limits-follow : (t : Tree) → T (everyLimit p t) → T (everyLimit q t)
     limits-follow (node n f) h = let (a, b) = both _ _ h in join-and _ _ (limit-follows (n .limit) a) (limitsIn-follow f b)
@@ -67,7 +47,7 @@ module _ (p : ℕ → Most → Bool) (holds : (k : ℕ) (m : Most) → T (mostIn
   limit-ranged (AtMost k m) h = holds k m (both _ _ h .1)
 
   mutual
-    unfolding listed everyLimit
+    unfolding listed everyNode
 
     pub ranged-limits : (t : Tree) → T (listed t) → T (everyLimit p t)
     ranged-limits (node n f) h =

@@ -16,7 +16,7 @@ use Rattle.table.specs.Bytes.{AreBytes}
 use Rattle.table.specs.Checking.{question5, question6, question7, question1, question2, question3, question4}
 use Rattle.table.specs.Numbers.{wholeRun, mostLoops, recordLength, mostWeight, mostDepth}
 use Rattle.table.specs.Questions.{mostInRange, limitInRange, share, named, weight, namedIn, weightIn, depth, loops, depthIn, loopsIn, nameOk, listed, listedIn}
-use Rattle.table.specs.Survey.{listedShare, unfit, withParent, surveyNode, surveyChildren, empty, withNext, surveyMore, Small, mostShare}
+use Rattle.table.specs.Survey.{listedShare, unfit, withParent, surveyNode, surveyChildren, empty, withNext, surveyMore, Small, nodeShare}
 use Rattle.table.specs.Table.{recordBytes, encode, encodes, decode, recordCount, firstNode, childByte}
 use Rattle.table.specs.Trees.{rest, around, Tree, records, Forest, recordsIn, node, size, nil, _▸_}
 use Rattle.table.specs.declared.Survey.{Survey}
@@ -70,7 +70,7 @@ share-is (AtMost k m) d h = go (leb 1 k) (leb k mostLoops) (eqb k wholeRun) (2 ^
 
 -- a node's record, and what follows it
 survey-record : (n : Node) (c : ℕ) (r : List ℕ) (h d : ℕ) → WritesNode n
-    → surveyNode (suc h) d (recordBytes n c ++ r) ≡ cond (leb d mostLoops) (withParent (n .limit) d (surveyChildren h (around (n .kind) d) d c r)) unfit
+    → surveyNode (suc h) d (recordBytes n c ++ r) ≡ cond (leb d mostLoops) (withParent n d (surveyChildren h (around (n .kind) d) d c r)) unfit
 unfolding surveyNode
 survey-record n c r h d w =
     let long : leb recordLength (length (recordBytes n c ++ r)) ≡ true = le-leb recordLength (length (recordBytes n c ++ r)) (rw (length-append, length-bytes) (omega arith)) in
@@ -92,14 +92,14 @@ fitting t h d = leb (depth t) h and leb (loops t d) mostLoops
 abbrev pub fittingIn : Kind → Forest → (h d : ℕ) → Bool
 fittingIn k f h d = leb (depthIn f) h and leb (loopsIn k f d) mostLoops
 
-parent-is : (n : Node) (f : Forest) (d : ℕ) → T (limitInRange (n .limit)) → withParent (n .limit) d (withNext empty (surveyIn (n .kind) f d)) ≡ surveyOf (node n f) d
+parent-is : (n : Node) (f : Forest) (d : ℕ) → T (limitInRange (n .limit)) → withParent n d (withNext empty (surveyIn (n .kind) f d)) ≡ surveyOf (node n f) d
 unfolding records named weight
 parent-is n f d h =
     let more : 0 + recordsIn f + 1 ≡ suc (recordsIn f) = omega arith in
     rw (more, zero-add, share-is (n .limit) d h, and-is (nameOk (n .limit) d) (namedIn (n .kind) f d)) refl
 
 -- a node fits where its children do and there are not too many loops around it
-parent-fits : (a b c : Bool) (l : Limit) (d : ℕ) (s u : Survey) → withParent l d s ≡ u → cond b (withParent l d (cond (a and c) s unfit)) unfit ≡ cond (a and (b and c)) u unfit
+parent-fits : (a b c : Bool) (l : Node) (d : ℕ) (s u : Survey) → withParent l d s ≡ u → cond b (withParent l d (cond (a and c) s unfit)) unfit ≡ cond (a and (b and c)) u unfit
 unfolding _and_
 parent-fits true true true l d s u e = e
 parent-fits true true false l d s u e = refl
@@ -114,7 +114,7 @@ unfolding encode depth loops surveyNode _and_
 node-surveyed n f z zero d w l e = rw leb·suc-zero refl
 node-surveyed n f z (suc h) d w l e =
     rw (append-assoc, survey-record n (size f) (encodes f ++ z) h d w, e h, leb·suc-suc, leb-max)
-    (parent-fits (leb (depthIn f) h) (leb d mostLoops) (leb (loopsIn (n .kind) f d) mostLoops) (n .limit) d _ _ (parent-is n f d l))
+    (parent-fits (leb (depthIn f) h) (leb d mostLoops) (leb (loopsIn (n .kind) f d) mostLoops) n d _ _ (parent-is n f d l))
 
 next-none : (k : Kind) (s : Survey) (h d : ℕ) → s .fits ≡ true → s ≡ cond (fittingIn k nil h d) (withNext s (surveyIn k nil d)) unfit
 unfolding records depth loops named weight _and_
@@ -200,7 +200,7 @@ node-looped zero d b l m = refl
 node-looped (suc h) d b l m = rw (le-leb recordLength (length b) l, lt-leb d mostLoops m) refl
 
 pub node-read : (h d : ℕ) (b : List ℕ) → (h ≡ 0 → ⊥) → recordLength ≤ length b → d ≤ mostLoops
-    → withParent (firstNode b .limit) d (surveyChildren (h - 1) (around (firstNode b .kind) d) d (childByte b) (drop recordLength b)) ≡ surveyNode h d b
+    → withParent (firstNode b) d (surveyChildren (h - 1) (around (firstNode b .kind) d) d (childByte b) (drop recordLength b)) ≡ surveyNode h d b
 unfolding surveyNode
 node-read zero d b f l m = absurd (f refl)
 node-read (suc h) d b f l m = rw (le-leb recordLength (length b) l, le-leb d mostLoops m, sub-one (suc h)) refl
@@ -225,5 +225,5 @@ module _ (f : ℕ → List ℕ → Survey) (first others : ℕ) (b : List ℕ) (
 pub small-next : (b : List ℕ) (s c : Survey) → Small b s → Small (drop (recordLength * s .records) b) c → Small b (withNext s c)
 small-next b s c p q = record { short = omega (arith, length-drop (recordLength * s .records) b, p .short, q .short); light = omega (arith, p .light, q .light) }
 
-pub small-parent : (b : List ℕ) (s r : Survey) → recordLength ≤ length b → Small (drop recordLength b) s → r .records ≤ s .records + 1 → r .weight ≤ mostShare * r .records → Small b r
+pub small-parent : (b : List ℕ) (s r : Survey) → recordLength ≤ length b → Small (drop recordLength b) s → r .records ≤ s .records + 1 → r .weight ≤ nodeShare * r .records → Small b r
 small-parent b s r l p m w = record { short = omega (arith, length-drop recordLength b, p .short); light = w }

@@ -1,4 +1,4 @@
--- The invariant: there are 32 values, and those before i are in range. The measure: the values left.
+-- The invariant: there are 40 values, and those before i are in range. The measure: the values left.
 use mathlib.Core.Path.{_≡_}
 use Prim.Native.Nat.{_-_, _≤_}
 use native.Mathlib.Numerals.{add-one}

@@ -1,28 +1,31 @@
--- The questions about values: question 13 by the table's tree, and question 9 as a program puts it, value by value, with what it says of each.
+-- The questions about values: question 13 by the table's tree, and questions 9 and 14 as a program puts them, value by value, with what they say of each.
 use mathlib.Core.Path.{_≡_, refl, sym, subst, _∙_}
 use mathlib.Core.Bool.{Bool, true, false}
 use mathlib.Core.List.{List, [], _∷_}
-use Prim.Native.Nat.{ℕ, zero, suc, _+_, _<_, _≤_}
+use Prim.Native.Nat.{ℕ, zero, suc, _+_, _-_, _<_, _≤_}
 use native.Mathlib.Nat.{add-zero}
 use native.Mathlib.Omega.{arith}
-use lib.Dec.{T, leb→le, eqb→eq}
+use lib.Dec.{T, eqb, leb→le, ltb→lt, eqb→eq}
 use lib.ListN.{length, getD, drop}
 use lib.Seq.{drop-cons, drop-length}
-use borrow.Author.Tests.{eq-eqb, ne-eqb, le-leb, lt-leb, lt-ltb}
+use borrow.Author.Tests.{eq-eqb, eqb-false, ne-eqb, le-leb, lt-leb, lt-ltb}
 use Rattle.booleans.specs.Tests.{_and_}
-use Rattle.booleans.specs.Laws.{both}
-use Rattle.table.specs.Numbers.{howManyValues, firstTimeSymbol, mostCount}
+use Rattle.booleans.specs.Laws.{both, by-cond}
+use Rattle.table.specs.Numbers.{howManyValues, howManySymbols, firstPairedSymbol, firstTimeSymbol, laterPlace, mostCount}
+use Rattle.table.specs.Questions.{paired, pairedSymbol}
+use Rattle.table.specs.declared.Number.the-variants.{Symbol}
 use Rattle.table.specs.Checking.{IsTable}
 use Rattle.table.specs.Limits.{everyMost}
 use Rattle.table.specs.Table.{decode, recordCount, withoutFour}
 use Rattle.table.specs.declared.Most.{Most}
 use Rattle.table.specs.Laws.Limits.{each-follows, no-flag, table-limits}
 use Rattle.triangular.specs.Triangular.{mostTriangular, rule}
-use Rattle.evaluate.specs.Evaluate.{Values, allowed, valuesOf}
+use Rattle.evaluate.specs.Evaluate.{Values, allowed, later, valuesOf}
 use Rattle.evaluate.specs.Laws.Amounts.{allowed-rule}
+use Rattle.evaluate.specs.Laws.Times.{later-is}
 use Rattle.table.specs.Laws.Asking.{Yes, all-yes, numbered, yes-all}
 use Rattle.values.specs.Flags.{flagFree}
-use Rattle.values.specs.Values.{ceiling, question13, question9, ranged, recordSmall, triangleSmall, valueQuestions, valuesRefusal}
+use Rattle.values.specs.Values.{ceiling, laterLow, question13, question14, question9, ranged, recordSmall, triangleSmall, valueQuestions, valuesRefusal}
 
 pub values-nine : (b vs : List ℕ) → valuesRefusal b vs ≡ 0 → T (question9 vs)
 unfolding valuesRefusal valueQuestions numbered Yes
@@ -36,6 +39,10 @@ pub values-thirteen : (b vs : List ℕ) → valuesRefusal b vs ≡ 0 → T (ques
 unfolding valuesRefusal valueQuestions numbered Yes
 values-thirteen b vs e = all-yes (valueQuestions b vs) tt e .1 .0
 
+pub values-fourteen : (b vs : List ℕ) → valuesRefusal b vs ≡ 0 → T (question14 vs)
+unfolding valuesRefusal valueQuestions numbered Yes
+values-fourteen b vs e = all-yes (valueQuestions b vs) tt e .1 .1 .0
+
 -- question 13, of the table's tree
 pub thirteen-limits : (b vs : List ℕ) → IsTable b → question13 b vs ≡ everyMost (triangleSmall (valuesOf vs)) (decode b)
 unfolding question13 recordSmall
@@ -47,7 +54,7 @@ pub values-carry : (b c vs : List ℕ) → IsTable b → IsTable c → ((q : Mos
 unfolding valuesRefusal valueQuestions Yes
 values-carry b c vs i j limits e =
     let small : T (question13 c vs) = subst T (sym (thirteen-limits c vs j)) (limits _ (subst T (thirteen-limits b vs i) (values-thirteen b vs e))) in
-    yes-all (valueQuestions c vs) (values-nine b vs e, (small, tt))
+    yes-all (valueQuestions c vs) (values-nine b vs e, (small, (values-fourteen b vs e, tt)))
 
 -- where 13 lets a symbol pass under flag 4, the limit is the rule's number itself, and not that of a smaller value
 pub small-rule : (v : Values) (s : ℕ) → T (triangleSmall v (Most.Triangular s)) → allowed v (Most.Triangular s) ≡ rule (v s)
@@ -63,6 +70,45 @@ small-unflagged v b e = no-flag (triangleSmall v) (λ n. refl) (λ s. refl) b e
 pub free-small : (b vs : List ℕ) → flagFree b ≡ true → question13 b vs ≡ true
 unfolding flagFree question13
 free-small b vs e = each-follows _ _ (small-unflagged (valuesOf vs)) (recordCount b) b e
+
+-- ---- question 14, symbol by symbol
+
+-- the paired symbols before s are in order, and the others are asked yet
+abbrev pub Ordered : (v : Values) (s : ℕ) → Type 0
+Ordered v s = laterLow (howManySymbols - firstPairedSymbol) firstPairedSymbol v ≡ laterLow (howManySymbols - s) s v
+
+left-one : (s : ℕ) → s < howManySymbols → howManySymbols - s ≡ suc (howManySymbols - suc s)
+left-one s l = omega arith
+
+pub one-ordered : (v : Values) (s : ℕ) → s < howManySymbols → Ordered v s → v (s + laterPlace) ≤ v s → Ordered v (suc s)
+unfolding laterLow _and_
+one-ordered v s l h r = h ∙ rw (left-one s l, le-leb (v (s + laterPlace)) (v s) r) refl
+
+pub one-exceeds : (vs : List ℕ) (s : ℕ) → s < howManySymbols → Ordered (valuesOf vs) s → valuesOf vs s < valuesOf vs (s + laterPlace) → false ≡ question14 vs
+unfolding question14 laterLow _and_
+one-exceeds vs s l h r = sym (h ∙ rw (left-one s l, lt-leb (valuesOf vs (s + laterPlace)) (valuesOf vs s) r) refl)
+
+pub all-ordered : (vs : List ℕ) (s : ℕ) → s ≡ howManySymbols → Ordered (valuesOf vs) s → true ≡ question14 vs
+unfolding question14 laterLow
+all-ordered vs s q h = sym (h ∙ rw q refl)
+
+later-low : (v : Values) (n s k : ℕ) → T (laterLow n s v) → s ≤ k → k < s + n → v (k + laterPlace) ≤ v k
+unfolding laterLow
+later-low v zero s k h l m = absurd (omega arith)
+later-low v (suc n) s k h l m =
+    let (a, b) = both _ _ h in
+    by-cond (λ (x : ℕ). v (k + laterPlace) ≤ v k) (eqb s k) 0 0
+    (λ e. subst (λ x. v (x + laterPlace) ≤ v x) (eqb→eq s k e) (leb→le _ _ a))
+    (λ e. later-low v n (suc s) k b (omega (arith, eqb-false s k e)) (omega arith))
+
+pub pair-low : (vs : List ℕ) → T (question14 vs) → (k : ℕ) → firstPairedSymbol ≤ k → k < howManySymbols → valuesOf vs (k + laterPlace) ≤ valuesOf vs k
+unfolding question14
+pair-low vs h k l m = later-low (valuesOf vs) _ firstPairedSymbol k h l (omega arith)
+
+-- so a paired symbol's later value is the desk's own
+pub later-own : (vs : List ℕ) → T (question14 vs) → (k : ℕ) → T (pairedSymbol k) → later (valuesOf vs) (Symbol k) ≡ valuesOf vs (k + laterPlace)
+unfolding paired
+later-own vs h k p = let (a, b) = both _ _ p in later-is (valuesOf vs) k p (pair-low vs h k (leb→le firstPairedSymbol k a) (ltb→lt k howManySymbols b))
 
 -- ---- question 9, value by value
 
@@ -97,13 +143,16 @@ ranged-at i j [] h l = absurd (omega arith)
 ranged-at i zero (x ∷ xs) h l = rw add-zero (leb→le x (ceiling i) (both _ _ h .0))
 ranged-at i (suc j) (x ∷ xs) h l = let e : i + suc j ≡ suc i + j = omega arith in rw e (ranged-at (suc i) j xs (both _ _ h .1) (omega arith))
 
-pub counts-ranged : (vs : List ℕ) → T (question9 vs) → (k : ℕ) → k < firstTimeSymbol → valuesOf vs k ≤ mostCount
+pub in-range : (vs : List ℕ) → T (question9 vs) → (k : ℕ) → k < howManyValues → valuesOf vs k ≤ ceiling k
 unfolding question9
-counts-ranged vs h k l =
+in-range vs h k l =
     let (a, b) = both _ _ h in
     let n = eqb→eq (length vs) howManyValues a in
     let e : 0 + k ≡ k = omega arith in
-    omega (arith, rw e at (ranged-at 0 k vs b (omega arith)), low-ceiling k l)
+    rw e at (ranged-at 0 k vs b (omega arith))
+
+pub counts-ranged : (vs : List ℕ) → T (question9 vs) → (k : ℕ) → k < firstTimeSymbol → valuesOf vs k ≤ mostCount
+counts-ranged vs h k l = omega (arith, in-range vs h k (omega arith), low-ceiling k l)
   where
     low-ceiling : (k : ℕ) → k < firstTimeSymbol → ceiling k ≡ mostCount
     low-ceiling k l = unfold ceiling in rw (lt-ltb k firstTimeSymbol l) refl

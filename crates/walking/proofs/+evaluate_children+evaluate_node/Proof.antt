@@ -10,16 +10,17 @@ use Rattle.table.specs.Numbers.{recordLength}
 use Rattle.table.specs.Laws.Reading.{part-from}
 use Rattle.evaluate.specs.Evaluate.{valuesOf}
 use Rattle.evaluate.specs.Shown.{Roomy, evaluateChildren}
-use Rattle.evaluate.specs.Laws.Shown.{ready-shown, unfit-shown}
+use Rattle.evaluate.specs.Laws.Sane.{below-block}
+use Rattle.evaluate.specs.Laws.Shown.{limitable-shown, unfit-shown}
 use Rattle.walking.proofs.Steps.{node-deep, node-short}
-use Rattle.walking.proofs.Walk.{Walked, all-done, block-sane, block-shown, child-ready, children-ready, children-shown, next-ends, next-fits, none-yet}
+use Rattle.walking.proofs.Walk.{Walked, all-done, block-shown, child-ready, children-limitable, children-shown, next-ends, next-fits, none-yet}
 use Rattle.walking.proofs.evaluate_children.Reads as children
 use Rattle.walking.proofs.evaluate_children.Kinds as children-kinds
 use Rattle.walking.proofs.+evaluate_children+evaluate_node.Lts-evaluate_children as children-lts
 use Rattle.walking.proofs.evaluate_node.Reads as node
 use Rattle.walking.proofs.evaluate_node.Kinds as node-kinds
 use Rattle.walking.proofs.+evaluate_children+evaluate_node.Lts-evaluate_node as node-lts
-use Rattle.evaluate.proofs.amount_of.Reads as amount-of-reads
+use Rattle.evaluate.proofs.block_in.Reads as block-in-reads
 use Rattle.evaluate.proofs.limit_in.Reads as limit-in-reads
 use Rattle.evaluate.proofs.repeat_in.Reads as repeat-in-reads
 use Rattle.evaluate.proofs.rest_of.Reads as rest-of-reads
@@ -69,10 +70,8 @@ abbrev node-calls : ℕ → node-lts.Claims
 node-calls t = (
   read-kind-reads.Asked,
   read-kind-reads.Learnt,
-  amount-of-reads.Asked,
-  amount-of-reads.Learnt,
-  repeat-in-reads.Asked,
-  repeat-in-reads.Learnt,
+  block-in-reads.Asked,
+  block-in-reads.Learnt,
   read-limit-reads.Asked,
   read-limit-reads.Learnt,
   limit-in-reads.Asked,
@@ -181,33 +180,29 @@ module _ (t : ℕ) where
   node-enum-known-kind : node-lts.Need-enum-known-kind (node-calls t) (node-at t) node.Post
   node-enum-known-kind c = search needs
 
-  node-amount-of-requires : node-lts.Need-amount-of-requires (node-calls t) (node-at t) node.Post
-  node-amount-of-requires c κs = search needs
-
-  node-repeat-in-requires : node-lts.Need-repeat-in-requires (node-calls t) (node-at t) node.Post
-  node-repeat-in-requires c κs = search needs
+  node-block-in-requires : node-lts.Need-block-in-requires (node-calls t) (node-at t) node.Post
+  node-block-in-requires c κs = search needs
 
   node-read-limit-requires : node-lts.Need-read-limit-requires (node-calls t) (node-at t) node.Post
   node-read-limit-requires c κs = search needs
 
   node-limit-in-requires : node-lts.Need-limit-in-requires (node-calls t) (node-at t) node.Post
   node-limit-in-requires c κs =
-      let repeat = c .before .before in
-      let start = repeat .before .before .before .before .before .before .before .before .before .before .before in
-      let shows = repeat .repeat-in .ensures in
-      (ready-shown (start .pre .1 .0) (block-sane (start .args .table .now) _) shows, shows .room)
+      let block = c .before .before in
+      let start = block .before .before .before .before .before .before .before .before .before .before in
+      let shows = block .block-in .ensures in
+      (limitable-shown (start .pre .1 .0) (below-block (valuesOf (start .args .values .now)) _ (start .args .table .now)) shows, shows .room)
 
   node-returns-3 : node-lts.Need-returns-3 (node-calls t) (node-at t) node.Post
   node-returns-3 c =
       let limit = c .before .before in
-      let repeat = limit .before in
-      let amount = repeat .before .before in
-      let kind = amount .before .before in
+      let block = limit .before in
+      let kind = block .before .before .before in
       let read = kind .before .before in
       let start = read .before .before .before .before .before in
       let a = start .args in (
         block-shown (valuesOf (a .values .now)) (a .depth) (a .table .now) (read .read-kind .ensures) (limit .read-limit .ensures) (read .before .before .if1 .left) (read .before .if2 .left)
-            (c .limit-in .ensures) _ (kind .kind .given .0 .0) (kind .kind .given .1) (amount .amount-of .ensures) (repeat .repeat-in .ensures),
+            (c .limit-in .ensures) (kind .kind .given .0 .0) (kind .kind .given .1) (block .block-in .ensures),
         start .pre .1 .1 .1,
       )
 
@@ -239,7 +234,7 @@ module _ (t : ℕ) where
       let start = read .before .before .before .before .before in
       let a = start .args in
       let shows = rw (part-from (a .table .now) recordLength) at (below .evaluate-children .ensures .0) in
-      (children-ready (valuesOf (a .values .now)) _ _ _ recordLength (a .table .now) (start .pre .1 .0) shows, shows .room)
+      (children-limitable (valuesOf (a .values .now)) _ _ _ recordLength (a .table .now) (start .pre .1 .0) shows, shows .room)
 
   node-returns-4 : node-lts.Need-returns-4 (node-calls t) (node-at t) node.Post
   node-returns-4 c =
@@ -279,8 +274,7 @@ pub +evaluate-children+evaluate-node-spec : {M : Type 1} → statement M
     (node-returns-2 t)
     (node-read-kind-requires t)
     (node-enum-known-kind t)
-    (node-amount-of-requires t)
-    (node-repeat-in-requires t)
+    (node-block-in-requires t)
     (node-read-limit-requires t)
     (node-limit-in-requires t)
     (node-returns-3 t)
