@@ -26,8 +26,8 @@ impl Case {
 }
 
 /// Symbol 16, the X of cases J and K, stands for 100; no other is used.
-pub const VALUES: [u64; 32] = {
-    let mut values = [0; 32];
+pub const VALUES: [u64; 40] = {
+    let mut values = [0; 40];
     values[16] = 100;
     values
 };

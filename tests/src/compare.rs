@@ -1,7 +1,7 @@
 //! One table, both readers: their answers must agree, and the library must leave the table alone.
 //! Whatever is lent to a call, to be read or written, stands between bytes that it may not change.
 
-use crate::format::{LIMIT_IS_TRIANGULAR, RECORD_BYTES};
+use crate::format::{BLOCK, LIMIT_IS_TRIANGULAR, PAIRED_SYMBOLS, RECORD_BYTES, VALUE_IS_SYMBOL};
 use crate::reader;
 use crate::rng::Rng;
 use std::fmt::Debug;
@@ -71,6 +71,8 @@ pub struct Comparison {
     refused: [u64; 8],
     /// The accepted tables with flag 4.
     triangular: u64,
+    /// The accepted tables with a paired symbol, and those that question 7 refuses.
+    paired: [u64; 2],
 }
 
 impl Comparison {
@@ -80,6 +82,7 @@ impl Comparison {
             rng: Rng::new(!seed),
             refused: [0; 8],
             triangular: 0,
+            paired: [0; 2],
         }
     }
 
@@ -96,6 +99,8 @@ impl Comparison {
         );
         self.refused[answer.refused as usize] += 1;
         self.triangular += u64::from(answer.refused == 0 && has_flag_4(table));
+        self.paired[0] += u64::from(answer.refused == 0 && has_pair(table));
+        self.paired[1] += u64::from(answer.refused == 7 && has_pair(table));
         answer
     }
 
@@ -124,12 +129,27 @@ impl Comparison {
     pub fn assert_triangular(&self, times: u64) {
         assert!(self.triangular >= times, "{}", self.triangular);
     }
+
+    /// Asserts that so many tables with a paired symbol were accepted, and so many refused 7.
+    pub fn assert_paired(&self, accepted: u64, refused: u64) {
+        let reached = self.paired[0] >= accepted && self.paired[1] >= refused;
+        assert!(reached, "{:?}", self.paired);
+    }
 }
 
 /// Whether a record of the table has flag 4.
 pub fn has_flag_4(table: &[u8]) -> bool {
     let mut records = table.chunks_exact(RECORD_BYTES);
     records.any(|record| record[1] & LIMIT_IS_TRIANGULAR != 0)
+}
+
+/// Whether a record of the table is a block whose time is a paired symbol.
+pub fn has_pair(table: &[u8]) -> bool {
+    let mut records = table.chunks_exact(RECORD_BYTES);
+    records.any(|record| {
+        let is_symbol = record[0] == BLOCK && record[1] & VALUE_IS_SYMBOL != 0;
+        is_symbol && PAIRED_SYMBOLS.contains(&u64::from(record[8]))
+    })
 }
 
 /// The table, a record to a line.

@@ -66,13 +66,17 @@ pub const LIMITS: [u32; 13] = [
 ];
 
 /// The ends of the value's ranges, and numbers whose low bytes alone would be in range.
-pub const VALUES: [u64; 21] = [
+pub const VALUES: [u64; 25] = [
     0,
     1,
     15,
     16,
+    23,
+    24,
     31,
     32,
+    39,
+    40,
     256,
     256 + 16,
     999_999,

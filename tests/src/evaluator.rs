@@ -1,7 +1,7 @@
-//! The second evaluator: document 01's evaluation and questions 8 to 10, and question 13 and the branch
-//! of document 02, written apart from the library and in its own way. A named loop is its level, and a
-//! sequence or choice joins the lists of all its children at once. It is plain Rust, fast enough to be
-//! measured against the library.
+//! The second evaluator: document 01's evaluation and questions 8 to 10, and questions 13 and 14, the
+//! branch and the paired symbols of document 02, written apart from the library and in its own way. A
+//! named loop is its level, and a sequence or choice joins the lists of all its children at once. It is
+//! plain Rust, fast enough to be measured against the library.
 
 use crate::format::*;
 use crate::reader;
@@ -19,14 +19,14 @@ pub struct Quoted {
     pub branch: u64,
 }
 
-/// The figure call: questions 1 to 7, 9, 13 and 10, then the figure and its branch.
+/// The figure call: questions 1 to 7, 9, 13, 14 and 10, then the figure and its branch.
 pub fn figure(table: &[u8], values: &[u64]) -> Result<Quoted, u64> {
     let tree = reader::check(table)?;
     let root = evaluate(&tree, values)?;
     Ok(root.quoted())
 }
 
-/// The list call on a buffer of so many numbers: questions 1 to 9, 13 and 10, then the pairs.
+/// The list call on a buffer of so many numbers: questions 1 to 9, 13, 14 and 10, then the pairs.
 pub fn list(table: &[u8], values: &[u64], room: usize) -> Result<Vec<Pair>, u64> {
     let tree = reader::check(table)?;
     if room < LIST_ROOM {
@@ -36,25 +36,50 @@ pub fn list(table: &[u8], values: &[u64], room: usize) -> Result<Vec<Pair>, u64>
     Ok(root.list.into_pairs())
 }
 
-/// Questions 9, 13 and 10, then the root's list.
+/// Questions 9, 13, 14 and 10, then the root's list.
 pub fn evaluate(tree: &Tree, values: &[u64]) -> Result<Evaluated, u64> {
-    if !are_values(values) {
+    if !are_values(values, VALUES) {
         return Err(9);
     }
     if !fits_flag_4(tree, values) {
         return Err(13);
     }
+    if !are_laters_low(values) {
+        return Err(14);
+    }
     evaluate_at(tree, 0, values)
 }
 
-/// Question 9: are there exactly 32 values, numbers 0 to 15 at most 1,000,000 and 16 to 31 at most
-/// 1,000,000,000,000?
-fn are_values(values: &[u64]) -> bool {
-    values.len() == VALUES && (0..).zip(values).all(|(at, &value)| value <= ceiling(at))
+/// The same of a former tree with 32 values, from before CR 7 of document 02: every symbol stood for one
+/// number, the same at each pass, as a plain block's time is.
+pub fn evaluate_former(tree: &Tree, values: &[u64]) -> Result<Evaluated, u64> {
+    if !are_values(values, FORMER_VALUES) {
+        return Err(9);
+    }
+    if !fits_flag_4(tree, values) {
+        return Err(13);
+    }
+    evaluate_at(&with_plain_pairs(tree, values), 0, values)
 }
 
-fn ceiling(symbol: u64) -> u64 {
-    if COUNT_SYMBOLS.contains(&symbol) {
+fn with_plain_pairs(tree: &Tree, values: &[u64]) -> Tree {
+    let mut tree = tree.clone();
+    tree.visit_mut(&mut |node| {
+        if let Some(symbol) = node.paired_symbol() {
+            node.kind = Kind::Block(Amount::Plain(values[symbol as usize]));
+        }
+    });
+    tree
+}
+
+/// Question 9: are there exactly so many values, numbers 0 to 15 at most 1,000,000 and those from 16 on
+/// at most 1,000,000,000,000?
+fn are_values(values: &[u64], count: usize) -> bool {
+    values.len() == count && (0..).zip(values).all(|(at, &value)| value <= ceiling(at))
+}
+
+fn ceiling(value: u64) -> u64 {
+    if COUNT_SYMBOLS.contains(&value) {
         MOST_COUNT
     } else {
         MOST_TIME
@@ -69,6 +94,12 @@ fn fits_flag_4(tree: &Tree, values: &[u64]) -> bool {
     };
     let mut children = tree.children.iter();
     fits && children.all(|child| fits_flag_4(child, values))
+}
+
+/// Question 14: is each later value, used or not, at most its first?
+fn are_laters_low(values: &[u64]) -> bool {
+    let mut firsts = PAIRED_SYMBOLS.map(|symbol| symbol as usize);
+    firsts.all(|first| values[first + LATER] <= values[first])
 }
 
 /// A node's value.
@@ -94,10 +125,10 @@ impl Evaluated {
 }
 
 /// The value of a node that has so many loops around it, or 10, question 10's refusal. The values
-/// have passed questions 9 and 13.
+/// have passed questions 9, 13 and 14.
 pub fn evaluate_at(tree: &Tree, around: usize, values: &[u64]) -> Result<Evaluated, u64> {
     let before_limit = match tree.kind {
-        Kind::Block(time) => branchless(List::constant(number(time, values)), 0),
+        Kind::Block(time) => branchless(passed_for_ever(tree, number(time, values), values), 0),
         Kind::Sequence => join(&children(tree, around, values)?, added),
         Kind::Choice => {
             let children = children(tree, around, values)?;
@@ -120,6 +151,15 @@ pub fn evaluate_at(tree: &Tree, around: usize, values: &[u64]) -> Result<Evaluat
         None => before_limit,
         Some(limit) => limited(before_limit, limit, around, values),
     })
+}
+
+/// A block's list: its time for ever, or of a paired symbol the first value and then the later one for
+/// ever.
+fn passed_for_ever(block: &Tree, time: u64, values: &[u64]) -> List {
+    match block.paired_symbol() {
+        None => List::constant(time),
+        Some(symbol) => List::once_then(time, values[symbol as usize + LATER]),
+    }
 }
 
 fn children(tree: &Tree, around: usize, values: &[u64]) -> Result<Vec<Evaluated>, u64> {
@@ -212,6 +252,18 @@ impl List {
         List {
             runs: Vec::new(),
             rest: value,
+        }
+    }
+
+    /// One member, and those after it, which are no larger.
+    fn once_then(first: u64, rest: u64) -> Self {
+        let once = Run {
+            value: first,
+            count: 1,
+        };
+        List {
+            runs: if first > rest { vec![once] } else { Vec::new() },
+            rest,
         }
     }
 

@@ -12,7 +12,7 @@ pub fn tree(rng: &mut Rng, faults: &[u64]) -> Tree {
         let size = rng.size(1..=10);
         let mut child = trees::grow(rng, size, 10, 4);
         let wanted = rng.within(0..=60);
-        trees::put_limits(rng, &mut child, wanted);
+        trees::put_weights(rng, &mut child, wanted);
         children.push(child);
     }
     if faults.contains(&5) {
@@ -20,7 +20,7 @@ pub fn tree(rng: &mut Rng, faults: &[u64]) -> Tree {
         children.push(trees::spine(rng, depth, loops));
     }
     if faults.contains(&7) {
-        children.push(heavy_tree(8));
+        children.push(rng.pick(&[heavy_tree, heavy_pair])(8));
     }
     rng.shuffle(&mut children);
     Tree::new(Kind::Sequence, children)
@@ -31,10 +31,17 @@ pub fn heavy_tree(loops: usize) -> Tree {
     let amount = Amount::Plain(1);
     let mut tree = Tree::block(7);
     tree.limit = Some(Limit { names: 255, amount });
-    for _ in 0..loops {
-        tree = Tree::new(Kind::Loop(amount), vec![tree, Tree::block(5)]);
-    }
-    tree
+    in_loops(loops, tree)
+}
+
+/// A block of a paired symbol under so many loops, which weighs as much.
+pub fn heavy_pair(loops: usize) -> Tree {
+    in_loops(loops, Tree::symbol_block(24))
+}
+
+fn in_loops(loops: usize, tree: Tree) -> Tree {
+    let once = Kind::Loop(Amount::Plain(1));
+    (0..loops).fold(tree, |body, _| Tree::new(once, vec![body, Tree::block(5)]))
 }
 
 /// The tree's table made to fail the others of these questions. Some block is left for each.

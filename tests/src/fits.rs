@@ -121,11 +121,17 @@ impl<'t> Nodes<'t> {
             >= least
     }
 
-    /// Whether each limit in the subtree names a loop in it, or else `aside`.
+    /// A block whose time is one of symbols 24 to 31.
+    fn is_paired(&self, record: usize) -> bool {
+        self.byte(record, 0) == BLOCK && self.byte(record, 1) & 1 != 0 && self.byte(record, 8) >= 24
+    }
+
+    /// Whether each limit in the subtree names a loop in it, or else `aside`, and no paired symbol is in it.
     fn is_closed_but_for(&self, record: usize, aside: usize) -> bool {
         let inside = self.subtree(record);
         let mut limits = inside.clone().filter_map(|node| self.places[node].limit);
         limits.all(|names| names.is_some_and(|named| named == aside || inside.contains(&named)))
+            && !inside.clone().any(|node| self.is_paired(node))
     }
 
     fn is_closed(&self, record: usize) -> bool {

@@ -31,6 +31,12 @@ pub const MOST_COUNT: u64 = 1_000_000;
 pub const MOST_TIME: u64 = 1_000_000_000_000;
 pub const COUNT_SYMBOLS: RangeInclusive<u64> = 0..=15;
 pub const TIME_SYMBOLS: RangeInclusive<u64> = 16..=31;
+/// The time symbols that have one value.
+pub const SINGLE_SYMBOLS: RangeInclusive<u64> = 16..=23;
+/// The time symbols that have two, the first at the symbol's own number and the later one behind it.
+pub const PAIRED_SYMBOLS: RangeInclusive<u64> = 24..=31;
+/// How far behind the first value the later one stands.
+pub const LATER: usize = 8;
 
 /// The ceiling of a value whose triangular number is a limit.
 pub const MOST_TRIANGULAR: u64 = 1_000;
@@ -42,7 +48,9 @@ pub const MOST_WEIGHT: u64 = 255;
 /// The branch of a figure whose root is no choice: no child has this number.
 pub const NO_BRANCH: u64 = 255;
 
-/// How many values a quoting call wants.
-pub const VALUES: usize = 32;
+/// How many values a quoting call wants: one for each symbol, then the later ones.
+pub const VALUES: usize = 40;
+/// How many it wanted before there were later ones.
+pub const FORMER_VALUES: usize = 32;
 /// The numbers of 64 bits that a list's buffer must have room for.
 pub const LIST_ROOM: usize = 512;

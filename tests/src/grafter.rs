@@ -1,6 +1,7 @@
-//! The second grafter: CR 1 of document 02 with CR 6's addresses, written apart from the library and in
-//! its own way. The loop around the sent table is made once, and a copy of it stands in for every block
-//! of the symbol. It is plain Rust, fast enough to be measured against the library.
+//! The second grafter: CR 1 of document 02 with CR 6's addresses and CR 7's paired symbols, written
+//! apart from the library and in its own way. The loop around the sent table is made once, and a copy of
+//! it stands in for every block of the symbol. It is plain Rust, fast enough to be measured against the
+//! library.
 
 use crate::format::*;
 use crate::reader;
@@ -11,7 +12,7 @@ use crate::trees::{Amount, Kind, Tree};
 pub fn graft(host: &[u8], sent: &[u8], symbol: u64, out_len: usize) -> Result<Vec<u8>, u64> {
     let mut tree = reader::check(host)?;
     let sent = reader::check(sent)?;
-    if !TIME_SYMBOLS.contains(&symbol) || sent.places(symbol) > 0 {
+    if !SINGLE_SYMBOLS.contains(&symbol) || sent.places(symbol) > 0 || sent.pairs() > 0 {
         return Err(11);
     }
     let graft = in_new_loop(sent);

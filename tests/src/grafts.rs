@@ -2,7 +2,7 @@
 //! writes must be the second grafter's, it may change nothing but the front of its buffer, and what it
 //! writes must be a table that checking accepts.
 
-use crate::compare::{lend, lend_out, shown};
+use crate::compare::{has_pair, lend, lend_out, shown};
 use crate::format::RECORD_BYTES;
 use crate::grafter;
 use crate::rng::Rng;
@@ -59,6 +59,9 @@ pub struct Grafts {
     refused: [u64; 13],
     /// How many tables were written with the sent one in no place, in one, and in more.
     places: [u64; 3],
+    /// The tables written with the sent one in some place of a host with a paired symbol, and the refusals
+    /// 11 of a sent table with one.
+    paired: [u64; 2],
 }
 
 impl Grafts {
@@ -68,6 +71,7 @@ impl Grafts {
             rng: Rng::new(!seed),
             refused: [0; 13],
             places: [0; 3],
+            paired: [0; 2],
         }
     }
 
@@ -97,8 +101,12 @@ impl Grafts {
                 let places = (written.len() - host.len()) / (sent.len() + RECORD_BYTES);
                 self.refused[0] += 1;
                 self.places[places.min(2)] += 1;
+                self.paired[0] += u64::from(places > 0 && has_pair(host));
             }
-            Err(question) => self.refused[*question as usize] += 1,
+            Err(question) => {
+                self.refused[*question as usize] += 1;
+                self.paired[1] += u64::from(*question == 11 && has_pair(sent));
+            }
         }
         answer
     }
@@ -121,6 +129,13 @@ impl Grafts {
     pub fn assert_places(&self, times: u64) {
         let mut places = self.places.iter();
         assert!(places.all(|&written| written >= times), "{self:?}");
+    }
+
+    /// Asserts that so many tables were written into hosts with paired symbols, and as many sent tables with
+    /// one refused.
+    pub fn assert_paired(&self, times: u64) {
+        let mut paired = self.paired.iter();
+        assert!(paired.all(|&reached| reached >= times), "{self:?}");
     }
 }
 

@@ -4,7 +4,7 @@
 //! - `format`: the numbers of the table's format, each behind one name.
 //! - `trees`: a plain tree, its encoder and its random generators.
 //! - `reader`: the second reader, questions 1 to 7, of former tables too.
-//! - `evaluator`: the second evaluator, questions 8 to 10 and 13, and the branch.
+//! - `evaluator`: the second evaluator, questions 8 to 10, 13 and 14, and the branch, of former tables too.
 //! - `simplifier`: the second simplifier.
 //! - `grafter`: the second grafter, questions 11 and 12.
 //! - `converter`: the second converter of former tables.

@@ -20,7 +20,7 @@ pub struct Front {
 pub fn front(tree: &Tree, members: usize, values: &[u64]) -> Result<Front, u64> {
     let before_limit = match tree.kind {
         Kind::Block(time) => Front {
-            members: vec![number(time, values); members],
+            members: block(time, members, values),
             names: WHOLE_RUN,
             branch: None,
         },
@@ -37,6 +37,15 @@ pub fn front(tree: &Tree, members: usize, values: &[u64]) -> Result<Front, u64> 
         return Err(10);
     }
     Ok(limited(before_limit, tree, values))
+}
+
+/// Every member is the time, but that a paired symbol's are its later value after the first.
+fn block(time: Amount, members: usize, values: &[u64]) -> Vec<u64> {
+    let mut times = vec![number(time, values); members];
+    if let Amount::Symbol(symbol @ 24..=31) = time {
+        times[1..].fill(values[symbol as usize + 8]);
+    }
+    times
 }
 
 fn fronts(trees: &[Tree], members: usize, values: &[u64]) -> Result<Vec<Front>, u64> {

@@ -108,7 +108,7 @@ fn good_record(rng: &mut Rng, mix: &Mix) -> [u8; RECORD_BYTES] {
         rng.pick(&[SEQUENCE, CHOICE, LOOP, LOOP])
     };
     let (children, value) = match kind {
-        BLOCK => (0, rng.pick(&[0, 16, 31])),
+        BLOCK => (0, rng.pick(&[0, 16, 23, 24])),
         LOOP => (LOOP_CHILDREN as u8, rng.pick(&[0, 15])),
         _ => (rng.pick(&[1, 1, 2, 3]), 0),
     };

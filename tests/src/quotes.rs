@@ -1,7 +1,7 @@
 //! One table with values, both evaluators: the answers of the figure and list calls must be the
 //! second evaluator's, and neither call may change anything but the front of the list's buffer.
 
-use crate::compare::{has_flag_4, lend, shown};
+use crate::compare::{has_flag_4, has_pair, lend, shown};
 use crate::evaluator::{self, Pair, Quoted};
 use crate::format::LIST_ROOM;
 use crate::rng::Rng;
@@ -107,7 +107,7 @@ impl Quote {
 }
 
 /// How often each answer, 0 or a refusal's number, occurred.
-type Answers = [u64; 14];
+type Answers = [u64; 15];
 
 /// Compares quotes and counts the answers, so that a test can assert what it has reached.
 pub struct Quotes {
@@ -116,6 +116,8 @@ pub struct Quotes {
     lists: Answers,
     /// The figures and refusals of tables with flag 4.
     triangular: Answers,
+    /// Those of tables with a paired symbol.
+    paired: Answers,
     /// How many figures had that branch.
     branches: [u64; 256],
     /// How many lists had so many pairs; those refused had none.
@@ -127,9 +129,10 @@ impl Quotes {
     pub fn new(seed: u64) -> Self {
         Quotes {
             rng: Rng::new(!seed),
-            figures: [0; 14],
-            lists: [0; 14],
-            triangular: [0; 14],
+            figures: [0; 15],
+            lists: [0; 15],
+            triangular: [0; 15],
+            paired: [0; 15],
             branches: [0; 256],
             pairs: [0; 257],
         }
@@ -160,6 +163,7 @@ impl Quotes {
         self.figures[refusal(&quoted)] += 1;
         self.lists[refusal(&list)] += 1;
         self.triangular[refusal(&quoted)] += u64::from(has_flag_4(table));
+        self.paired[refusal(&quoted)] += u64::from(has_pair(table));
         if let Ok(quoted) = quoted {
             self.branches[quoted.branch as usize] += 1;
         }
@@ -182,6 +186,11 @@ impl Quotes {
     /// The same of the figure call on tables with flag 4.
     pub fn assert_triangular(&self, least: &[(usize, u64)]) {
         assert_occurred("flag 4's figure", &self.triangular, least);
+    }
+
+    /// The same of the figure call on tables with a paired symbol.
+    pub fn assert_paired(&self, least: &[(usize, u64)]) {
+        assert_occurred("a paired symbol's figure", &self.paired, least);
     }
 
     /// Asserts that so many figures had each of these branches.
@@ -218,7 +227,7 @@ fn assert_occurred(call: &str, answers: &Answers, least: &[(usize, u64)]) {
     for &(refused, times) in least {
         assert!(
             answers[refused] >= times,
-            "{call} answer {refused} must occur {times} times; answers 0 to 13 occurred {answers:?}"
+            "{call} answer {refused} must occur {times} times; answers 0 to 14 occurred {answers:?}"
         );
     }
 }

@@ -1,22 +1,27 @@
 //! The second reader: document 01's questions 1 to 7 in its words and order, each put to the whole
-//! input before the next, with the flag that CR 3 of document 02 adds and the address of CR 6. Former
-//! tables, from before CR 6, are read as well.
+//! input before the next, with the flag that CR 3 of document 02 adds, the address of CR 6 and the paired
+//! symbols of CR 7. Former tables, from before CR 6, are read as well, and as they were then.
 
 use crate::format::*;
 use crate::trees::{Amount, Kind, Limit, Tree};
 
 /// The table's tree, or the number of the first question answered "no".
 pub fn check(table: &[u8]) -> Result<Tree, u64> {
-    check_records(table, RECORD_BYTES, record)
+    check_records(table, RECORD_BYTES, record, weight)
 }
 
 /// The same of a former table. Its tree has address 0 at every node.
 pub fn check_former(table: &[u8]) -> Result<Tree, u64> {
-    check_records(table, FORMER_RECORD_BYTES, former_record)
+    check_records(table, FORMER_RECORD_BYTES, former_record, limit_weight)
 }
 
-/// The same of a table whose records have so many bytes and are read so.
-fn check_records(table: &[u8], bytes: usize, read: fn(&[u8]) -> Record) -> Result<Tree, u64> {
+/// The same of a table whose records have so many bytes, are read so and weigh so much.
+fn check_records(
+    table: &[u8],
+    bytes: usize,
+    read: fn(&[u8]) -> Record,
+    weigh: fn(&Node) -> u64,
+) -> Result<Tree, u64> {
     if !is_length_right(table, bytes) {
         return Err(1);
     }
@@ -30,12 +35,17 @@ fn check_records(table: &[u8], bytes: usize, read: fn(&[u8]) -> Record) -> Resul
     let Some(tree) = exactly_one_tree(&records) else {
         return Err(4);
     };
-    check_tree(&tree)?;
+    check_weighed(&tree, weigh)?;
     Ok(tree)
 }
 
 /// Questions 5 to 7, which look at the tree alone: the number of the first one answered "no".
 pub fn check_tree(tree: &Tree) -> Result<(), u64> {
+    check_weighed(tree, weight)
+}
+
+/// The same where a node weighs so much.
+fn check_weighed(tree: &Tree, weigh: fn(&Node) -> u64) -> Result<(), u64> {
     let nodes = nodes(tree);
     if !nodes.iter().all(is_within_depth_and_loops) {
         return Err(5);
@@ -43,7 +53,7 @@ pub fn check_tree(tree: &Tree) -> Result<(), u64> {
     if !nodes.iter().all(names_a_loop_around) {
         return Err(6);
     }
-    if nodes.iter().map(weight).sum::<u64>() > MOST_WEIGHT {
+    if nodes.iter().map(weigh).sum::<u64>() > MOST_WEIGHT {
         return Err(7);
     }
     Ok(())
@@ -261,9 +271,18 @@ fn names_a_loop_around(node: &Node) -> bool {
     }
 }
 
-/// Question 7: a limit's 2 to the power of the number of loops around its node and inside the
-/// named one.
+/// Question 7: the weight of a node's limit, and besides, where it is a block of a paired symbol, that of
+/// one more limit, in the whole run.
 fn weight(node: &Node) -> u64 {
+    let paired = match node.tree.paired_symbol() {
+        None => 0,
+        Some(_) => 1 << node.around,
+    };
+    limit_weight(node) + paired
+}
+
+/// A limit's 2 to the power of the number of loops around its node and inside the named one.
+fn limit_weight(node: &Node) -> u64 {
     let inside = match node.tree.limit {
         None => return 0,
         Some(limit) if limit.names == WHOLE_RUN => node.around,

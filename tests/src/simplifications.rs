@@ -1,7 +1,7 @@
 //! One table with an allowance and a buffer, both simplifiers: the call's answer and every byte that it
 //! writes must be the second simplifier's, and it may change nothing but the front of its buffer.
 
-use crate::compare::{has_flag_4, lend, lend_out, shown};
+use crate::compare::{has_flag_4, has_pair, lend, lend_out, shown};
 use crate::reader;
 use crate::rng::Rng;
 use crate::simplifier::{self, step, Simplified, Trace};
@@ -104,6 +104,8 @@ pub struct Simplifications {
     spent: u64,
     /// The tables written after some steps that have flag 4.
     triangular: u64,
+    /// Those that have a paired symbol.
+    paired: u64,
     /// How often each rule was on the way of a table that was compared at many allowances.
     rules: [u64; 10],
 }
@@ -117,6 +119,7 @@ impl Simplifications {
             finished: 0,
             spent: 0,
             triangular: 0,
+            paired: 0,
             rules: [0; 10],
         }
     }
@@ -153,6 +156,7 @@ impl Simplifications {
             self.finished += u64::from(made.finished);
             self.spent += u64::from(!made.finished);
             self.triangular += u64::from(made.steps > 0 && has_flag_4(&made.bytes));
+            self.paired += u64::from(made.steps > 0 && has_pair(&made.bytes));
         }
         self.refused[answer.err().unwrap_or(0) as usize] += 1;
     }
@@ -210,6 +214,11 @@ impl Simplifications {
     /// Asserts that so many tables written after some steps had flag 4.
     pub fn assert_triangular(&self, times: u64) {
         assert!(self.triangular >= times, "{self:?}");
+    }
+
+    /// Asserts that so many tables written after some steps had a paired symbol.
+    pub fn assert_paired(&self, times: u64) {
+        assert!(self.paired >= times, "{self:?}");
     }
 
     /// Asserts that each of these rules was on the way so often.

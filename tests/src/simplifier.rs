@@ -1,8 +1,8 @@
 //! The second simplifier: document 01's nine rules and its steps under an allowance, with the addresses
-//! of CR 6 of document 02, written apart from the library and in its own way. A block that a rule makes
-//! has address 0, and a node that stays keeps its own. Every step learns in one pass what the rules ask
-//! of the subtrees, then looks for the earliest record where one fits. It is plain Rust, fast enough to
-//! be measured against the library.
+//! of CR 6 of document 02 and the paired symbols of CR 7, written apart from the library and in its own
+//! way. A block that a rule makes has address 0, and a node that stays keeps its own. Every step learns in
+//! one pass what the rules ask of the subtrees, then looks for the earliest record where one fits. It is
+//! plain Rust, fast enough to be measured against the library.
 
 use crate::evaluator;
 use crate::format::*;
@@ -21,7 +21,7 @@ pub struct Simplified {
 }
 
 /// Simplifying with an allowance of steps into a buffer of so many bytes: questions 1 to 8, then 10
-/// with every symbol 0, then the steps.
+/// with every value 0, then the steps.
 pub fn simplify(table: &[u8], allowance: u64, out_len: usize) -> Result<Simplified, u64> {
     let mut tree = reader::check(table)?;
     if out_len < table.len() {
@@ -42,7 +42,7 @@ pub fn simplify(table: &[u8], allowance: u64, out_len: usize) -> Result<Simplifi
     })
 }
 
-/// Every symbol 0.
+/// Every value 0, the later ones too.
 const ZEROS: [u64; VALUES] = [0; VALUES];
 
 /// Every table on the way to where no rule fits: the tree's own first, then one for each step.
@@ -133,14 +133,15 @@ struct Facts {
     /// The outermost loop outside the subtree that a limit below the top names: 0 where there is
     /// none, 255 for the whole run.
     reach_below: u8,
-    /// The same with the top's own limit.
+    /// The same with the top's own limit. A block of a paired symbol is open: as if it had one in the run.
     reach: u8,
     /// The loop that the list names.
     names: u8,
 }
 
 impl Facts {
-    /// No limit in the subtree names the whole run or a loop outside.
+    /// No limit in the subtree names the whole run or a loop outside, and no block in it has a paired
+    /// symbol.
     fn is_closed(&self) -> bool {
         self.reach == NO_LIMIT
     }
@@ -186,6 +187,9 @@ fn collect(node: &Tree, facts: &mut Vec<Facts>) {
     if let Some(limit) = node.limit {
         known.reach = known.reach.max(limit.names);
         known.names = known.names.min(limit.names);
+    }
+    if node.paired_symbol().is_some() {
+        known.reach = WHOLE_RUN;
     }
     facts[place] = known;
 }

@@ -368,7 +368,7 @@ fn unaddressed(mut table: Vec<u8>) -> Vec<u8> {
 
 /// How often each answer, 0 or a refusal's number, was the same with other addresses.
 #[derive(Debug, Default)]
-struct Same([u64; 14]);
+struct Same([u64; 15]);
 
 impl Same {
     /// Counts the answer that both tables have.
@@ -440,6 +440,9 @@ fn figures_branches_and_lists_do_not_depend_on_addresses() {
         if rng.once_in(20) {
             values[15] = 1_000_001;
         }
+        if rng.once_in(20) {
+            trees::put_past_first(&mut rng, &mut values);
+        }
         let tables = [&table, &other];
         let answers = tables.map(|table| quotes::figure(&mut rng, table, &values));
         figures.count(answers, &table);
@@ -447,8 +450,8 @@ fn figures_branches_and_lists_do_not_depend_on_addresses() {
         let answers = tables.map(|table| quotes::list(&mut rng, table, &values, room));
         lists.count(answers, &table);
     }
-    figures.assert_reached(&[0, 9, 10, 13], 500);
-    lists.assert_reached(&[0, 8, 9, 10, 13], 500);
+    figures.assert_reached(&[0, 9, 10, 13, 14], 500);
+    lists.assert_reached(&[0, 8, 9, 10, 13, 14], 500);
 }
 
 #[test]
@@ -493,9 +496,16 @@ fn grafting_writes_the_same_but_for_addresses() {
             let records = records(&mut rng);
             let mut tree = trees::within_limits(&mut rng, records);
             Amounts::SMALL.set(&mut rng, &mut tree);
-            tree.encode()
+            tree
         });
-        let symbol = rng.within(15..=31);
+        // Else most sent tables would be refused for a paired symbol.
+        let sent = if rng.once_in(8) {
+            sent
+        } else {
+            sent.unpaired()
+        };
+        let (host, sent) = (host.encode(), sent.encode());
+        let symbol = rng.within(15..=24);
         let room = rng.pick(&[12_288, 12_288, 12_288, host.len()]);
         let others = [&host, &sent].map(|table| readdressed(&mut rng, table));
         let answers = [[&host, &sent], [&others[0], &others[1]]].map(|[host, sent]| {

@@ -10,7 +10,7 @@ use volefleece_tests::rng::Rng;
 use volefleece_tests::simplifications::simplify;
 use volefleece_tests::tables::*;
 
-const ZEROS: [u64; 32] = [0; 32];
+const ZEROS: [u64; 40] = [0; 40];
 
 /// Both evaluators answer this figure with this branch, these symbols having these values and all others
 /// 0.
@@ -378,7 +378,8 @@ fn a_refusal_has_neither_figure_nor_branch() {
     expect(&good, 9, 2);
     let past = repeat(1_000_000, block(1_000_000), block(1));
     let mut values = ZEROS;
-    values[0] = 1_001;
+    (values[0], values[39]) = (1_001, 1);
+    let low = ZEROS;
     for (refused, table, values) in [
         (1, good[..71].to_vec(), &values[..]),
         (2, root(vec![4; 24]), &values),
@@ -387,9 +388,10 @@ fn a_refusal_has_neither_figure_nor_branch() {
         (5, root(in_loops(9, 3, block(8))), &values),
         (6, root(limited(block(8), 1, 1)), &values),
         (7, root(in_loops(8, 3, most(1, block(8)))), &values),
-        (9, good, &values[..31]),
+        (9, good.clone(), &values[..39]),
         (13, root(triangular_limited(block(8), 0, 255)), &values),
-        (10, root(past), &values),
+        (14, good, &values),
+        (10, root(past), &low),
     ] {
         let nothing = Figure {
             refused,

@@ -42,6 +42,7 @@ fn trees_within_limits_are_accepted() {
         assert!(reader::check(&table) == Ok(tree), "read back");
     }
     comparison.assert_triangular(15_000);
+    comparison.assert_paired(15_000, 0);
 }
 
 #[test]
@@ -50,7 +51,7 @@ fn largest_tables_are_accepted_and_one_record_more_is_refused_1() {
     for round in 0..1_500 {
         let mut tree = largest_tree(&mut rng, round);
         let wanted = rng.within(0..=255);
-        trees::put_limits(&mut rng, &mut tree, wanted);
+        trees::put_weights(&mut rng, &mut tree, wanted);
         let mut table = tree.encode();
         comparison.expect(&table, Checked::accept(512));
 
@@ -108,7 +109,7 @@ fn trees_at_the_limits_of_question_6() {
         let mut tree = trees::without_limits(&mut rng, size);
         // Light enough that one more limit of weight 128 does no harm.
         let wanted = rng.within(0..=127);
-        trees::put_limits(&mut rng, &mut tree, wanted);
+        trees::put_weights(&mut rng, &mut tree, wanted);
         let around = trees::loops_around(&tree);
         let mut table = tree.encode();
 
@@ -142,7 +143,7 @@ fn trees_at_the_limits_of_question_7() {
             2 => rng.within(250..=262),
             _ => rng.within(1..=2_000),
         };
-        let weight = trees::put_limits(&mut rng, &mut tree, wanted);
+        let weight = trees::put_weights(&mut rng, &mut tree, wanted);
         full += u64::from(weight == 255);
         over_by_1 += u64::from(weight == 256);
         let expected = if weight <= 255 {
@@ -153,6 +154,7 @@ fn trees_at_the_limits_of_question_7() {
         comparison.expect(&tree.encode(), expected);
     }
     comparison.assert_reached(&[(0, 5_000), (7, 5_000)]);
+    comparison.assert_paired(3_000, 3_000);
     assert!(full >= 3_000 && over_by_1 >= 3_000, "{full}, {over_by_1}");
 }
 
@@ -173,6 +175,7 @@ fn of_many_faults_the_lowest_number_answers() {
         comparison.expect(&table, expected);
     }
     comparison.assert_reached(&[0, 1, 2, 3, 4, 5, 6, 7].map(|answer| (answer, 1_000)));
+    comparison.assert_paired(500, 500);
 }
 
 // Damaged tables.
@@ -218,7 +221,7 @@ fn small_table(rng: &mut Rng, round: usize) -> Vec<u8> {
         trees::grow(rng, size, 32, 8)
     };
     let wanted = rng.within(0..=255);
-    trees::put_limits(rng, &mut tree, wanted);
+    trees::put_weights(rng, &mut tree, wanted);
     tree.encode()
 }
 
@@ -366,4 +369,5 @@ fn noise_of_good_records() {
     }
     comparison.assert_reached(&[(0, 1_000), (4, 1_000), (5, 100), (6, 1_000), (7, 10)]);
     comparison.assert_triangular(1_000);
+    comparison.assert_paired(1_000, 10);
 }

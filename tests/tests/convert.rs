@@ -1,7 +1,7 @@
 //! `vf_convert` and the second converter on former tables, which have records of 16 bytes: what is
 //! written, which lengths and buffers are refused, and that a former table that was accepted is no table
-//! now, while the one it becomes has its tree and its answers. The seeds are fixed: every run makes the
-//! same tables.
+//! now, while the one it becomes has its tree and, where each later value equals its first, its answers,
+//! unless its paired symbols weigh too much. The seeds are fixed: every run makes the same tables.
 
 use volefleece::raw::{self, Checked, Converted};
 use volefleece_tests::compare::{lend, lend_out, shown, Comparison};
@@ -14,7 +14,7 @@ use volefleece_tests::quotes;
 use volefleece_tests::reader;
 use volefleece_tests::rng::Rng;
 use volefleece_tests::tables::{addressed, block, sequence};
-use volefleece_tests::trees::{self, Amounts};
+use volefleece_tests::trees::{self, Amounts, Tree};
 
 /// Room for any table.
 const ROOM: usize = 12_288;
@@ -156,6 +156,22 @@ fn buffers_that_are_too_short_are_refused_8() {
 
 // Former tables and their answers.
 
+/// A tree of so many records that was accepted, and what its limits and paired symbols weigh together now,
+/// which may be too much.
+fn former_tree(rng: &mut Rng, records: usize) -> (Tree, u64) {
+    let mut tree = trees::without_limits(rng, records);
+    let wanted = rng.pick(&[0, 3, 30, 250, 255]);
+    let of_limits = trees::put_limits(rng, &mut tree, wanted);
+    let wanted = match rng.index(4) {
+        0 => 0,
+        1 => 255 - of_limits,
+        2 => 256 - of_limits,
+        _ => rng.within(0..=2_000),
+    };
+    let of_pairs = trees::put_pairs(rng, &mut tree, wanted);
+    (tree, of_limits + of_pairs)
+}
+
 /// Mostly small, at times of a few hundred records.
 fn records(rng: &mut Rng) -> usize {
     let most = rng.pick(&[3, 6, 15, 40, 100, 512]);
@@ -176,7 +192,7 @@ fn no_former_table_passes() {
     for round in 0..40_000 {
         let records = records(&mut rng);
         let mut tree = match round % 2 {
-            0 => trees::within_limits(&mut rng, records),
+            0 => former_tree(&mut rng, records).0,
             _ => trees::redundant(&mut rng, records),
         };
         // Large limits, where a limit stands.
@@ -203,33 +219,47 @@ fn what_stands_behind_an_address_was_no_limit() {
 }
 
 #[test]
-fn accepted_tables_stay_accepted_with_their_tree() {
+fn accepted_tables_stay_accepted_with_their_tree_unless_they_weigh_too_much() {
     let mut rng = Rng::new(706);
     let mut comparison = Comparison::new(706);
-    for round in 0..20_000 {
+    let (mut full, mut over_by_1) = (0, 0);
+    for round in 0..40_000 {
         let records = records(&mut rng);
-        let tree = match round % 2 {
-            0 => trees::within_limits(&mut rng, records),
-            _ => trees::redundant(&mut rng, records),
+        let (tree, weight) = match round % 2 {
+            0 => former_tree(&mut rng, records),
+            _ => (trees::redundant(&mut rng, records), 0),
         };
-        let new = agreed(&mut rng, &tree.encode_former(), ROOM).expect("a right length");
-        comparison.expect(&new, Checked::accept(records));
+        let old = tree.encode_former();
+        assert_eq!(reader::check_former(&old), Ok(tree.unaddressed()));
+        let new = agreed(&mut rng, &old, ROOM).expect("a right length");
         assert!(new == tree.unaddressed().encode(), "{}", shown(&new));
-        assert_eq!(reader::check(&new), Ok(tree.unaddressed()));
+        full += u64::from(weight == 255);
+        over_by_1 += u64::from(weight == 256);
+        if weight > 255 {
+            comparison.expect(&new, Checked::refuse(7));
+        } else {
+            comparison.expect(&new, Checked::accept(records));
+            assert_eq!(reader::check(&new), Ok(tree.unaddressed()));
+        }
     }
+    comparison.assert_paired(10_000, 1_500);
+    assert!(full > 500 && over_by_1 > 500, "{full}, {over_by_1}");
 }
 
 #[test]
 fn figures_branches_and_lists_are_the_former_ones() {
     let mut rng = Rng::new(707);
-    let mut answers = [0; 14];
-    for round in 0..40_000 {
+    let mut answers = [0; 15];
+    // The figures of tables with paired symbols, and those of them that lower later values lower.
+    let (mut paired, mut lower) = (0, 0);
+    for round in 0..60_000 {
         let amounts = [Amounts::SMALL, Amounts::MIDDLING][round % 2];
         let records = records(&mut rng).min(100);
-        let mut tree = trees::within_limits(&mut rng, records);
+        let (mut tree, weight) = former_tree(&mut rng, records);
         amounts.set(&mut rng, &mut tree);
         let mut values = amounts.values(&mut rng);
         trees::put_about_1000(&mut rng, &mut values);
+        let laters = values.split_off(32);
         match rng.index(30) {
             0 => values[rng.index(16)] = 1_000_001,
             1 => values.truncate(31),
@@ -237,19 +267,36 @@ fn figures_branches_and_lists_are_the_former_ones() {
         }
 
         let old = tree.encode_former();
-        let root = reader::check_former(&old).and_then(|tree| evaluator::evaluate(&tree, &values));
+        let root = reader::check_former(&old).expect("a tree that was accepted");
+        let root = evaluator::evaluate_former(&root, &values);
         let new = agreed(&mut rng, &old, ROOM).expect("a right length");
         let quoted = root
             .as_ref()
             .map(Evaluated::quoted)
             .map_err(|&number| number);
-        assert_eq!(quotes::figure(&mut rng, &new, &values), quoted);
         let list = root.map(|root| root.list.into_pairs());
-        assert_eq!(quotes::list(&mut rng, &new, &values, 512), list);
-        answers[quoted.err().unwrap_or(0) as usize] += 1;
+        let equal_laters = [&values[..], &values[24..]].concat();
+        let figure = quotes::figure(&mut rng, &new, &equal_laters);
+        let pairs = quotes::list(&mut rng, &new, &equal_laters, 512);
+        answers[figure.err().unwrap_or(0) as usize] += 1;
+        if weight > 255 {
+            assert_eq!((figure, pairs), (Err(7), Err(7)));
+            continue;
+        }
+        assert_eq!((figure, pairs), (quoted, list), "{}", shown(&new));
+        // With lower later values the figure is no higher.
+        if let Ok(former) = quoted {
+            let values = [&values[..], &laters].concat();
+            let figure = quotes::figure(&mut rng, &new, &values);
+            let figure = figure.expect("none of the values is higher").figure;
+            assert!(figure <= former.figure, "{}", shown(&new));
+            paired += u64::from(tree.pairs() > 0);
+            lower += u64::from(figure < former.figure);
+        }
     }
-    let reached = [0, 9, 10, 13].map(|answer| answers[answer]);
+    let reached = [0, 7, 9, 10, 13].map(|answer| answers[answer]);
     assert!(reached.iter().all(|&times| times > 500), "{answers:?}");
+    assert!(paired > 3_000 && lower > 1_000, "{paired}, {lower}");
 }
 
 /// The former table of these records: what stands before their addresses.
@@ -258,10 +305,12 @@ fn former(table: &[u8]) -> Vec<u8> {
     records.flat_map(|record| &record[..16]).copied().collect()
 }
 
+/// Or 7, by the paired symbols.
 #[test]
 fn refusals_are_the_former_ones() {
     let mut rng = Rng::new(708);
     let mut comparison = Comparison::new(708);
+    let mut too_heavy = 0;
     for round in 0..40_000 {
         let old = match round % 3 {
             0 => {
@@ -272,13 +321,17 @@ fn refusals_are_the_former_ones() {
             1 => former(&rng.pick(&noise::KINDS)(&mut rng)),
             _ => {
                 let records = records(&mut rng);
-                let mut old = trees::within_limits(&mut rng, records).encode_former();
+                let mut old = former_tree(&mut rng, records).0.encode_former();
                 let bits = rng.size(1..=2);
                 damage::flip_bits(&mut rng, &mut old, bits);
                 old
             }
         };
         let expected = match reader::check_former(&old) {
+            Ok(tree) if reader::check_tree(&tree) == Err(7) => {
+                too_heavy += 1;
+                Checked::refuse(7)
+            }
             Ok(tree) => Checked::accept(tree.records()),
             Err(question) => Checked::refuse(question),
         };
@@ -288,4 +341,5 @@ fn refusals_are_the_former_ones() {
         }
     }
     comparison.assert_reached(&[0, 2, 3, 4, 5, 6, 7].map(|answer| (answer, 300)));
+    assert!(too_heavy > 300, "{too_heavy}");
 }

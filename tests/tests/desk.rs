@@ -31,8 +31,8 @@ const SMALL: Amounts = Amounts {
     symbols: 1,
 };
 
-/// Zeros enough for a file of 40 values, which is too long.
-const TOO_LONG: [u8; 320] = [0; 320];
+/// Zeros enough for a file of 41 values, which is too long.
+const TOO_LONG: [u8; 328] = [0; 328];
 
 fn with_files(tree: &[u8], values: &[u8]) -> Folder {
     let folder = Folder::with_tree(DESK, tree);
@@ -69,8 +69,9 @@ fn expect(tree: &[u8], values: &[u8]) -> Result<Quoted, u64> {
     answer
 }
 
-/// The 32 values of a file, those that it leaves out at their ceilings, unless its length is refused.
-fn numbers(values: &[u8]) -> Option<[u64; 32]> {
+/// The 40 values of a file, unless its length is refused: those that it leaves out at their ceilings, but
+/// for later ones, which equal their first.
+fn numbers(values: &[u8]) -> Option<[u64; 40]> {
     let mut numbers = ceilings();
     let (whole, rest) = values.as_chunks();
     if whole.len() > numbers.len() || !rest.is_empty() {
@@ -78,6 +79,9 @@ fn numbers(values: &[u8]) -> Option<[u64; 32]> {
     }
     for (number, &bytes) in numbers.iter_mut().zip(whole) {
         *number = u64::from_le_bytes(bytes);
+    }
+    for absent in whole.len().max(32)..40 {
+        numbers[absent] = numbers[absent - 8];
     }
     Some(numbers)
 }
@@ -89,7 +93,7 @@ fn line(answer: Result<Quoted, u64>) -> String {
     }
 }
 
-/// A tree whose figure is its only symbol's value.
+/// A tree whose figure is its only symbol's value, the first of a paired one.
 fn only_symbol(symbol: u64) -> Vec<u8> {
     match symbol {
         0..16 => symbol_repeat(symbol, block(1), block(0)),
@@ -97,9 +101,23 @@ fn only_symbol(symbol: u64) -> Vec<u8> {
     }
 }
 
-/// What 32 absent values count.
-fn ceilings() -> [u64; 32] {
-    let mut ceilings = [1_000_000; 32];
+/// A tree whose figure is the first value of a paired symbol and its later one together, of which a figure
+/// that is past the ceiling is refused.
+fn passed_twice(symbol: u64) -> Vec<u8> {
+    repeat(2, symbol_block(symbol), block(0))
+}
+
+/// The line for that figure.
+fn line_of(figure: u64) -> String {
+    match figure {
+        ..=1_000_000_000_000 => format!("figure {figure} branch 255"),
+        _ => "refused 10".into(),
+    }
+}
+
+/// What 40 absent values count.
+fn ceilings() -> [u64; 40] {
+    let mut ceilings = [1_000_000; 40];
     ceilings[16..].fill(1_000_000_000_000);
     ceilings
 }
@@ -142,22 +160,32 @@ fn the_workshops_tree_has_the_houses_figure_before_and_after() {
 fn a_missing_tree_is_empty() {
     let folder = Folder::new(DESK);
     says(&folder, "refused 1");
-    folder.write(VALUES, &TOO_LONG[..256]);
+    folder.write(VALUES, &TOO_LONG[..320]);
     says(&folder, "refused 1");
     assert!(!folder.path(TREE).exists());
 }
 
 #[test]
 fn other_lengths_of_values_are_refused_9() {
-    for length in [1, 4, 7, 9, 15, 247, 249, 255, 257, 263, 264, 265, 272, 320] {
+    for length in [
+        1, 4, 7, 9, 15, 191, 193, 247, 249, 255, 257, 263, 265, 311, 313,
+    ] {
         quotes(&block(7), &TOO_LONG[..length], "refused 9");
     }
-    quotes(&block(7), &vec![0; 100_000], "refused 9");
+    for length in [319, 321, 322, 324, 327, 328] {
+        quotes(&block(7), &TOO_LONG[..length], "refused 9");
+    }
+    for length in [336, 384, 512, 640, 65_536 + 320, 100_000] {
+        quotes(&block(7), &vec![0; length], "refused 9");
+    }
+    for length in (0..=320).step_by(8) {
+        quotes(&block(7), &TOO_LONG[..length], "figure 7 branch 255");
+    }
 }
 
 #[test]
 fn long_trees_are_refused_1() {
-    let values = [0; 256];
+    let values = [0; 320];
     let longest = long(512);
     quotes(&longest, &values, "figure 1 branch 255");
     quotes(&long(513), &values, "refused 1");
@@ -182,7 +210,7 @@ fn a_file_that_cannot_be_read_is_told() {
     let folder = Folder::new(DESK);
     folder.put_folder(TREE);
     folder.expect_complaint(&NONE, "tree.tab: ");
-    folder.write(VALUES, &[0; 256]);
+    folder.write(VALUES, &[0; 320]);
     folder.expect_complaint(&NONE, "tree.tab: ");
 }
 
@@ -202,7 +230,7 @@ fn values_that_cannot_be_read_are_told() {
 /// A read that fails at the start, or at the file's end, whatever the next one would give.
 #[test]
 fn a_failed_read_is_told() {
-    let folder = with_files(&block(7), &[0; 256]);
+    let folder = with_files(&block(7), &[0; 320]);
     for (call, file) in [(1, TREE), (2, TREE), (3, VALUES), (4, VALUES)] {
         let mut command = folder.command_failing(&format!("read {call} 5"));
         complains(&mut command, &format!("{file}: "));
@@ -255,7 +283,7 @@ fn written_and_absent_values_move_the_branch() {
 #[test]
 fn a_simplified_tree_may_have_another_branch() {
     let tree = choice(&[block(0), symbol_block(16), block(3)]);
-    let mut values = [0; 32];
+    let mut values = [0; 40];
     values[16] = 9;
     let values = values_file(&values);
     quotes(&tree, &values, "figure 9 branch 1");
@@ -269,8 +297,9 @@ fn a_simplified_tree_may_have_another_branch() {
 
 #[test]
 fn the_smallest_trees_with_all_values_written() {
-    quotes(&block(7), &[0; 256], "figure 7 branch 255");
-    quotes(&symbol_block(16), &[0; 256], "figure 0 branch 255");
+    quotes(&block(7), &[0; 320], "figure 7 branch 255");
+    quotes(&symbol_block(16), &[0; 320], "figure 0 branch 255");
+    quotes(&passed_twice(24), &[0; 320], "figure 0 branch 255");
 }
 
 #[test]
@@ -301,35 +330,104 @@ fn missing_values_count_their_ceilings() {
 
 #[test]
 fn every_number_of_values_may_be_written() {
-    let written: [u64; 32] = std::array::from_fn(|symbol| 1 + symbol as u64);
-    for count in 0..=32 {
+    // The later values are each 1 below their first.
+    let written: [u64; 40] = std::array::from_fn(|at| match at {
+        0..32 => 1 + at as u64,
+        _ => at as u64 - 8,
+    });
+    for count in 0..=40 {
         let low = values_file(&written[..count]);
         let high = values_file(&ceilings()[..count]);
-        for symbol in 0..32 {
+        for (symbol, value) in written[..32].iter().enumerate() {
             let tree = only_symbol(symbol as u64);
             let ceiling = format!("figure {} branch 255", ceilings()[symbol]);
             if symbol < count {
-                quotes(
-                    &tree,
-                    &low,
-                    &format!("figure {} branch 255", written[symbol]),
-                );
+                quotes(&tree, &low, &format!("figure {value} branch 255"));
                 quotes(&tree, &high, &ceiling);
             } else {
                 quotes(&tree, &low, &ceiling);
             }
         }
+        for first in 24..32 {
+            let numbers = [&written[..count], &ceilings()[count..]].concat();
+            let later = if first + 8 < count { first + 8 } else { first };
+            let line = line_of(numbers[first] + numbers[later]);
+            quotes(&passed_twice(first as u64), &low, &line);
+        }
+    }
+}
+
+/// Each of these lengths at the ends of the firsts and the laters, symbol 24 and 31 being 5 and their later
+/// values 3.
+#[test]
+fn an_absent_later_value_is_its_first() {
+    let mut values = [0; 40];
+    for (first, later) in [(24, 32), (31, 39)] {
+        (values[first], values[later]) = (5, 3);
+    }
+    let file = values_file(&values);
+    for (length, of_24, of_31) in [
+        (0, "refused 10", "refused 10"),
+        (8, "refused 10", "refused 10"),
+        (192, "refused 10", "refused 10"),
+        (200, "figure 10 branch 255", "refused 10"),
+        (248, "figure 10 branch 255", "refused 10"),
+        (256, "figure 10 branch 255", "figure 10 branch 255"),
+        (264, "figure 8 branch 255", "figure 10 branch 255"),
+        (312, "figure 8 branch 255", "figure 10 branch 255"),
+        (320, "figure 8 branch 255", "figure 8 branch 255"),
+    ] {
+        quotes(&passed_twice(24), &file[..length], of_24);
+        quotes(&passed_twice(31), &file[..length], of_31);
+    }
+    for length in [191, 255, 263, 319] {
+        quotes(&passed_twice(24), &file[..length], "refused 9");
+    }
+    for more in [&[0][..], &[0; 8]] {
+        let longer = [&file[..], more].concat();
+        quotes(&passed_twice(24), &longer, "refused 9");
+    }
+    // Of an absent first the later one is as high: two passes are past the ceiling, and one is at it.
+    let once = only_symbol(31);
+    quotes(&once, &file[..248], "figure 1000000000000 branch 255");
+    let none = repeat(0, symbol_block(31), block(4));
+    quotes(&none, &file[..248], "figure 4 branch 255");
+}
+
+/// A written later value may be past its first, in a pair that the tree has no block of too. An absent one
+/// is not.
+#[test]
+fn later_values_past_their_first_are_refused_14() {
+    for first in 24..32 {
+        let mut values = [0; 40];
+        values[first] = 5;
+        values[first + 8] = 5;
+        let tree = passed_twice(first as u64);
+        quotes(&tree, &values_file(&values), "figure 10 branch 255");
+        values[first + 8] = 6;
+        let file = values_file(&values);
+        for tree in [tree, block(7), symbol_block(16)] {
+            quotes(&tree, &file, "refused 14");
+            quotes(&tree, &file[..8 * (first + 9)], "refused 14");
+        }
+        let line = "figure 7 branch 255";
+        quotes(&block(7), &file[..8 * (first + 8)], line);
     }
 }
 
 #[test]
 fn the_last_value_written_may_be_0_or_too_large() {
-    for count in 1..=32 {
+    for count in 1..=40 {
         let last = count - 1;
-        let tree = only_symbol(last as u64);
+        let tree = match last {
+            0..32 => only_symbol(last as u64),
+            // The first pass is at the ceiling.
+            _ => passed_twice(last as u64 - 8),
+        };
         let mut values = ceilings();
         values[last] = 0;
-        quotes(&tree, &values_file(&values[..count]), "figure 0 branch 255");
+        let figure = if last < 32 { 0 } else { ceilings()[last] };
+        quotes(&tree, &values_file(&values[..count]), &line_of(figure));
         values[last] = ceilings()[last] + 1;
         quotes(&tree, &values_file(&values[..count]), "refused 9");
     }
@@ -345,14 +443,18 @@ fn absent_values_may_be_too_large_for_a_figure() {
         &values_file(&[999_999]),
         "figure 999999999999 branch 255",
     );
-    let times = sequence(&[symbol_block(30), symbol_block(31)]);
-    let zeros = values_file(&[0; 32]);
-    quotes(&times, &zeros[..240], "refused 10");
-    quotes(&times, &zeros[..248], "figure 1000000000000 branch 255");
-    quotes(&times, &zeros, "figure 0 branch 255");
-    let and_one = sequence(&[symbol_block(31), block(1)]);
-    quotes(&and_one, &zeros[..248], "refused 10");
-    quotes(&and_one, &zeros, "figure 1 branch 255");
+    for [one, other] in [[22, 23], [30, 31]] {
+        let times = sequence(&[symbol_block(one), symbol_block(other)]);
+        let (before_one, before_other) = (8 * one as usize, 8 * other as usize);
+        let zeros = values_file(&[0; 40]);
+        quotes(&times, &zeros[..before_one], "refused 10");
+        let ceiling = "figure 1000000000000 branch 255";
+        quotes(&times, &zeros[..before_other], ceiling);
+        quotes(&times, &zeros, "figure 0 branch 255");
+        let and_one = sequence(&[symbol_block(other), block(1)]);
+        quotes(&and_one, &zeros[..before_other], "refused 10");
+        quotes(&and_one, &zeros, "figure 1 branch 255");
+    }
 }
 
 /// An absent count is 1,000,000, which is past 1,000.
@@ -368,7 +470,7 @@ fn absent_values_under_flag_4_are_refused_13() {
         for written in 0..=symbol {
             quotes(&tree, &values_file(&values[..written]), "refused 13");
         }
-        for written in symbol + 1..=32 {
+        for written in symbol + 1..=40 {
             quotes(
                 &tree,
                 &values_file(&values[..written]),
@@ -407,8 +509,8 @@ fn a_bad_trees_number_comes_before_the_values() {
         for values in [
             &[][..],
             &TOO_LONG[..1],
-            &TOO_LONG[..257],
-            &TOO_LONG[..264],
+            &TOO_LONG[..321],
+            &TOO_LONG[..328],
             &too_large,
         ] {
             quotes(&tree, values, &line);
@@ -423,8 +525,13 @@ fn too_large_values_are_refused_9() {
         (15, 1_000_000),
         (16, 1_000_000_000_000),
         (31, 1_000_000_000_000),
+        (32, 1_000_000_000_000),
+        (39, 1_000_000_000_000),
     ] {
-        let mut values = [0; 32];
+        let mut values = [0; 40];
+        if symbol >= 32 {
+            values[symbol - 8] = most;
+        }
         values[symbol] = most;
         quotes(&block(7), &values_file(&values), "figure 7 branch 255");
         for larger in [most + 1, u64::MAX] {
@@ -435,17 +542,20 @@ fn too_large_values_are_refused_9() {
 }
 
 #[test]
-fn question_13_comes_after_9_and_before_10() {
+fn questions_13_and_14_come_after_9_and_before_10() {
     let past = sequence(&[block(1_000_000_000_000), block(1)]);
     let tree = sequence(&[past, triangular_limited(block(1), 0, 255)]);
-    let mut values = [0; 32];
+    let mut values = [0; 40];
     quotes(&tree, &values_file(&values), "refused 10");
+    values[39] = 1;
+    quotes(&tree, &values_file(&values), "refused 14");
     values[0] = 1_001;
     let file = values_file(&values);
     quotes(&tree, &file, "refused 13");
     quotes(&tree, &file[..8], "refused 13");
     quotes(&tree, &file[..7], "refused 9");
     quotes(&tree, &[&file[..], &[0]].concat(), "refused 9");
+    quotes(&tree, &file[..312], "refused 13");
     values[31] = u64::MAX;
     quotes(&tree, &values_file(&values), "refused 9");
     quotes(&tree, &values_file(&[1_000_001]), "refused 9");
@@ -454,7 +564,7 @@ fn question_13_comes_after_9_and_before_10() {
 #[test]
 fn question_10_comes_last() {
     let tree = sequence(&[block(1_000_000_000_000), symbol_block(16)]);
-    let mut values = [0; 32];
+    let mut values = [0; 40];
     quotes(
         &tree,
         &values_file(&values),
@@ -484,25 +594,31 @@ fn random_tables_are_quoted() {
     let mut rng = Rng::new(501);
     let (mut figures, mut triangular, mut too_large, mut past_1000) = (0, 0, 0, 0);
     let (mut first_branch, mut later_branch) = (0, 0);
-    for _ in 0..500 {
+    let (mut paired, mut past_first) = (0, 0);
+    for _ in 0..600 {
         let records = rng.size(1..=60);
         let mut tree = trees::within_limits(&mut rng, records);
         MIDDLING.set(&mut rng, &mut tree);
-        let absent = rng.pick(&[0, 0, 8, 16, 32]);
-        let count = 32 - rng.size(0..=absent);
+        let absent = rng.pick(&[0, 0, 8, 16, 24, 40]);
+        let count = 40 - rng.size(0..=absent);
         let mut values = MIDDLING.values(&mut rng);
         if rng.once_in(2) {
             trees::put_about_1000(&mut rng, &mut values);
+        }
+        if rng.once_in(8) {
+            trees::put_past_first(&mut rng, &mut values);
         }
         let values = values_file(&values[..count]);
         match expect(&tree.encode(), &values) {
             Ok(Quoted { figure, branch }) => {
                 figures += u64::from(figure > 0);
                 triangular += u64::from(figure > 0 && !tree.triangles().is_empty());
+                paired += u64::from(figure > 0 && tree.pairs() > 0);
                 first_branch += u64::from(branch == 0);
                 later_branch += u64::from((1..255).contains(&branch));
             }
             Err(10) => too_large += 1,
+            Err(14) => past_first += 1,
             Err(question) => {
                 assert_eq!(question, 13);
                 past_1000 += 1;
@@ -512,6 +628,8 @@ fn random_tables_are_quoted() {
     assert!(figures > 100 && too_large > 20, "{figures}, {too_large}");
     let flag_4 = triangular > 50 && past_1000 > 20;
     assert!(flag_4, "{triangular}, {past_1000}");
+    let pairs = paired > 50 && past_first > 20;
+    assert!(pairs, "{paired}, {past_first}");
     let branches = first_branch > 20 && later_branch > 20;
     assert!(branches, "{first_branch}, {later_branch}");
 }
@@ -523,19 +641,22 @@ fn random_tables_with_faults_are_refused() {
         let question = 1 + round % 7;
         let tree = faults::tree(&mut rng, &[question]);
         let table = faults::table(&mut rng, &tree, &[question]);
-        let length = rng.size(0..=300);
+        let length = rng.size(0..=340);
         assert_eq!(expect(&table, &vec![0; length]), Err(question));
     }
 }
 
-/// As their tree is, whatever addresses it had.
+/// As their tree is, whatever addresses it had. With former values, of which the later ones are absent, they
+/// are quoted as they were, unless their paired symbols weigh too much.
 #[test]
 fn random_former_tables_are_quoted_once_converted() {
     let mut rng = Rng::new(505);
-    let mut figures = 0;
-    for _ in 0..100 {
+    let (mut figures, mut paired, mut too_heavy) = (0, 0, 0);
+    for _ in 0..300 {
         let records = rng.size(1..=60);
-        let mut tree = trees::within_limits(&mut rng, records);
+        let mut tree = trees::within_limits(&mut rng, records).unpaired();
+        let wanted = rng.pick(&[0, 3, 300, 1_000]);
+        trees::put_pairs(&mut rng, &mut tree, wanted);
         MIDDLING.set(&mut rng, &mut tree);
         let folder = Folder::new("readdress");
         folder.write(FORMER, &tree.encode_former());
@@ -545,8 +666,18 @@ fn random_former_tables_are_quoted_once_converted() {
         let answer = expect(&table, &values_file(&values));
         assert_eq!(answer, evaluator::figure(&tree.encode(), &values));
         figures += u64::from(answer.is_ok());
+
+        let former = evaluator::evaluate_former(&tree, &values[..32]);
+        let answer = expect(&table, &values_file(&values[..32]));
+        if answer == Err(7) {
+            too_heavy += 1;
+        } else {
+            assert_eq!(answer, former.map(|root| root.quoted()));
+            paired += u64::from(answer.is_ok() && tree.pairs() > 0);
+        }
     }
-    assert!(figures > 30, "{figures}");
+    let reached = [figures, paired, too_heavy];
+    assert!(reached.iter().all(|&times| times > 30), "{reached:?}");
 }
 
 #[test]
@@ -554,8 +685,12 @@ fn random_lengths_of_values() {
     let mut rng = Rng::new(503);
     let mut refused = 0;
     for _ in 0..200 {
-        let tree = only_symbol(rng.within(0..=31));
-        let length = rng.size(0..=40) * rng.pick(&[1, 8]);
+        let symbol = rng.within(0..=39);
+        let tree = match symbol {
+            0..=31 => only_symbol(symbol),
+            _ => passed_twice(symbol - 8),
+        };
+        let length = rng.size(0..=50) * rng.pick(&[1, 8]);
         let values = values_file(&MIDDLING.values(&mut rng).repeat(2));
         refused += u64::from(expect(&tree, &values[..length]) == Err(9));
     }
@@ -572,7 +707,7 @@ fn leaving_values_out_never_lowers_a_quote() {
         SMALL.set(&mut rng, &mut tree);
         let tree = tree.encode();
         let values = values_file(&SMALL.values(&mut rng));
-        let written = rng.size(0..=32);
+        let written = rng.size(0..=40);
         let fewer = rng.size(0..=written);
         let long = expect(&tree, &values[..8 * written]);
         if let (Ok(long), Ok(short)) = (long, expect(&tree, &values[..8 * fewer])) {

@@ -1,5 +1,6 @@
 //! The second evaluator itself: document 01's cases, triangular numbers, lists written out member by
-//! member, the branches of choices, and the runs that a figure covers. The library is not called.
+//! member, the branches of choices, and the runs that a figure covers, with paired symbols charged as
+//! they are passed. The library is not called.
 
 use volefleece_tests::cases::{self, cases};
 use volefleece_tests::evaluator::{self, evaluate_at, Evaluated, List};
@@ -22,7 +23,7 @@ fn cases_have_the_lists_of_document_01() {
 #[test]
 fn triangular_limits_are_sums_of_all_numbers_up_to_the_value() {
     let table = triangular_limited(block(7), 3, 255);
-    let mut values = [0; 32];
+    let mut values = [0; 40];
     assert_eq!(evaluator::list(&table, &values, 512), Ok(vec![(0, 0)]));
     let mut sum = 0;
     for number in 1..=1_000 {
@@ -56,7 +57,7 @@ fn every_node_has_its_members_its_named_loop_and_its_branch() {
     // How often each of the first children was the branch, and how often an equal one came after it.
     let mut branches = [0; 5];
     let mut ties = 0;
-    let mut triangular = 0;
+    let (mut triangular, mut paired) = (0, 0);
     for _ in 0..20_000 {
         let mut tree = tiny_tree(&mut rng, 40);
         TINY.set(&mut rng, &mut tree);
@@ -73,11 +74,13 @@ fn every_node_has_its_members_its_named_loop_and_its_branch() {
             }
         }
         triangular += tree.triangles().len();
+        paired += tree.pairs();
     }
     assert!(named.iter().all(|&times| times > 1_000), "{named:?}");
     assert!(branches.iter().all(|&times| times > 200), "{branches:?}");
     assert!(ties > 1_000, "{ties}");
     assert!(triangular > 10_000, "{triangular}");
+    assert!(paired > 10_000, "{paired}");
 }
 
 /// Whether more than one child of a choice has the largest first member.
@@ -95,7 +98,8 @@ fn is_tied(choice: &Tree, around: usize, values: &[u64]) -> bool {
         > 1
 }
 
-/// A tree of few records with at most 3 loops around a node, and limits up to that weight.
+/// A tree of few records with at most 3 loops around a node, and paired symbols and limits up to that
+/// weight.
 fn tiny_tree(rng: &mut Rng, weight: u64) -> Tree {
     let mut tree = if rng.once_in(4) {
         let records = rng.size(1..=12);
@@ -109,7 +113,7 @@ fn tiny_tree(rng: &mut Rng, weight: u64) -> Tree {
         tree
     };
     let wanted = rng.within(0..=weight);
-    trees::put_limits(rng, &mut tree, wanted);
+    trees::put_weights(rng, &mut tree, wanted);
     tree
 }
 
@@ -186,40 +190,76 @@ fn no_admitted_run_costs_more_than_the_figure() {
     let mut rng = Rng::new(103);
     let (mut none, mut below, mut equal) = (0, 0, 0);
     let mut triangular = 0;
-    for _ in 0..30_000 {
-        let mut tree = tiny_tree(&mut rng, 6);
+    // Those below and those equal with a paired symbol whose values differ and which is limited, or has
+    // a limit above or beside it.
+    let mut paired = [0; 2];
+    for _ in 0..40_000 {
+        let mut tree = tiny_tree(&mut rng, 9);
         FEW.set(&mut rng, &mut tree);
         let values = FEW.values(&mut rng);
         let figure = figure(&tree, &values);
+        let is_both = is_falling(&tree, &values) && tree != tree.unlimited();
         match runs::dearest(&tree, &values) {
             None => none += 1,
-            Some(cost) if cost < figure => below += 1,
+            Some(cost) if cost < figure => {
+                below += 1;
+                paired[0] += u64::from(is_both);
+            }
             Some(cost) => {
                 assert_eq!(cost, figure, "{tree:?}, {values:?}");
                 equal += 1;
                 triangular += tree.triangles().len();
+                paired[1] += u64::from(is_both);
             }
         }
     }
+    assert!(paired.iter().all(|&times| times > 500), "{paired:?}");
     let reached = [none, below, equal];
     assert!(reached.iter().all(|&times| times > 1_000), "{reached:?}");
     assert!(triangular > 2_000, "{triangular}");
 }
 
+/// Whether a block of the tree has a paired symbol whose later value is below its first.
+fn is_falling(tree: &Tree, values: &[u64]) -> bool {
+    let here = tree.paired_symbol().is_some_and(|symbol| {
+        let first = symbol as usize;
+        values[first + 8] < values[first]
+    });
+    here || tree.children.iter().any(|child| is_falling(child, values))
+}
+
 #[test]
 fn without_limits_some_run_costs_the_figure() {
     let mut rng = Rng::new(104);
-    for _ in 0..30_000 {
+    // Those with paired symbols, those whose figure is lower than if each pass cost the first value, and
+    // those whose figure is higher than if each cost the later one.
+    let (mut paired, mut lower, mut higher) = (0, 0, 0);
+    for _ in 0..40_000 {
         let mut tree = tiny_tree(&mut rng, 0);
+        let weight = rng.within(0..=24);
+        trees::put_pairs(&mut rng, &mut tree, weight);
         FEW.set(&mut rng, &mut tree);
         let values = FEW.values(&mut rng);
         let dearest = runs::dearest(&tree, &values);
-        assert_eq!(
-            dearest,
-            Some(figure(&tree, &values)),
-            "{tree:?}, {values:?}"
-        );
+        let figure = figure(&tree, &values);
+        assert_eq!(dearest, Some(figure), "{tree:?}, {values:?}");
+        paired += u64::from(tree.pairs() > 0);
+        lower += u64::from(figure < constant_figure(&tree, &values, 0));
+        higher += u64::from(figure > constant_figure(&tree, &values, 8));
     }
+    let reached = [paired, lower, higher];
+    assert!(reached.iter().all(|&times| times > 5_000), "{reached:?}");
+}
+
+/// The figure where each paired symbol has one of its values, the one so far behind its first, at every
+/// pass.
+fn constant_figure(tree: &Tree, values: &[u64], behind: usize) -> u64 {
+    let mut constant = values.to_vec();
+    for first in 24..=31 {
+        let value = values[first + behind];
+        (constant[first], constant[first + 8]) = (value, value);
+    }
+    figure(tree, &constant)
 }
 
 #[test]

@@ -1,7 +1,7 @@
 //! `vf_figure` and `vf_list` on hand-written tables: document 01's cases, each rule of evaluation,
-//! triangular limits, questions 8 to 10 and 13 at and past their ends, and the order of all. All
-//! numbers here are literals. Which branch sets a figure is in `branch.rs`; here it is the second
-//! evaluator's alone.
+//! triangular limits, questions 8 to 10, 13 and 14 at and past their ends, and the order of all. All
+//! numbers here are literals. Which branch sets a figure is in `branch.rs`, and what paired symbols do in
+//! `paired.rs`; here the branch is the second evaluator's alone.
 
 use volefleece::raw::{self, Checked, Figure, Listed};
 use volefleece_tests::cases::{self, cases};
@@ -12,7 +12,7 @@ use volefleece_tests::rng::Rng;
 use volefleece_tests::tables::*;
 
 const CEILING: u64 = 1_000_000_000_000;
-const ZEROS: [u64; 32] = [0; 32];
+const ZEROS: [u64; 40] = [0; 40];
 
 /// The library and the second evaluator both answer this list or refusal, and its figure.
 #[track_caller]
@@ -79,9 +79,12 @@ fn cases_j_and_k_follow_their_symbol() {
 
 // Symbols.
 
-/// Values that all differ, none of them 0.
-fn distinct_values() -> [u64; 32] {
-    std::array::from_fn(|at| 3 + 2 * at as u64)
+/// Values that all differ, none of them 0, the later ones each 1 below their first.
+fn distinct_values() -> [u64; 40] {
+    std::array::from_fn(|at| match at {
+        0..32 => 3 + 2 * at as u64,
+        _ => 2 + 2 * (at as u64 - 8),
+    })
 }
 
 #[test]
@@ -100,7 +103,7 @@ fn each_symbol_has_its_value() {
         let triangular = value * (value + 1) / 2;
         expect(&limit, &values, 512, Ok(&[(1, triangular), (0, 0)]));
     }
-    for symbol in 16..=31 {
+    for symbol in 16..=23 {
         let value = 3 + 2 * symbol;
         expect(&symbol_block(symbol), &values, 512, Ok(&[(value, 0)]));
         let both = symbol_limited(symbol_block(symbol), 2, 255);
@@ -108,12 +111,23 @@ fn each_symbol_has_its_value() {
         let both = triangular_limited(symbol_block(symbol), 2, 255);
         expect(&both, &values, 512, Ok(&[(value, 28), (0, 0)]));
     }
+    for symbol in 24..=31 {
+        let (first, later) = (3 + 2 * symbol, 2 + 2 * symbol);
+        let pairs = [(first, 1), (later, 0)];
+        expect(&symbol_block(symbol), &values, 512, Ok(&pairs));
+        let both = symbol_limited(symbol_block(symbol), 2, 255);
+        let pairs = [(first, 1), (later, 6), (0, 0)];
+        expect(&both, &values, 512, Ok(&pairs));
+        let both = triangular_limited(symbol_block(symbol), 2, 255);
+        let pairs = [(first, 1), (later, 27), (0, 0)];
+        expect(&both, &values, 512, Ok(&pairs));
+    }
 }
 
 #[test]
 fn a_plain_number_is_no_symbol() {
     let values = distinct_values();
-    for number in 0..=31 {
+    for number in 0..=40 {
         expect(&block(number), &values, 512, Ok(&[(number, 0)]));
         let bound = repeat(number, block(1), block(0));
         expect(&bound, &values, 512, Ok(&[(number, 0)]));
@@ -160,7 +174,7 @@ fn limits_on_loops_count_whole_passes() {
 // Triangular limits.
 
 /// Zeros, but for these symbols.
-fn values_of(symbols: &[(usize, u64)]) -> [u64; 32] {
+fn values_of(symbols: &[(usize, u64)]) -> [u64; 40] {
     let mut values = ZEROS;
     for &(symbol, value) in symbols {
         values[symbol] = value;
@@ -642,15 +656,15 @@ fn question_10_is_put_to_nodes_that_add_nothing_to_the_root() {
 
 #[test]
 fn question_10_is_put_with_the_values() {
-    let time = sequence(&[symbol_block(31), block(1)]);
+    let time = sequence(&[symbol_block(23), block(1)]);
     let bound = symbol_repeat(0, block(1_000_000), block(1));
     let mut values = ZEROS;
     values[0] = 999_999;
-    values[31] = CEILING - 1;
+    values[23] = CEILING - 1;
     expect(&time, &values, 512, Ok(&[(CEILING, 0)]));
     expect(&bound, &values, 512, Ok(&[(CEILING - 999_999, 0)]));
     values[0] = 1_000_000;
-    values[31] = CEILING;
+    values[23] = CEILING;
     expect(&time, &values, 512, Err(10));
     expect(&bound, &values, 512, Err(10));
 }
@@ -658,17 +672,17 @@ fn question_10_is_put_with_the_values() {
 // Question 9.
 
 /// Every value at its ceiling.
-fn ceilings() -> [u64; 32] {
+fn ceilings() -> [u64; 40] {
     std::array::from_fn(|at| if at < 16 { 1_000_000 } else { CEILING })
 }
 
 #[test]
 fn other_numbers_of_values_are_refused_9() {
-    for length in (0..=31).chain(33..=40).chain([64, 288, 65_568]) {
+    for length in (0..=39).chain(41..=48).chain([64, 296, 65_576]) {
         expect(&block(7), &vec![0; length], 512, Err(9));
     }
     expect(&block(7), &[], 512, Err(9));
-    expect(&block(7), &[0; 32], 512, Ok(&[(7, 0)]));
+    expect(&block(7), &[0; 40], 512, Ok(&[(7, 0)]));
 }
 
 #[test]
@@ -682,9 +696,13 @@ fn each_value_has_its_ceiling() {
         ),
     ];
     expect(&block(7), &ceilings(), 512, Ok(&[(7, 0)]));
-    for at in 0..32 {
+    for at in 0..40 {
         let ceiling = ceilings()[at];
         let mut values = ZEROS;
+        if at >= 32 {
+            // Its first, which it may not exceed.
+            values[at - 8] = ceiling;
+        }
         values[at] = ceiling;
         expect(&block(7), &values, 512, Ok(&[(7, 0)]));
         let over = [ceiling + 1, 1 << 40, 1 << 63, (1 << 32) + 1, u64::MAX];
@@ -804,12 +822,12 @@ fn question_13_comes_after_9_and_before_10() {
     expect(&table, &values_of(&[(0, 1_001)]), 512, Err(13));
     expect(&table, &values_of(&[(0, 1_000_001)]), 512, Err(9));
     // Another symbol's value, one that no node has, and the wrong number of values.
-    for at in [1, 15, 16, 31] {
+    for at in [1, 15, 16, 31, 32, 39] {
         let mut values = values_of(&[(0, 1_001)]);
         values[at] = CEILING + 1;
         expect(&table, &values, 512, Err(9));
     }
-    expect(&table, &values_of(&[(0, 1_001)])[..31], 512, Err(9));
+    expect(&table, &values_of(&[(0, 1_001)])[..39], 512, Err(9));
     // The list call's buffer comes before both.
     expect(&table, &values_of(&[(0, 1_001)]), 511, Err(8));
     expect(&table, &values_of(&[(0, 1_000_001)]), 511, Err(8));
@@ -863,20 +881,24 @@ fn fault(question: u64) -> Vec<u8> {
 }
 
 /// The questions in the order in which they are put.
-const ORDER: [u64; 11] = [1, 2, 3, 4, 5, 6, 7, 8, 9, 13, 10];
+const ORDER: [u64; 12] = [1, 2, 3, 4, 5, 6, 7, 8, 9, 13, 14, 10];
 
 /// Both calls' refusals of a table, values and a buffer that fail these questions.
 #[track_caller]
 fn expect_first(faults: &[u64]) {
     let children: Vec<_> = faults.iter().map(|&question| fault(question)).collect();
     let table = sequence(&children);
-    let values = if faults.contains(&9) {
-        [CEILING; 32]
-    } else if faults.contains(&13) {
-        values_of(&[(15, 1_001)])
+    let mut values = if faults.contains(&9) {
+        [CEILING; 40]
     } else {
         ZEROS
     };
+    if faults.contains(&13) {
+        values[15] = 1_001;
+    }
+    if faults.contains(&14) {
+        (values[31], values[39]) = (5, 6);
+    }
     let room = if faults.contains(&8) { 511 } else { 512 };
     let mut rng = Rng::new(0);
 
@@ -915,7 +937,7 @@ fn the_first_question_that_fails_answers() {
 #[test]
 fn bad_tables_are_refused_whatever_the_values() {
     let bad = fault(6);
-    for length in [0, 1, 31, 33] {
+    for length in [0, 1, 32, 39, 41] {
         expect(&bad, &vec![u64::MAX; length], 512, Err(6));
         expect(&bad, &vec![u64::MAX; length], 0, Err(6));
         expect(&[], &vec![u64::MAX; length], 0, Err(1));

@@ -33,7 +33,7 @@ const LONG_RUNS: Amounts = Amounts {
     time: 1_000_000,
     bound: 9,
     limit: 100_000,
-    symbols: 0,
+    symbols: 100,
 };
 
 /// Few different numbers, 0 among them, so that children of a choice are often equal.
@@ -112,6 +112,7 @@ fn trees_of_small_amounts() {
     quotes.assert_pairs(10..=99, 1_000);
     quotes.assert_branches((0..=3).chain([255]), 1_000);
     quotes.assert_triangular(&[(0, 30_000)]);
+    quotes.assert_paired(&[(0, 40_000)]);
 }
 
 /// What the bodies of loops name.
@@ -161,12 +162,13 @@ fn trees_of_middling_amounts() {
     quotes.assert_pairs(10..=99, 1_000);
     quotes.assert_pairs(100..=256, 20);
     quotes.assert_triangular(&[(0, 10_000), (10, 2_000)]);
+    quotes.assert_paired(&[(0, 10_000), (10, 2_000)]);
 }
 
 #[test]
 fn trees_of_long_runs() {
     let (mut rng, mut quotes) = start(203);
-    for _ in 0..30_000 {
+    for _ in 0..80_000 {
         let tree = good_tree(&mut rng, LONG_RUNS);
         let values = LONG_RUNS.values(&mut rng);
         quotes.compare(&tree.encode(), &values);
@@ -192,22 +194,28 @@ fn trees_of_large_amounts() {
     }
     quotes.assert_reached(&[(0, 10_000), (10, 10_000)]);
     quotes.assert_triangular(&[(0, 2_000), (10, 2_000), (13, 5_000)]);
+    quotes.assert_paired(&[(0, 2_000), (10, 2_000)]);
 }
 
 #[test]
 fn values_at_their_ceilings() {
     let (mut rng, mut quotes) = start(205);
-    for _ in 0..30_000 {
+    for _ in 0..40_000 {
         let tree = good_tree(&mut rng, SMALL);
         let mut values = SMALL.values(&mut rng);
         for _ in 0..rng.size(1..=3) {
-            let at = rng.index(32);
+            let at = rng.index(40);
             values[at] = if at < 16 { 1_000_000 } else { CEILING };
+        }
+        // A later one at its ceiling is past its first as a rule.
+        if rng.once_in(2) {
+            trees::lift_firsts(&mut values);
         }
         quotes.compare(&tree.encode(), &values);
     }
     quotes.assert_reached(&[(0, 10_000), (10, 3_000)]);
     quotes.assert_triangular(&[(0, 5_000), (10, 1_000), (13, 1_000)]);
+    quotes.assert_paired(&[(0, 5_000), (10, 1_000), (14, 1_000)]);
 }
 
 #[test]
@@ -272,7 +280,7 @@ fn largest_tables() {
     for round in 0..3_000 {
         let mut tree = trees::without_limits(&mut rng, 512);
         let wanted = rng.within(0..=255);
-        trees::put_limits(&mut rng, &mut tree, wanted);
+        trees::put_weights(&mut rng, &mut tree, wanted);
         if round % 2 == 0 {
             keep_low_limits(&mut tree);
         }
@@ -288,6 +296,7 @@ fn largest_tables() {
     quotes.assert_pairs(10..=99, 200);
     quotes.assert_pairs(100..=256, 5);
     quotes.assert_triangular(&[(0, 800), (10, 200)]);
+    quotes.assert_paired(&[(0, 500), (10, 100)]);
 }
 
 fn has_255_children(tree: &Tree) -> bool {
@@ -303,7 +312,7 @@ fn deepest_tables() {
         let size = tree.records() + rng.size(0..=40);
         trees::pad(&mut rng, &mut tree, size);
         let wanted = rng.within(0..=255);
-        trees::put_limits(&mut rng, &mut tree, wanted);
+        trees::put_weights(&mut rng, &mut tree, wanted);
         let amounts = [SMALL, MIDDLING][round % 2];
         amounts.set(&mut rng, &mut tree);
         let values = amounts.values(&mut rng);
@@ -312,6 +321,7 @@ fn deepest_tables() {
     quotes.assert_reached(&[(0, 5_000), (10, 500)]);
     quotes.assert_pairs(2..=256, 1_000);
     quotes.assert_triangular(&[(0, 4_000), (10, 1_000)]);
+    quotes.assert_paired(&[(0, 3_000), (10, 500)]);
 }
 
 // Question 10.
@@ -450,7 +460,7 @@ fn root_choice(rng: &mut Rng) -> Tree {
     });
     let mut root = Tree::new(Kind::Choice, children.collect());
     let wanted = rng.within(0..=20);
-    trees::put_limits(rng, &mut root, wanted);
+    trees::put_weights(rng, &mut root, wanted);
     FEW.set(rng, &mut root);
     root
 }
@@ -483,7 +493,7 @@ fn root_choices_of_up_to_255_children() {
             children[place] = Tree::block(9);
         }
         let root = Tree::new(Kind::Choice, children);
-        let quote = quotes.compare(&root.encode(), &[0; 32]);
+        let quote = quotes.compare(&root.encode(), &[0; 40]);
         let (figure, branch) = (9, nines.iter().fold(count, |one, &two| one.min(two)) as u64);
         assert_eq!(quote.quoted, Ok(Quoted { figure, branch }));
     }
@@ -615,11 +625,11 @@ fn wrong_values_are_refused_9() {
 /// Leaves too few, too many, or some past their ceilings.
 fn spoil(rng: &mut Rng, values: &mut Vec<u64>) {
     match rng.index(4) {
-        0 => values.truncate(rng.pick(&[0, 1, 16, 30, 31])),
-        1 => values.resize(rng.pick(&[33, 34, 64, 100]), 0),
+        0 => values.truncate(rng.pick(&[0, 1, 16, 31, 32, 33, 38, 39])),
+        1 => values.resize(rng.pick(&[41, 42, 64, 100]), 0),
         _ => {
             for _ in 0..rng.pick(&[1, 1, 1, 3]) {
-                let at = rng.index(32);
+                let at = rng.index(40);
                 let ceiling = if at < 16 { 1_000_000 } else { CEILING };
                 values[at] = rng.pick(&[ceiling + 1, 2 * ceiling, 1 << 63, u64::MAX]);
             }
@@ -647,14 +657,17 @@ fn buffers_of_every_length() {
 #[test]
 fn of_many_faults_the_first_answers() {
     let (mut rng, mut quotes) = start(213);
-    for _ in 0..60_000 {
+    for _ in 0..80_000 {
         let often = rng.within(1..=10);
-        let order = [1, 2, 3, 4, 5, 6, 7, 8, 9, 13, 10].into_iter();
+        let order = [1, 2, 3, 4, 5, 6, 7, 8, 9, 13, 14, 10].into_iter();
         let faults: Vec<u64> = order.filter(|_| rng.once_in(often)).collect();
         let table = faulty_table(&mut rng, &faults);
         let mut values = SMALL.values(&mut rng);
         if faults.contains(&13) {
             values[PAST_1000] = rng.pick(&[1_001, 1_002, 1_000_000]);
+        }
+        if faults.contains(&14) {
+            trees::put_past_first(&mut rng, &mut values);
         }
         if faults.contains(&9) {
             spoil(&mut rng, &mut values);
@@ -669,21 +682,23 @@ fn of_many_faults_the_first_answers() {
         let mut put = faults.into_iter().filter(|&question| question != 8);
         assert_eq!(quote.quoted.err(), put.next(), "no question 8");
     }
-    let answers = [0, 1, 2, 3, 4, 5, 6, 7, 9, 10, 13];
+    let answers = [0, 1, 2, 3, 4, 5, 6, 7, 9, 10, 13, 14];
     quotes.assert_reached(&answers.map(|answer| (answer, 1_000)));
+    quotes.assert_paired(&[(0, 500), (7, 300), (9, 300), (14, 300)]);
     quotes.assert_lists(&[(8, 1_000)]);
 }
 
 /// The symbol whose value fails question 13.
 const PAST_1000: usize = 11;
 
-/// A table of small amounts that fails these of questions 1 to 7 and 10, and 13 with that value.
+/// A table of small amounts that fails these of questions 1 to 7 and 10, and 13 with that value. Question
+/// 14 asks for the values alone.
 fn faulty_table(rng: &mut Rng, faults: &[u64]) -> Vec<u8> {
     let mut tree = faults::tree(rng, faults);
     SMALL.set(rng, &mut tree);
     let mut more = Vec::new();
     if faults.contains(&10) {
-        more.push(around_ceiling(rng, &Tree::block(0), 0, &[0; 32], 1));
+        more.push(around_ceiling(rng, &Tree::block(0), 0, &[0; 40], 1));
     }
     if faults.contains(&13) {
         let mut block = Tree::block(7);
@@ -707,8 +722,12 @@ fn noise_of_good_records() {
         if rng.once_in(2) {
             trees::put_about_1000(&mut rng, &mut values);
         }
+        if rng.once_in(8) {
+            trees::put_past_first(&mut rng, &mut values);
+        }
         quotes.compare(&table, &values);
     }
     quotes.assert_reached(&[(0, 10_000), (4, 500), (5, 100), (6, 1_000), (10, 1_000)]);
     quotes.assert_triangular(&[(0, 300), (10, 100), (13, 500)]);
+    quotes.assert_paired(&[(0, 500), (7, 10), (10, 300), (14, 100)]);
 }

@@ -208,10 +208,10 @@ impl Options {
     }
 }
 
-/// `value 0 is 40`, `31 values`, `room 511`, `allowance 1`.
+/// `value 0 is 40`, `39 values`, `room 511`, `allowance 1`.
 fn options<'t>(words: impl Iterator<Item = &'t str>) -> Result<Options, Wrong> {
     let mut options = Options {
-        values: vec![0; 32],
+        values: vec![0; 40],
         room: None,
         allowance: None,
     };

@@ -249,8 +249,8 @@ fn a_host_without_the_symbol_is_written_as_it_is() {
 fn each_symbol_is_replaced_alone() {
     let symbols = || (16..=31).map(symbol_block);
     let host = sequence(&symbols().collect::<Vec<_>>());
-    for symbol in 16..=31 {
-        let sent = once(symbol_block(if symbol == 16 { 31 } else { 16 }), 255);
+    for symbol in 16..=23 {
+        let sent = once(symbol_block(if symbol == 16 { 23 } else { 16 }), 255);
         let put = put(limited(sent.clone(), 1, 1));
         let mut children: Vec<_> = symbols().collect();
         children[symbol as usize - 16] = put;
@@ -264,7 +264,7 @@ fn each_symbol_is_replaced_alone() {
 #[test]
 fn the_sent_tables_other_fields_stay() {
     let sent = |limit: fn(Vec<u8>) -> Vec<u8>| {
-        let body = choice(&[limit(y()), sequence(&[block(CEILING), symbol_block(31)])]);
+        let body = choice(&[limit(y()), sequence(&[block(CEILING), symbol_block(23)])]);
         symbol_repeat(3, symbol_limited(body, 15, 1), limited(y(), 1_000_000, 255))
     };
     let mut expected = sent(|node| once(node, 2));
@@ -348,7 +348,7 @@ fn a_graft_may_be_grafted() {
 /// too, figure and branch.
 #[track_caller]
 fn quoted(host: &[u8], sent: &[u8], sent_figure: u64) -> Result<Quoted, u64> {
-    let mut values = [0; 32];
+    let mut values = [0; 40];
     values[17] = 20;
     assert_eq!(figure_of(sent, &values), Ok(sent_figure));
     values[16] = sent_figure;
@@ -433,7 +433,7 @@ fn figures_past_the_ceiling() {
     figures(&limited(x(), 0, 255), &at_ceiling, CEILING, Ok(0));
     // Where the sent table has no figure, neither has the written one, whatever the host's passes.
     let past = sequence(&[block(CEILING), block(1)]);
-    let values = [0; 32];
+    let values = [0; 40];
     assert_eq!(figure_of(&past, &values), Err(10));
     for host in [x(), limited(x(), 0, 255), repeat(0, x(), block(3))] {
         assert!(figure_of(&host, &values).is_ok());
@@ -462,7 +462,7 @@ fn grafting_does_not_ask_question_13() {
         (1_001, 1_000, Err(13)),
         (1_000, 1_001, Err(13)),
     ] {
-        let mut values = [0; 32];
+        let mut values = [0; 40];
         (values[0], values[1], values[17]) = (of_host, of_sent, 20);
         assert_eq!(figure_of(&written, &values), figure);
         let sent_figure = figure_of(&sent, &values);
@@ -477,20 +477,20 @@ fn grafting_does_not_ask_question_13() {
 // Question 11.
 
 #[test]
-fn symbols_other_than_16_to_31_are_refused_11() {
+fn symbols_other_than_16_to_23_are_refused_11() {
     let host = sequence(&(16..=31).map(symbol_block).collect::<Vec<_>>());
-    for symbol in 16..=31 {
+    for symbol in 16..=23 {
         assert!(graft_for(&host, &block(7), symbol).is_ok());
     }
-    for symbol in [0, 1, 7, 15, 32, 33, 48, 255] {
+    for symbol in [0, 1, 7, 15, 24, 25, 30, 31, 32, 33, 39, 48, 255] {
         assert_eq!(graft_for(&host, &block(7), symbol), Err(11));
         assert_eq!(graft_for(&block(7), &block(7), symbol), Err(11));
     }
     // With some of the low bytes alone these would be in range.
-    for symbol in [256 + 16, 65_536 + 31, (1 << 32) + 20, (1 << 63) + 16] {
+    for symbol in [256 + 16, 65_536 + 23, (1 << 32) + 20, (1 << 63) + 16] {
         assert_eq!(graft_for(&host, &block(7), symbol), Err(11));
     }
-    for symbol in [16 << 8, 16 << 32, 31 << 56, u64::MAX, u64::MAX - 15] {
+    for symbol in [16 << 8, 16 << 32, 23 << 56, u64::MAX, u64::MAX - 15] {
         assert_eq!(graft_for(&host, &block(7), symbol), Err(11));
     }
 }
@@ -665,6 +665,8 @@ fn questions_are_put_in_order() {
         for room in [0, 12_288] {
             assert_eq!(grafts.answer(host, &x(), 16, room), Err(11));
             assert_eq!(grafts.answer(host, &block(7), 32, room), Err(11));
+            assert_eq!(grafts.answer(host, &block(7), 24, room), Err(11));
+            assert_eq!(grafts.answer(host, &symbol_block(24), 16, room), Err(11));
         }
     }
     for host in &full {

@@ -4,7 +4,7 @@
 
 use std::ops::Range;
 use volefleece::raw;
-use volefleece_tests::compare::{has_flag_4, shown};
+use volefleece_tests::compare::{has_flag_4, has_pair, shown};
 use volefleece_tests::damage;
 use volefleece_tests::faults;
 use volefleece_tests::fits;
@@ -35,15 +35,17 @@ struct Pair {
 impl Pair {
     /// The symbol is in so many of the host's blocks, and nowhere in the sent table.
     fn new(rng: &mut Rng, mut host: Tree, mut sent: Tree, places: usize) -> Self {
-        let symbol = rng.within(16..=31);
+        let symbol = rng.within(16..=23);
         trees::put_symbol(rng, &mut host, symbol, places);
         trees::drop_symbol(&mut sent, symbol);
         Pair { host, sent, symbol }
     }
 
-    /// Trees of any shape, and any number of places.
+    /// Trees of any shape, and any number of places. The sent table has no paired symbol, which the host may
+    /// have.
     fn random(rng: &mut Rng, amounts: Amounts) -> Self {
-        let [host, sent] = [0; 2].map(|_| tree(rng, amounts));
+        let host = tree(rng, amounts);
+        let sent = tree(rng, amounts).unpaired();
         let places = rng.pick(&[0, 1, 1, 1, 2, 2, 3, 10, 512]);
         Pair::new(rng, host, sent, places)
     }
@@ -59,7 +61,7 @@ impl Pair {
     }
 }
 
-/// A tree of any shape, with limits of some weight.
+/// A tree of any shape, with paired symbols and limits of some weight.
 fn tree(rng: &mut Rng, amounts: Amounts) -> Tree {
     let most = rng.pick(&[4, 8, 12, 20, 40, 60, 100, 200]);
     let records = rng.size(1..=most);
@@ -69,7 +71,7 @@ fn tree(rng: &mut Rng, amounts: Amounts) -> Tree {
         low_tree(rng, records)
     };
     let wanted = rng.pick(&[0, 3, 10, 40, 120, 255]);
-    trees::put_limits(rng, &mut tree, wanted);
+    trees::put_weights(rng, &mut tree, wanted);
     amounts.set(rng, &mut tree);
     tree
 }
@@ -122,14 +124,21 @@ fn tables_of_any_shape() {
         if rng.once_in(30) {
             trees::put_symbol(&mut rng, &mut pair.sent, pair.symbol, 1);
         }
-        let is_used = pair.sent.places(pair.symbol) > 0;
+        if rng.once_in(20) {
+            let weight = rng.within(1..=9);
+            trees::put_pairs(&mut rng, &mut pair.sent, weight);
+        }
+        let is_used = pair.sent.places(pair.symbol) + pair.sent.pairs() > 0;
         let answer = pair.answer(&mut grafts, ROOM);
-        assert_eq!(answer == Err(11), is_used);
+        if answer != Err(7) {
+            assert_eq!(answer == Err(11), is_used);
+        }
         if answer.is_ok() {
             reached.count(&pair);
         }
     }
     grafts.assert_reached(&[(0, 60_000), (11, 3_000), (12, 10_000)]);
+    grafts.assert_paired(2_000);
     grafts.assert_places(10_000);
     reached.assert_all(1_000);
 }
@@ -285,16 +294,16 @@ fn symbols_are_read_whole() {
             // With some of the bytes alone these would be the host's.
             0 => pair.symbol + (1 << rng.within(5..=63)),
             1 => pair.symbol << (8 * rng.within(1..=7)),
-            2 => rng.pick(&[0, 15, 16, 31, 32, 255, 256, u64::MAX, u64::MAX - 15]),
-            3 => rng.within(0..=50),
+            2 => rng.pick(&[0, 15, 16, 23, 24, 31, 32, 255, 256, u64::MAX, u64::MAX - 15]),
+            3 => rng.within(10..=30),
             _ => rng.number(),
         };
-        let is_time = (16..=31).contains(&pair.symbol);
-        let is_refused = !is_time || pair.sent.places(pair.symbol) > 0;
+        let is_single = (16..=23).contains(&pair.symbol);
+        let is_refused = !is_single || pair.sent.places(pair.symbol) > 0;
         let answer = pair.answer(&mut grafts, ROOM);
         assert_eq!(answer == Err(11), is_refused);
     }
-    grafts.assert_reached(&[(0, 3_000), (11, 20_000)]);
+    grafts.assert_reached(&[(0, 2_500), (11, 20_000)]);
 }
 
 #[test]
@@ -340,7 +349,7 @@ fn results_of_about_512_records() {
         let host_records = records - places * (sent_records + 1);
         let [mut host, mut sent] =
             [host_records, sent_records].map(|records| low_tree(&mut rng, records));
-        trees::put_limits(&mut rng, &mut host, 55);
+        trees::put_weights(&mut rng, &mut host, 55);
         trees::put_limits(&mut rng, &mut sent, 200 / places as u64);
         let pair = Pair::new(&mut rng, host, sent, places);
         assert_eq!(pair.records(), records, "the host has blocks enough");
@@ -523,7 +532,7 @@ fn expect_first(rng: &mut Rng, grafts: &mut Grafts, faults: &[usize]) {
     let mut sent = faults::tree(rng, &of_sent);
     // The host may have all the weight.
     if of_sent.is_empty() {
-        sent = sent.unlimited();
+        sent = sent.unlimited().unpaired();
     }
     let mut pair = Pair::new(rng, host, sent, 0);
     if faults.contains(&RESULT) {
@@ -571,13 +580,13 @@ fn fail_result(rng: &mut Rng, pair: &mut Pair) {
     pair.host.children.push(spine);
 }
 
-/// Takes another symbol than 16 to 31, or puts it into the sent table.
+/// Takes another symbol than 16 to 23, or puts it or a paired one into the sent table.
 fn fail_symbol(rng: &mut Rng, pair: &mut Pair) {
     if rng.once_in(2) {
-        pair.symbol = rng.pick(&[0, 15, 32, pair.symbol + 256, u64::MAX]);
+        pair.symbol = rng.pick(&[0, 15, 24, 31, 32, pair.symbol + 256, u64::MAX]);
     } else {
         let place = rng.size(0..=pair.sent.children.len());
-        let block = Tree::symbol_block(pair.symbol);
+        let block = Tree::symbol_block(rng.pick(&[pair.symbol, 24, 31]));
         pair.sent.children.insert(place, block);
     }
 }
@@ -637,8 +646,8 @@ fn noise_of_every_kind() {
                 rng.pick(&noise::KINDS)(&mut rng)
             }
         });
-        // Of the time symbols, noise has but 16 and 31.
-        let symbol = rng.pick(&[16, 31, 20, 32]);
+        // Of the time symbols, noise has but 16, 23 and 24.
+        let symbol = rng.pick(&[16, 23, 24, 20, 32]);
         let room = rng.pick(&[ROOM, ROOM, 96]);
         grafts.compare(&host, &sent, symbol, room);
     }
@@ -668,10 +677,12 @@ struct Promise {
     put_nowhere: u64,
     /// Refusals 9.
     wrong_values: u64,
-    /// Refusals 13 of the written table.
+    /// Refusals 13 and 14 of the written table.
     past_1000: u64,
-    /// The figures of written tables with flag 4.
+    past_first: u64,
+    /// The figures of written tables with flag 4, and with a paired symbol.
     triangular: u64,
+    paired: u64,
 }
 
 impl Promise {
@@ -697,7 +708,7 @@ impl Promise {
             }
             Err(10 | 13) if written == host => self.put_nowhere += u64::from(quoted.is_ok()),
             Err(question) => {
-                // Question 13 is put to all of the written table before 10.
+                // Question 13 is put to all of the written table before 14 and 10.
                 let of_host = quotes::figure(rng, &host, values);
                 let first = if of_host == Err(13) { 13 } else { question };
                 assert_eq!(quoted, Err(first), "{}", shown(written));
@@ -706,6 +717,8 @@ impl Promise {
             }
         }
         self.past_1000 += u64::from(quoted == Err(13));
+        self.past_first += u64::from(quoted == Err(14));
+        self.paired += u64::from(quoted.is_ok() && has_pair(written));
         self.triangular += u64::from(quoted.is_ok() && has_flag_4(written));
         // The written table has no block of the symbol.
         if quoted != Err(9) {
@@ -724,7 +737,9 @@ impl Promise {
             self.put_nowhere,
             self.wrong_values,
             self.past_1000,
+            self.past_first,
             self.triangular,
+            self.paired,
         ];
         assert!(met.iter().all(|&met| met >= times), "{self:?}");
     }
@@ -753,17 +768,20 @@ fn desks(rng: &mut Rng, amounts: Amounts) -> [Vec<u64>; 4] {
     trees::put_about_1000(rng, &mut about_1000);
     let mut high = amounts.values(rng);
     for _ in 0..rng.size(1..=6) {
-        let at = rng.index(32);
+        let at = rng.index(40);
         high[at] = ceiling(at);
     }
+    if !rng.once_in(8) {
+        trees::lift_firsts(&mut high);
+    }
     let mut past = high.clone();
-    let at = rng.index(32);
+    let at = rng.index(40);
     past[at] = ceiling(at) + 1;
     [amounts.values(rng), about_1000, high, past]
 }
 
-fn ceiling(symbol: usize) -> u64 {
-    if symbol < 16 {
+fn ceiling(value: usize) -> u64 {
+    if value < 16 {
         1_000_000
     } else {
         CEILING
@@ -782,7 +800,7 @@ fn two_symbols_in_either_order() {
             let places = rng.size(0..=2);
             trees::put_symbol(&mut rng, tree, other, places);
         }
-        let mut last = tree(&mut rng, Amounts::SMALL);
+        let mut last = tree(&mut rng, Amounts::SMALL).unpaired();
         trees::drop_symbol(&mut last, symbol);
         trees::drop_symbol(&mut last, other);
 
@@ -823,7 +841,7 @@ fn tables_that_simplifying_wrote() {
             trees::redundant(&mut rng, records)
         });
         let places = rng.size(1..=3);
-        let pair = Pair::new(&mut rng, host, sent, places);
+        let pair = Pair::new(&mut rng, host, sent.unpaired(), places);
         let [host, sent] = [&pair.host, &pair.sent].map(Tree::encode);
         let mut simplified = |table: &[u8]| {
             let answer = simplifications::simplify(&mut rng, table, u64::MAX, table.len());

@@ -7,7 +7,7 @@ use volefleece::raw;
 use volefleece_tests::programs::{sample, TREE, VALUES};
 use volefleece_tests::tables::*;
 
-const ZEROS: [u64; 32] = [0; 32];
+const ZEROS: [u64; 40] = [0; 40];
 
 /// A null pointer in the place of the table, of the values and of the buffer, alone and together.
 #[test]
@@ -73,7 +73,7 @@ fn null_with_length_0_lends_nothing_to_write_to() {
 fn threads_may_call_at_once() {
     let tree = sample("workshop", TREE);
     let file = sample("workshop", VALUES);
-    let mut numbers = [0; 32];
+    let mut numbers = [0; 40];
     for (number, &bytes) in numbers.iter_mut().zip(file.as_chunks().0) {
         *number = u64::from_le_bytes(bytes);
     }

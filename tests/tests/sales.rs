@@ -6,7 +6,7 @@ use std::ffi::{OsStr, OsString};
 use std::os::unix::ffi::OsStringExt;
 use std::os::unix::fs::symlink;
 use volefleece_tests::cases::cases;
-use volefleece_tests::compare::{has_flag_4, shown};
+use volefleece_tests::compare::{has_flag_4, has_pair, shown};
 use volefleece_tests::faults;
 use volefleece_tests::programs::{sample, simplified_workshop, Folder, NONE, TREE, VALUES};
 use volefleece_tests::rng::Rng;
@@ -231,19 +231,39 @@ fn refusals_leave_no_file() {
 fn triangular_limits_are_kept() {
     let limit = |node| triangular_limited(node, 15, 255);
     let folder = with_tree(&sequence(&[limit(sequence(&[block(5)])), block(0)]));
-    folder.write(VALUES, &[255; 256]);
+    folder.write(VALUES, &[255; 320]);
     let written = folder.run(&NONE);
     assert_eq!(written.output, "simplified 24 steps 3 finished\n");
     assert_eq!(folder.read(SIMPLE), Some(limit(block(5))));
 }
 
-/// Question 10 is put with every symbol 0.
+/// A second child with a paired symbol is not shared, as one with another symbol is.
+#[test]
+fn paired_symbols_are_kept() {
+    let ways = |symbol| {
+        let pair = |time| sequence(&[block(time), symbol_block(symbol)]);
+        choice(&[pair(5), pair(4)])
+    };
+    for symbol in 24..=31 {
+        let folder = with_tree(&ways(symbol));
+        let written = folder.run(&NONE);
+        assert_eq!(written.output, "simplified 168 steps 0 finished\n");
+        assert_eq!(folder.read(SIMPLE), Some(ways(symbol)));
+    }
+    let folder = with_tree(&ways(23));
+    let written = folder.run(&NONE);
+    assert_eq!(written.output, "simplified 72 steps 2 finished\n");
+}
+
+/// Question 10 is put with every value 0.
 #[test]
 fn values_are_not_read() {
-    let folder = with_tree(&sequence(&[block(1_000_000_000_000), symbol_block(16)]));
-    folder.write(VALUES, &[255; 256]);
+    let times = [16, 24, 31].map(symbol_block);
+    let tree = [vec![block(1_000_000_000_000)], times.to_vec()].concat();
+    let folder = with_tree(&sequence(&tree));
+    folder.write(VALUES, &[255; 320]);
     expect(&folder, &NONE, u64::MAX);
-    assert_eq!(folder.read(VALUES), Some(vec![255; 256]));
+    assert_eq!(folder.read(VALUES), Some(vec![255; 320]));
 }
 
 #[test]
@@ -282,7 +302,7 @@ fn cases_are_simplified() {
 #[test]
 fn random_tables_are_simplified() {
     let mut rng = Rng::new(401);
-    let (mut spent, mut triangular) = (0, 0);
+    let (mut spent, mut triangular, mut paired) = (0, 0, 0);
     for _ in 0..400 {
         let records = rng.size(1..=60);
         let table = trees::redundant(&mut rng, records).encode();
@@ -292,14 +312,13 @@ fn random_tables_are_simplified() {
         let folder = with_tree(&table);
         expect(&folder, &[allowance.to_string()], allowance);
         expect(&folder, &NONE, u64::MAX);
-        triangular += u64::from(
-            folder
-                .read(SIMPLE)
-                .is_some_and(|simple| has_flag_4(&simple)),
-        );
+        let simple = folder.read(SIMPLE).expect("small amounts");
+        triangular += u64::from(has_flag_4(&simple));
+        paired += u64::from(has_pair(&simple));
     }
     assert!(spent > 100, "{spent} allowances were spent");
     assert!(triangular > 50, "{triangular} have flag 4");
+    assert!(paired > 50, "{paired} have a paired symbol");
 }
 
 #[test]

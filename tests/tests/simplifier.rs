@@ -9,7 +9,7 @@ use volefleece_tests::simplifications::{agreed, becomes, ends, stays};
 use volefleece_tests::simplifier::Simplified;
 use volefleece_tests::tables::*;
 
-const ZEROS: [u64; 32] = [0; 32];
+const ZEROS: [u64; 40] = [0; 40];
 
 fn x() -> Vec<u8> {
     symbol_block(16)

@@ -2,14 +2,15 @@
 //! count steps, and the tables on the way meet demand 3, for which the library checks and quotes them.
 //! Each test asserts that it has reached what it is for. The seeds are fixed.
 
+use std::ops::Range;
 use volefleece::raw::{self, Checked, Figure};
-use volefleece_tests::compare::{has_flag_4, shown};
+use volefleece_tests::compare::{has_flag_4, has_pair, shown};
 use volefleece_tests::fits;
 use volefleece_tests::rng::Rng;
 use volefleece_tests::simplifier::{simplify, trace, Trace};
 use volefleece_tests::trees::{self, Amount, Amounts, Kind, Tree};
 
-const ZEROS: [u64; 32] = [0; 32];
+const ZEROS: [u64; 40] = [0; 40];
 
 /// Mostly small, at times of a hundred records.
 fn records(rng: &mut Rng) -> usize {
@@ -27,6 +28,8 @@ fn every_step_is_the_lowest_rule_at_the_earliest_record() {
     let mut triangular = [0; 10];
     // And how often what rule 8 shares has it, and how often it is at other addresses elsewhere.
     let (mut shared, mut apart) = (0, 0);
+    // How often a step was taken with a paired symbol at or below its node, by its rule.
+    let mut paired = [0; 10];
     for round in 0..36_000 {
         let records = records(&mut rng);
         let tree = match round % 6 {
@@ -42,10 +45,13 @@ fn every_step_is_the_lowest_rule_at_the_earliest_record() {
             assert_changed_at(record, &pair[0], &pair[1]);
             taken[record.min(1)][rule] += 1;
             triangular[rule] += u64::from(has_flag_4(&pair[0][24 * record..][..24]));
+            let Range { start, end } = fits::subtree(&pair[0], record);
+            paired[rule] += u64::from(has_pair(&pair[0][24 * start..24 * end]));
             if rule == 8 {
                 let one = record + 1;
                 let other = fits::subtree(&pair[0], one).end;
                 let seconds = [one, other].map(|record| second_child(&pair[0], record));
+                assert!(!has_pair(seconds[0]), "{}", shown(&pair[0]));
                 shared += u64::from(has_flag_4(seconds[0]));
                 apart += u64::from(seconds[0] != seconds[1]);
             }
@@ -64,6 +70,10 @@ fn every_step_is_the_lowest_rule_at_the_earliest_record() {
     let others = [1, 4, 9].map(|rule| triangular[rule]);
     assert_eq!(others, [0; 3]);
     assert!(shared > 500 && apart > 2_000, "{shared}, {apart}");
+    // Rules 1 and 4 want no symbol at all.
+    let others = [2, 3, 5, 6, 7, 8, 9].map(|rule| paired[rule]);
+    assert!(others.iter().all(|&times| times > 200), "{paired:?}");
+    assert_eq!([1, 4].map(|rule| paired[rule]), [0; 2]);
 }
 
 /// The second child of the sequence of two at that record.
@@ -119,6 +129,10 @@ struct Demand3 {
     without: u64,
     /// How often of these a value was past 1,000 under flag 4.
     past_1000: u64,
+    /// How often a desk got a figure from a tree with a paired symbol, and how often another desk's with
+    /// raised values was higher.
+    paired: u64,
+    paired_higher: u64,
     /// How often another desk's figure with raised values was the same, and how often higher.
     same: u64,
     higher: u64,
@@ -147,6 +161,8 @@ impl Demand3 {
         };
         self.figures += 1;
         self.triangular += u64::from(has_flag_4(&tables[0]));
+        let is_paired = has_pair(&tables[0]);
+        self.paired += u64::from(is_paired);
         for table in some_of(rng, tables) {
             let accepted = Checked::accept(table.len() / 24);
             assert_eq!(raw::check(table), accepted, "{}", shown(table));
@@ -156,6 +172,7 @@ impl Demand3 {
                 assert!(sales >= reception, "{}", both(&tables[0], table));
                 self.same += u64::from(sales == reception);
                 self.higher += u64::from(sales > reception);
+                self.paired_higher += u64::from(is_paired && sales > reception);
             }
         }
     }
@@ -167,6 +184,12 @@ impl Demand3 {
         assert!(figures.iter().all(|&met| met >= times), "{self:?}");
     }
 
+    /// Figures of trees with a paired symbol, and higher ones with raised values.
+    fn assert_paired(&self, figures: u64, higher: u64) {
+        let met = self.paired >= figures && self.paired_higher >= higher;
+        assert!(met, "{self:?}");
+    }
+
     /// Figures with flag 4, and refusals 13.
     fn assert_triangular(&self, figures: u64, refused: u64) {
         let met = self.triangular >= figures && self.past_1000 >= refused;
@@ -174,14 +197,15 @@ impl Demand3 {
     }
 }
 
-/// The library's figure, unless it is too large, or a value is for flag 4.
+/// The library's figure, unless it is too large, or a value is for flag 4 or a later one.
 fn figure(table: &[u8], values: &[u64]) -> Option<u64> {
     match raw::figure(table, values) {
         Figure {
             refused: 0, figure, ..
         } => Some(figure),
         Figure {
-            refused: 10 | 13, ..
+            refused: 10 | 13 | 14,
+            ..
         } => None,
         answer => panic!("{answer:?}: {}", shown(table)),
     }
@@ -201,15 +225,15 @@ fn both(before: &[u8], after: &[u8]) -> String {
     format!("{}and after: {}", shown(before), shown(after))
 }
 
-fn ceiling(symbol: usize) -> u64 {
-    if symbol < 16 {
+fn ceiling(value: usize) -> u64 {
+    if value < 16 {
         1_000_000
     } else {
         1_000_000_000_000
     }
 }
 
-/// Values of which none is lower.
+/// Values of which none is lower, and now and then a later one higher than its first.
 fn raised(rng: &mut Rng, values: &[u64]) -> Vec<u64> {
     let often = rng.within(1..=6);
     let most = rng.pick(&[1, 3, 1_000]);
@@ -218,6 +242,9 @@ fn raised(rng: &mut Rng, values: &[u64]) -> Vec<u64> {
         if rng.once_in(often) {
             *value = ceiling(symbol).min(*value + rng.within(0..=most));
         }
+    }
+    if !rng.once_in(20) {
+        trees::lift_firsts(&mut values);
     }
     values
 }
@@ -232,7 +259,7 @@ fn desks(rng: &mut Rng) -> [Vec<u64>; 3] {
     };
     let mut large = SMALL.values(rng);
     for _ in 0..rng.size(1..=3) {
-        let symbol = 16 * rng.index(2) + rng.index(3);
+        let symbol = rng.pick(&[0, 0, 16, 24]) + rng.index(3);
         large[symbol] = ceiling(symbol);
         if symbol < 16 {
             large[symbol] = rng.pick(&[999, 1_000, 1_000, 1_001, ceiling(symbol)]);
@@ -253,6 +280,7 @@ fn small_tables_keep_their_figures() {
     }
     demand.assert_reached(5_000);
     demand.assert_triangular(10_000, 1_000);
+    demand.assert_paired(10_000, 5_000);
 }
 
 #[test]
@@ -266,6 +294,7 @@ fn largest_tables_keep_their_figures() {
     }
     demand.assert_reached(120);
     demand.assert_triangular(1_000, 100);
+    demand.assert_paired(500, 500);
 }
 
 #[test]
@@ -300,6 +329,7 @@ fn deepest_tables_keep_their_figures() {
     let deep = [2, 3, 4, 5, 6, 7, 9].map(|rule| demand.rules[rule]);
     assert!(deep.iter().all(|&taken| taken > 300), "{demand:?}");
     demand.assert_triangular(3_000, 50);
+    demand.assert_paired(2_000, 500);
 }
 
 #[test]

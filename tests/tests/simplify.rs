@@ -66,6 +66,7 @@ fn small_tables_at_every_allowance() {
     simplifications.assert_rules(&ALL_RULES, 5_000);
     simplifications.assert_finished_and_spent(200_000);
     simplifications.assert_triangular(30_000);
+    simplifications.assert_paired(30_000);
 }
 
 #[test]
@@ -80,6 +81,7 @@ fn small_tables_of_any_shape_at_every_allowance() {
     simplifications.assert_rules(&[1, 2, 3, 4, 5, 6, 7, 9], 1_000);
     simplifications.assert_finished_and_spent(20_000);
     simplifications.assert_triangular(1_500);
+    simplifications.assert_paired(1_500);
 }
 
 #[test]
@@ -90,6 +92,7 @@ fn choices_that_end_in_loops_at_every_allowance() {
     }
     simplifications.assert_rules(&[2, 3, 8], 10_000);
     simplifications.assert_triangular(50_000);
+    simplifications.assert_paired(20_000);
 }
 
 #[test]
@@ -102,6 +105,7 @@ fn tables_of_any_size_at_some_allowances() {
     simplifications.assert_rules(&ALL_RULES, 1_000);
     simplifications.assert_finished_and_spent(30_000);
     simplifications.assert_triangular(8_000);
+    simplifications.assert_paired(8_000);
 }
 
 #[test]
@@ -113,6 +117,7 @@ fn largest_tables() {
     simplifications.assert_rules(&ALL_RULES, 30);
     simplifications.assert_finished_and_spent(500);
     simplifications.assert_triangular(1_000);
+    simplifications.assert_paired(500);
 }
 
 #[test]
@@ -124,6 +129,7 @@ fn crowded_lists() {
     simplifications.assert_rules(&[2, 5, 6, 7], 50);
     simplifications.assert_finished_and_spent(500);
     simplifications.assert_triangular(1_000);
+    simplifications.assert_paired(500);
 }
 
 #[test]
@@ -136,6 +142,7 @@ fn deepest_tables() {
     simplifications.assert_rules(&[1, 2, 3, 4, 5, 6, 7, 9], 100);
     simplifications.assert_finished_and_spent(3_000);
     simplifications.assert_triangular(2_500);
+    simplifications.assert_paired(1_500);
 }
 
 #[test]
@@ -218,7 +225,9 @@ fn raised(rng: &mut Rng, values: &[u64]) -> Vec<u64> {
             value
         }
     };
-    values.iter().map(raise).collect()
+    let mut values: Vec<u64> = values.iter().map(raise).collect();
+    trees::lift_firsts(&mut values);
+    values
 }
 
 #[test]
@@ -243,7 +252,7 @@ fn no_desk_gets_a_figure_of_a_tree_that_is_too_large() {
                 assert_eq!(question, 10, "{}", shown(&table));
                 refused += 1;
                 let small = SMALL.values(&mut rng);
-                for values in [&[0; 32], &small[..]] {
+                for values in [&[0; 40], &small[..]] {
                     let answer = quotes::figure(&mut rng, &table, values);
                     assert_eq!(answer, Err(10), "{}", shown(&table));
                 }
@@ -334,7 +343,7 @@ fn question_10_is_put_with_every_symbol_0() {
     for _ in 0..20_000 {
         let records = rng.size(1..=20);
         let tree = trees::redundant(&mut rng, records);
-        let evaluated = evaluator::evaluate(&tree, &[0; 32]);
+        let evaluated = evaluator::evaluate(&tree, &[0; 40]);
         let first = evaluated.expect("small amounts").list.first();
         let over = rng.within(0..=1);
         let rest = Tree::block((CEILING - first + over).min(CEILING));

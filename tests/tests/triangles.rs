@@ -82,7 +82,7 @@ fn every_entry_is_a_figure() {
     let body = choice(&[triangular_limited(block(1), 6, 1), block(0)]);
     let table = repeat(1_000_000, body, block(0));
     let mut figures = Vec::new();
-    let mut values = [0; 32];
+    let mut values = [0; 40];
     for value in 0..=1_000 {
         values[6] = value;
         let quoted = quotes::agreed(&table, &values);

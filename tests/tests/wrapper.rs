@@ -86,10 +86,14 @@ fn table(rng: &mut Rng) -> Vec<u8> {
     table
 }
 
-/// Values in range or one of them not, some about the most of a triangular number, and not always 32.
+/// Values in range or one of them not, some about the most of a triangular number, a later one past its
+/// first, and not always 40.
 fn values(rng: &mut Rng) -> Vec<u64> {
     let mut values = MIDDLING.values(rng);
     trees::put_about_1000(rng, &mut values);
+    if rng.once_in(6) {
+        trees::put_past_first(rng, &mut values);
+    }
     match rng.index(12) {
         0 => values[rng.index(VALUES)] = rng.pick(&[1_000_001, 1_000_000_000_001, u64::MAX]),
         1 => values.truncate(rng.index(VALUES)),
@@ -129,7 +133,7 @@ fn figure() {
             *branches.entry(answer.branch).or_default() += 1;
         }
     }
-    let refused = [9, 10, 13].map(|number| (number, 100));
+    let refused = [9, 10, 13, 14].map(|number| (number, 100));
     assert_reached(&reached, &[&refused[..], &[(0, 1_000)]].concat());
     assert_reached(&branches, &[(NO_BRANCH, 500), (0, 50), (1, 50)]);
     assert!(branches.len() >= 50, "{branches:?}");
@@ -168,7 +172,7 @@ fn list() {
             *lengths.entry(pairs.len() as u64).or_default() += 1;
         }
     }
-    let refused = [9, 10, 13].map(|number| (number, 100));
+    let refused = [9, 10, 13, 14].map(|number| (number, 100));
     assert_reached(&reached, &[&refused[..], &[(0, 1_000)]].concat());
     assert_reached(&lengths, &[(1, 400), (2, 100), (3, 30), (4, 10), (5, 5)]);
 }
@@ -208,16 +212,20 @@ fn graft() {
     let (mut rng, mut reached) = (Rng::new(5), Reached::new());
     for _ in 0..6_000 {
         let symbol = match rng.index(8) {
-            0 => rng.pick(&[0, 15, 32, 256 + 16, u64::MAX]),
-            _ => rng.within(16..=31),
+            0 => rng.pick(&[0, 15, 24, 31, 32, 256 + 16, u64::MAX]),
+            _ => rng.within(16..=23),
         };
         let mut host = table(&mut rng);
         if rng.once_in(2) {
             let mut tree = tree(&mut rng);
-            trees::put_symbol(&mut rng, &mut tree, symbol.clamp(16, 31), 1);
+            trees::put_symbol(&mut rng, &mut tree, symbol.clamp(16, 23), 1);
             host = tree.encode();
         }
-        let sent = table(&mut rng);
+        // Most that are accepted have a paired symbol, which is refused.
+        let sent = match rng.index(3) {
+            0 => table(&mut rng),
+            _ => tree(&mut rng).unpaired().encode(),
+        };
         let mut room = vec![0; volefleece::MOST_TABLE];
         let answer = raw::graft(&host, &sent, symbol, &mut room);
         room.truncate(answer.length as usize);

@@ -1,6 +1,6 @@
 //! Safe calls of the proved volefleece library, which quotes the most processor cycles a battery door lock can stay awake for one opening.
 //!
-//! A table is 24-byte records and values are 32 numbers; docs/FORMAT.md has all of it. Each call answers what its contract in
+//! A table is 24-byte records and values are 40 numbers; docs/FORMAT.md has all of it. Each call answers what its contract in
 //! crates/volefleece promises, or the first question that says no as a [`Refusal`]. A call wants less than 192 KiB of stack, as measured
 //! (docs/BENCHMARKS.md).
 //!
@@ -37,10 +37,15 @@ pub use refusal::{FormerLength, Refusal};
 pub const RECORD_BYTES: usize = 24;
 /// The bytes of the longest table.
 pub const MOST_TABLE: usize = 12_288;
-/// How many values a quoting call wants.
-pub const VALUES: usize = 32;
+/// How many symbols there are.
+pub const SYMBOLS: usize = 32;
+/// How many values a quoting call wants: one for each symbol, then the later ones of the paired symbols.
+pub const VALUES: usize = 40;
 /// The first symbol that stands for a time; those before it stand for counts, as bounds and limits.
 pub const FIRST_TIME: usize = 16;
+/// The first symbol that is paired: it and those after it have a first value, for the first pass of a block in a run, and a later one, for its
+/// other passes.
+pub const FIRST_PAIRED: usize = 24;
 /// The largest count, which an absent one counts as.
 pub const MOST_COUNT: u64 = 1_000_000;
 /// The largest time, which an absent one counts as.
@@ -53,13 +58,24 @@ const LIST_ROOM: usize = 512;
 /// The branch of a figure whose root is no choice.
 const NO_BRANCH: u64 = 255;
 
-/// The largest value of a symbol.
-pub fn ceiling(symbol: usize) -> u64 {
-    if symbol < FIRST_TIME {
+/// The largest number that a value may be, of a symbol or, from 32 on, of a later value.
+pub fn ceiling(value: usize) -> u64 {
+    if value < FIRST_TIME {
         MOST_COUNT
     } else {
         MOST_TIME
     }
+}
+
+/// Which value is a symbol's later one, for the later passes of a block in a run: none unless it is paired.
+///
+/// ```
+/// assert_eq!(volefleece::later(volefleece::FIRST_PAIRED), Some(volefleece::SYMBOLS));
+/// assert_eq!(volefleece::later(16), None);
+/// ```
+pub fn later(symbol: usize) -> Option<usize> {
+    let paired = (FIRST_PAIRED..SYMBOLS).contains(&symbol);
+    paired.then(|| symbol + (SYMBOLS - FIRST_PAIRED))
 }
 
 /// What a table's tree costs under some values.
@@ -105,7 +121,7 @@ pub fn check(table: &[u8]) -> Result<usize, Refusal> {
     Ok(length(answer.records))
 }
 
-/// Puts questions 1 to 7, 9, 13 and 10, and answers the figure and the branch that sets it.
+/// Puts questions 1 to 7, 9, 13, 14 and 10, and answers the figure and the branch that sets it.
 ///
 /// ```
 /// let mut block = [0; volefleece::RECORD_BYTES];
@@ -125,7 +141,7 @@ pub fn figure(table: &[u8], values: &[u64]) -> Result<Quote, Refusal> {
     })
 }
 
-/// Puts questions 1 to 7, 9, 13 and 10, and answers the root's list: values falling, the last for ever.
+/// Puts questions 1 to 7, 9, 13, 14 and 10, and answers the root's list: values falling, the last for ever.
 ///
 /// ```
 /// // A block of 7 cycles, which passes at most 3 times in a run.
@@ -149,7 +165,7 @@ pub fn list(table: &[u8], values: &[u64]) -> Result<Vec<Members>, Refusal> {
     Ok(members.collect())
 }
 
-/// Puts questions 1 to 7, then 10 with every symbol 0, and answers what at most so many steps of simplification make of the table.
+/// Puts questions 1 to 7, then 10 with every value 0, and answers what at most so many steps of simplification make of the table.
 ///
 /// ```
 /// // A sequence of two blocks, 5 and 4 cycles.

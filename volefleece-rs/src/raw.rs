@@ -134,13 +134,13 @@ pub fn check(table: &[u8]) -> Checked {
     unsafe { vf_check(table.as_ptr(), table.len()) }
 }
 
-/// Puts questions 1 to 7, 9, 13 and 10 and answers the figure and its branch.
+/// Puts questions 1 to 7, 9, 13, 14 and 10 and answers the figure and its branch.
 pub fn figure(table: &[u8], values: &[u64]) -> Figure {
     // SAFETY: the pointers and lengths are those of live slices, which the call only reads.
     unsafe { vf_figure(table.as_ptr(), table.len(), values.as_ptr(), values.len()) }
 }
 
-/// Puts questions 1 to 9, 13 and 10 and writes the root's list.
+/// Puts questions 1 to 9, 13, 14 and 10 and writes the root's list.
 pub fn list(table: &[u8], values: &[u64], out: &mut [u64]) -> Listed {
     // SAFETY: the pointers and lengths are those of live slices, and only the one that is lent mutably is written.
     unsafe {
@@ -155,7 +155,7 @@ pub fn list(table: &[u8], values: &[u64], out: &mut [u64]) -> Listed {
     }
 }
 
-/// Puts questions 1 to 8, then 10 with every symbol 0, and writes what at most so many steps make of the table.
+/// Puts questions 1 to 8, then 10 with every value 0, and writes what at most so many steps make of the table.
 pub fn simplify(table: &[u8], allowance: u64, out: &mut [u8]) -> Simplified {
     // SAFETY: the pointers and lengths are those of live slices, and only the one that is lent mutably is written.
     unsafe {

@@ -28,7 +28,7 @@ pub enum Refusal {
     Depth,
     /// 6, of the loops that limits name.
     NamedLoop,
-    /// 7, of the limits' weight.
+    /// 7, of the weight of limits and paired symbols.
     Weight,
     /// 8, of the output buffer.
     Room,
@@ -36,17 +36,19 @@ pub enum Refusal {
     Values,
     /// 10, of a node's first member.
     Ceiling,
-    /// 11, of the symbol that a graft replaces.
+    /// 11, of the symbol that a graft replaces, and of the sent table's.
     ReplacedSymbol,
     /// 12, of what a graft makes.
     GraftedTable,
     /// 13, of the values whose triangular numbers are limits.
     TriangularNumber,
+    /// 14, of the later values.
+    LaterValue,
 }
 
 impl Refusal {
     /// Every refusal, by its number, from 1 on.
-    pub const ALL: [Refusal; 13] = [
+    pub const ALL: [Refusal; 14] = [
         Refusal::Length,
         Refusal::Fields,
         Refusal::Numbers,
@@ -60,6 +62,7 @@ impl Refusal {
         Refusal::ReplacedSymbol,
         Refusal::GraftedTable,
         Refusal::TriangularNumber,
+        Refusal::LaterValue,
     ];
 
     /// The refusal of that number, if it is one's.
@@ -84,17 +87,20 @@ impl Refusal {
             Refusal::Shape => "the records do not form exactly one tree",
             Refusal::Depth => "the tree is more than 32 nodes deep, or more than 8 loops are around a node",
             Refusal::NamedLoop => "a limit names a loop that is not around its node",
-            Refusal::Weight => "the limits weigh more than 255 together",
+            Refusal::Weight => "the limits and the paired symbols weigh more than 255 together",
             Refusal::Room => "the output buffer is too short",
             Refusal::Values => {
-                "there are not exactly 32 values, or one is above 1,000,000 (0 to 15) or 1,000,000,000,000 (16 to 31)"
+                "there are not exactly 40 values, or one is above 1,000,000 (0 to 15) or 1,000,000,000,000 (16 to 39)"
             }
             Refusal::Ceiling => "a node's first member, before its own limit, is above 1,000,000,000,000",
-            Refusal::ReplacedSymbol => "the replaced symbol is not 16 to 31, or the sent table uses it",
+            Refusal::ReplacedSymbol => {
+                "the replaced symbol is not 16 to 23, or the sent table uses it or a paired one, 24 to 31"
+            }
             Refusal::GraftedTable => {
-                "the grafted table is longer than 12,288 bytes, too deep, has too many loops around a node, or its limits weigh too much"
+                "the grafted table is longer than 12,288 bytes, too deep, has too many loops around a node, or its limits and paired symbols weigh too much"
             }
             Refusal::TriangularNumber => "a value whose triangular number is a limit is above 1,000",
+            Refusal::LaterValue => "a later value, 32 to 39, is above its symbol's first, 24 to 31",
         }
     }
 }

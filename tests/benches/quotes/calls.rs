@@ -1,6 +1,6 @@
 //! The calls against plain Rust.
 
-use crate::quote::{quotes, Quote, LIMITS, SIZES};
+use crate::quote::{quotes, Limits, Quote, LIMITS, SIZES};
 use volefleece::raw;
 use volefleece_tests::evaluator::{self, Quoted};
 use volefleece_tests::format::LIST_ROOM;
@@ -27,7 +27,7 @@ pub fn measure() {
     println!("figure call less the check, by the second evaluator on a tree that is read already.");
     println!("{HEADING}");
     for records in SIZES {
-        for limits in LIMITS {
+        for limits in LIMITS.into_iter().chain([Limits::Paired]) {
             let quotes = quotes(TABLES, records, limits);
             assert_agreed(&quotes);
             print!(

@@ -1,5 +1,6 @@
 //! The calls of this build against those of another one, on the same tables in one run: what a change
-//! made faster or slower. Both need the same C interface and the same form of tables.
+//! made faster or slower. Both need the same C interface and the same form of tables; of values each is
+//! lent as many as it wants.
 //!
 //! Each is loaded at four places, and the means of the best times there are compared.
 
@@ -13,7 +14,8 @@ use std::hint::black_box;
 use std::rc::Rc;
 use std::time::{Duration, Instant};
 use volefleece::raw::{Checked, Figure, Grafted, Listed, Simplified};
-use volefleece_tests::format::{LIST_ROOM, MOST_RECORDS, RECORD_BYTES};
+use volefleece_tests::format::{FORMER_VALUES, LIST_ROOM, MOST_RECORDS, RECORD_BYTES, VALUES};
+use volefleece_tests::trees::Tree;
 
 const TABLES: usize = 16;
 const REPETITIONS: usize = 201;
@@ -194,21 +196,29 @@ struct Build {
     list: unsafe extern "C" fn(*const u8, usize, *const u64, usize, *mut u64, usize) -> Listed,
     simplify: unsafe extern "C" fn(*const u8, usize, u64, *mut u8, usize) -> Simplified,
     graft: unsafe extern "C" fn(*const u8, usize, *const u8, usize, u64, *mut u8, usize) -> Grafted,
+    /// How many values it wants: without paired symbols the rest changes nothing.
+    values: usize,
 }
 
 impl Build {
     fn load(name: &str, archive: &str, place: usize) -> Build {
         let library = Loaded::new(name, archive, place);
         // SAFETY: the functions have the header's types.
-        unsafe {
+        let mut build = unsafe {
             Build {
                 check: library.function(c"vf_check"),
                 figure: library.function(c"vf_figure"),
                 list: library.function(c"vf_list"),
                 simplify: library.function(c"vf_simplify"),
                 graft: library.function(c"vf_graft"),
+                values: VALUES,
             }
+        };
+        // A refusal of the values has its own number and no figure beside it.
+        if build.figure(&Tree::block(7).encode(), &[0; VALUES]) == 9 {
+            build.values = FORMER_VALUES;
         }
+        build
     }
 }
 
@@ -221,12 +231,14 @@ impl Build {
     }
 
     fn figure(&self, table: &[u8], values: &[u64]) -> u64 {
+        let values = &values[..self.values];
         let (values, count) = (values.as_ptr(), values.len());
         let answer = unsafe { (self.figure)(table.as_ptr(), table.len(), values, count) };
         answer.refused + answer.figure + answer.branch
     }
 
     fn list(&self, table: &[u8], values: &[u64], out: &mut [u64]) -> u64 {
+        let values = &values[..self.values];
         let (values, count) = (values.as_ptr(), values.len());
         let (out, room) = (out.as_mut_ptr(), out.len());
         let answer = unsafe { (self.list)(table.as_ptr(), table.len(), values, count, out, room) };

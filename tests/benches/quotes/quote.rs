@@ -7,7 +7,7 @@ use volefleece_tests::trees::{self, Amount, Amounts, Kind, Limit, Tree};
 
 pub const SIZES: [usize; 4] = [64, 128, 256, 512];
 
-/// What limits a tree has. None has flag 4, but for the one kind.
+/// What limits a tree has. None has flag 4, and none a paired symbol, but for the one kind each.
 #[derive(Clone, Copy, PartialEq, Eq)]
 pub enum Limits {
     None,
@@ -21,8 +21,11 @@ pub enum Limits {
     Long,
     /// The same with the blocks side by side, so that every child is joined to a long list.
     Flat,
+    /// None, but paired symbols on as many blocks as question 7 lets through.
+    Paired,
 }
 
+/// Those that a build from before paired symbols can be measured on too.
 pub const LIMITS: [Limits; 6] = [
     Limits::None,
     Limits::Few,
@@ -41,6 +44,7 @@ impl Limits {
             Limits::Triangular => "triangular",
             Limits::Long => "long",
             Limits::Flat => "flat",
+            Limits::Paired => "paired",
         }
     }
 
@@ -51,6 +55,7 @@ impl Limits {
             Limits::Many | Limits::Triangular => limited_tree(rng, records, MOST_WEIGHT),
             Limits::Long => with_limited_blocks(trees::grow(rng, records, MOST_DEPTH, 0)),
             Limits::Flat => with_limited_blocks(flat_tree(rng, records)),
+            Limits::Paired => paired_tree(rng, records),
         }
     }
 }
@@ -58,6 +63,12 @@ impl Limits {
 fn limited_tree(rng: &mut Rng, records: usize, weight: u64) -> Tree {
     let mut tree = trees::without_limits(rng, records);
     trees::put_limits(rng, &mut tree, weight);
+    tree
+}
+
+fn paired_tree(rng: &mut Rng, records: usize) -> Tree {
+    let mut tree = trees::without_limits(rng, records);
+    trees::put_pairs(rng, &mut tree, MOST_WEIGHT);
     tree
 }
 

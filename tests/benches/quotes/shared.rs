@@ -70,7 +70,7 @@ impl Seconds {
     fn tree(self, rng: &mut Rng, (alternatives, records): (usize, usize)) -> Tree {
         let inner = match self {
             Seconds::Behind => finished(records - 2),
-            _ => trees::redundant(rng, records - 2).unlimited(),
+            _ => trees::redundant(rng, records - 2).unlimited().unpaired(),
         };
         // A choice, as the sequence around it would take a sequence in.
         let second = Tree::new(Kind::Choice, vec![inner, Tree::symbol_block(16)]);
@@ -87,7 +87,7 @@ impl Seconds {
         match self {
             Seconds::Behind => {
                 // In a choice, as the root would take a sequence in.
-                let inner = trees::redundant(rng, BEHIND - 3).unlimited();
+                let inner = trees::redundant(rng, BEHIND - 3).unlimited().unpaired();
                 let behind = Tree::new(Kind::Choice, vec![inner, Tree::symbol_block(16)]);
                 Tree::new(Kind::Sequence, vec![choice, behind])
             }

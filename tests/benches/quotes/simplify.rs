@@ -52,7 +52,7 @@ pub fn measure() {
 pub fn redundant(records: usize) -> Vec<Vec<u8>> {
     let mut rng = Rng::new(records as u64);
     let random = || {
-        let mut tree = trees::redundant(&mut rng, records);
+        let mut tree = trees::redundant(&mut rng, records).unpaired();
         trees::drop_triangles(&mut tree);
         tree.encode()
     };

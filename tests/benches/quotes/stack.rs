@@ -6,7 +6,9 @@ use std::env;
 use std::hint::black_box;
 use std::process::{Command, Stdio};
 use volefleece::raw;
-use volefleece_tests::format::{FORMER_RECORD_BYTES, LIST_ROOM, MOST_RECORDS, RECORD_BYTES};
+use volefleece_tests::format::{
+    FORMER_RECORD_BYTES, LIST_ROOM, MOST_RECORDS, RECORD_BYTES, VALUES,
+};
 use volefleece_tests::rng::Rng;
 use volefleece_tests::trees::{self, Amount, Amounts, Kind, Tree};
 
@@ -55,9 +57,9 @@ fn quote_and_simplify(rng: &mut Rng) {
     for loops in (0..=8).cycle().take(90) {
         let table = spine(rng, 32, loops, 255).encode();
         assert_eq!(raw::check(black_box(&table)).refused, 0);
-        assert_eq!(raw::figure(&table, &[0; 32]).refused, 0);
+        assert_eq!(raw::figure(&table, &[0; VALUES]).refused, 0);
         let mut out = vec![0; LIST_ROOM];
-        assert_eq!(raw::list(&table, &[0; 32], &mut out).refused, 0);
+        assert_eq!(raw::list(&table, &[0; VALUES], &mut out).refused, 0);
         let mut out = vec![0; table.len()];
         assert_eq!(raw::simplify(&table, u64::MAX, &mut out).refused, 0);
     }

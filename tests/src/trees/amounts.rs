@@ -1,5 +1,6 @@
 //! Times, bounds and limits for random trees, and values for their symbols, up to given sizes.
 
+use super::pairs::single;
 use super::triangles::often_triangular;
 use super::{Amount, Kind, Tree};
 use crate::format::*;
@@ -32,10 +33,17 @@ impl Amounts {
         symbols: 4,
     };
 
-    /// Gives every node of a tree another time, bound and limit. Which loops the limits name stays.
+    /// Gives every node of a tree another time, bound and limit. Which loops the limits name stays, and
+    /// where there are symbols at all, which blocks have paired ones and which of them.
     pub fn set(&self, rng: &mut Rng, tree: &mut Tree) {
+        let is_paired = tree.paired_symbol().is_some();
         match &mut tree.kind {
-            Kind::Block(time) => *time = self.amount(rng, self.time, TIME_SYMBOLS),
+            Kind::Block(time) => {
+                let other = single(self.amount(rng, self.time, TIME_SYMBOLS));
+                if !is_paired || self.symbols == 0 {
+                    *time = other;
+                }
+            }
             Kind::Loop(bound) => *bound = self.amount(rng, self.bound, COUNT_SYMBOLS),
             Kind::Sequence | Kind::Choice => {}
         }
@@ -56,9 +64,10 @@ impl Amounts {
         }
     }
 
-    /// Values of the same sizes.
+    /// Values of the same sizes, the later ones at most their first. These are drawn aside, so that the
+    /// others are the same as if there were none.
     pub fn values(&self, rng: &mut Rng) -> Vec<u64> {
-        (0..VALUES as u64)
+        let mut values: Vec<u64> = (0..FORMER_VALUES as u64)
             .map(|symbol| {
                 if TIME_SYMBOLS.contains(&symbol) {
                     plain(rng, self.time)
@@ -67,7 +76,13 @@ impl Amounts {
                     plain(rng, most)
                 }
             })
-            .collect()
+            .collect();
+        let mut aside = rng.aside();
+        for symbol in PAIRED_SYMBOLS {
+            let first = values[symbol as usize];
+            values.push(plain(&mut aside, first));
+        }
+        values
     }
 }
 

@@ -3,6 +3,7 @@
 
 mod addresses;
 mod amounts;
+mod pairs;
 mod places;
 mod random;
 mod redundant;
@@ -10,6 +11,7 @@ mod triangles;
 
 use crate::format::*;
 pub use amounts::Amounts;
+pub use pairs::{lift_firsts, put_pairs, put_past_first, put_weights};
 pub use places::{deepest_block, drop_symbol, put_symbol};
 pub use random::{
     about_question_5, grow, loops_around, pad, put_limits, spine, within_limits, without_limits,
@@ -122,7 +124,7 @@ impl Tree {
         }
     }
 
-    fn visit_mut(&mut self, visit: &mut impl FnMut(&mut Tree)) {
+    pub(crate) fn visit_mut(&mut self, visit: &mut impl FnMut(&mut Tree)) {
         visit(self);
         for child in &mut self.children {
             child.visit_mut(visit);

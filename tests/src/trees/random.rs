@@ -1,14 +1,15 @@
 //! Random trees whose size, depth, loops and weight are known by construction.
 
 use super::addresses::put_addresses;
+use super::pairs::{put_weights, single};
 use super::triangles::often_triangular;
 use super::{Amount, Kind, Limit, Tree};
 use crate::format::*;
 use crate::rng::Rng;
 use std::ops::RangeInclusive;
 
-/// A tree of exactly that many records that every question accepts, often with limits up to the
-/// full weight.
+/// A tree of exactly that many records that every question accepts, often with paired symbols and limits
+/// up to the full weight.
 pub fn within_limits(rng: &mut Rng, records: usize) -> Tree {
     let mut tree = without_limits(rng, records);
     let weight = match rng.index(4) {
@@ -16,12 +17,12 @@ pub fn within_limits(rng: &mut Rng, records: usize) -> Tree {
         1 => MOST_WEIGHT,
         _ => rng.within(1..=MOST_WEIGHT),
     };
-    put_limits(rng, &mut tree, weight);
+    put_weights(rng, &mut tree, weight);
     tree
 }
 
-/// A tree of exactly that many records, grown at random or, where it can be, along a spine with
-/// many loops.
+/// A tree without limits and paired symbols of exactly that many records, grown at random or, where it
+/// can be, along a spine with many loops.
 pub fn without_limits(rng: &mut Rng, records: usize) -> Tree {
     if (9..=200).contains(&records) && rng.once_in(2) {
         let depth = rng.size(5..=MOST_DEPTH.min(records.div_ceil(2)));
@@ -44,12 +45,12 @@ pub fn about_question_5(rng: &mut Rng) -> (Tree, usize, usize) {
     let size = tree.records() + rng.size(0..=20);
     pad(rng, &mut tree, size);
     let weight = rng.within(0..=MOST_WEIGHT);
-    put_limits(rng, &mut tree, weight);
+    put_weights(rng, &mut tree, weight);
     (tree, depth, loops)
 }
 
-/// A tree without limits of exactly that many records, at most that deep, with at most that many
-/// loops around any node.
+/// A tree without limits and paired symbols of exactly that many records, at most that deep, with at most
+/// that many loops around any node.
 pub fn grow(rng: &mut Rng, records: usize, depth: usize, loops: usize) -> Tree {
     assert!((1..=capacity(depth)).contains(&records), "no such tree");
     let mut tree = node(rng, records, depth, loops);
@@ -123,9 +124,9 @@ enum Step {
     List,
 }
 
-/// A tree without limits that is exactly that deep and has exactly that many loops around its
-/// deepest node, and no more around any other. The depth is at least the loops and 2, so that some
-/// step is a list, and there are at most two records for each step below the root.
+/// A tree without limits and paired symbols that is exactly that deep and has exactly that many loops
+/// around its deepest node, and no more around any other. The depth is at least the loops and 2, so that
+/// some step is a list, and there are at most two records for each step below the root.
 pub fn spine(rng: &mut Rng, depth: usize, loops: usize) -> Tree {
     let steps = spine_steps(rng, depth, loops);
     let end = block(rng);
@@ -267,7 +268,7 @@ pub(super) fn sequence_or_choice(rng: &mut Rng) -> Kind {
 }
 
 fn block(rng: &mut Rng) -> Tree {
-    let time = amount(rng, MOST_TIME, TIME_SYMBOLS);
+    let time = single(amount(rng, MOST_TIME, TIME_SYMBOLS));
     Tree::new(Kind::Block(time), Vec::new())
 }
 

@@ -1,9 +1,10 @@
 //! Random trees with much to simplify: lists of the kind of the list above, lists of one child, zeros,
 //! loops that are never passed, choices whose alternatives end alike but for addresses, and all of this
-//! with limits and symbols here and there.
+//! with limits and symbols here and there, some of them paired.
 
 use super::addresses::put_addresses;
-use super::random::{capacity, pad, put_limits, random_parts, sequence_or_choice, spine, split};
+use super::pairs::{at_times_paired, drop_heavy_pairs, put_weights};
+use super::random::{capacity, pad, random_parts, sequence_or_choice, spine, split};
 use super::triangles::{flip_first_triangle, often_triangular};
 use super::{Amount, Amounts, Kind, Limit, Tree};
 use crate::format::*;
@@ -36,7 +37,7 @@ pub fn crowded(rng: &mut Rng) -> Tree {
 }
 
 /// A choice of sequences of two that end in equal loops with a limit inside, so that nothing reaches
-/// out of them, or at times in loops that differ by flag 4 alone.
+/// out of them but at times a paired symbol, or at times in loops that differ by flag 4 alone.
 pub fn ending_in_loops(rng: &mut Rng) -> Tree {
     let mut growth = Growth {
         rng,
@@ -105,6 +106,7 @@ impl<'r> Growth<'r> {
     fn node(&mut self, records: usize, depth: usize, around: usize, above: Kind) -> Tree {
         if records == 1 {
             let time = self.amount(9, TIME_SYMBOLS);
+            let time = at_times_paired(self.rng, time);
             return Tree::new(Kind::Block(time), Vec::new());
         }
         let most = capacity(depth - 1);
@@ -193,10 +195,12 @@ fn is_list(kind: Kind) -> bool {
     matches!(kind, Kind::Sequence | Kind::Choice)
 }
 
-/// The tree with addresses, and without the limits that are past question 7's weight.
+/// The tree with addresses, and without the limits and then the paired symbols that are past question
+/// 7's weight.
 fn finished(rng: &Rng, mut tree: Tree) -> Tree {
     let mut left = MOST_WEIGHT;
     drop_heavy_limits(&mut tree, 0, &mut left);
+    drop_heavy_pairs(&mut tree, &mut left);
     put_addresses(rng, &mut tree);
     tree
 }
@@ -232,7 +236,7 @@ pub fn deepest(rng: &mut Rng) -> Tree {
     let records = tree.records() + rng.size(0..=20);
     pad(rng, &mut tree, records);
     let wanted = rng.pick(&[0, 3, 30, 255]);
-    put_limits(rng, &mut tree, wanted);
+    put_weights(rng, &mut tree, wanted);
     FEW.set(rng, &mut tree);
     tree
 }
