@@ -93,8 +93,9 @@ pub struct Counted {
 
 #[derive(Debug, Args)]
 pub struct Settings {
-    /// Set a count or a time, by its name or its symbol's number; may be given again
-    #[arg(long = "set", value_name = "NAME=NUMBER")]
+    /// Set a count or a time, by its name or its symbol's number; may be given again. Symbols 24 to 31 have two numbers, first and later, as
+    /// radio=90000,40000; one means both
+    #[arg(long = "set", value_name = "NAME=NUMBER[,LATER]")]
     pub set: Vec<Setting>,
 }
 

@@ -1,19 +1,22 @@
-//! The values that a desk gives: for each symbol a number or none. One that is not given counts as the largest.
+//! The values that a desk gives: for each symbol a number or none, and for each paired one a later number or none. One that is not given
+//! counts as the largest, but a later one as its first.
 
 use std::path::Path;
 
-use volefleece::{ceiling, Refusal, VALUES};
+use volefleece::{ceiling, later, Refusal, SYMBOLS, VALUES};
 
 use crate::failure::Outcome;
 use crate::names::Names;
 use crate::table::{Amount, Kind, Node};
+use crate::words::value_words;
 use crate::{files, text};
 
 const VALUE_BYTES: usize = 8;
 
-/// What values are given, by symbol.
+/// What values are given.
 #[derive(Clone, Debug, PartialEq, Eq)]
 pub struct Counts {
+    /// In the order of a file: by symbol, then the later ones.
     given: [Option<u64>; VALUES],
     /// The length of a file of values that no file of values has, which the library is to refuse.
     wrong_length: Option<usize>,
@@ -65,12 +68,23 @@ impl Counts {
         bytes_of(&self.values()[..last.map_or(0, |last| last + 1)])
     }
 
+    /// What is given for a symbol; for a paired one, its first value.
     pub fn given(&self, symbol: usize) -> Option<u64> {
         self.given[symbol]
     }
 
-    pub fn set(&mut self, symbol: usize, value: u64) {
+    /// The later value that is given for a symbol: none unless it is paired.
+    pub fn given_later(&self, symbol: usize) -> Option<u64> {
+        later(symbol).and_then(|value| self.given[value])
+    }
+
+    /// Gives a symbol's value, and with it both of a paired one: the later is the same where it is not given apart. One that is not paired
+    /// has no later value.
+    pub fn set(&mut self, symbol: usize, value: u64, later_value: Option<u64>) {
         self.given[symbol] = Some(value);
+        if let Some(later) = later(symbol) {
+            self.given[later] = later_value;
+        }
     }
 
     /// Whether any value is given.
@@ -78,12 +92,21 @@ impl Counts {
         self.given.iter().any(Option::is_some)
     }
 
-    /// Every symbol's value.
+    /// Every value, in the order of a file.
     pub fn values(&self) -> [u64; VALUES] {
-        std::array::from_fn(|symbol| self.given[symbol].unwrap_or(ceiling(symbol)))
+        let mut values = std::array::from_fn(|value| self.given[value].unwrap_or(ceiling(value)));
+        for (symbol, later) in pairs() {
+            values[later] = self.given[later].unwrap_or(values[symbol]);
+        }
+        values
     }
 
-    /// What the library is lent: every symbol's value, or none for a file of a wrong length, which question 9 then refuses in its turn.
+    /// What a symbol counts at a block's later passes in a run: none unless it is paired.
+    pub fn later_value(&self, symbol: usize) -> Option<u64> {
+        later(symbol).map(|later| self.values()[later])
+    }
+
+    /// What the library is lent: every value, or none for a file of a wrong length, which question 9 then refuses in its turn.
     pub fn lent(&self) -> Vec<u64> {
         match self.wrong_length {
             None => self.values().to_vec(),
@@ -102,24 +125,52 @@ impl Counts {
         self.wrong_length.is_some()
     }
 
-    /// What question 9 says no to, for a reader.
-    pub fn fault(&self, names: &Names) -> Option<String> {
-        if let Some(length) = self.wrong_length {
-            let most = Self::MOST_BYTES;
-            let length = match length {
-                length if length > most => format!("more than {most}"),
-                length => length.to_string(),
-            };
-            return Some(format!(
-                "the file of values has {length} bytes; expected a multiple of {VALUE_BYTES}, at most {most}"
-            ));
+    /// What a question about the values alone says no to, for a reader.
+    pub fn fault(&self, refusal: Refusal, names: &Names) -> Option<String> {
+        match refusal {
+            Refusal::Values => self.length_fault().or_else(|| self.range_fault(names)),
+            Refusal::LaterValue => self.later_fault(names),
+            _ => None,
         }
+    }
+
+    fn length_fault(&self) -> Option<String> {
+        let most = Self::MOST_BYTES;
+        let length = match self.wrong_length? {
+            length if length > most => format!("more than {most}"),
+            length => length.to_string(),
+        };
+        Some(format!(
+            "the file of values has {length} bytes; expected a multiple of {VALUE_BYTES}, at most {most}"
+        ))
+    }
+
+    fn range_fault(&self, names: &Names) -> Option<String> {
         let values = self.values();
-        let symbol = (0..VALUES).find(|&symbol| values[symbol] > ceiling(symbol))?;
-        let (name, most) = (names.symbol(symbol), ceiling(symbol));
-        let value = values[symbol];
+        let above = (0..VALUES).find(|&value| values[value] > ceiling(value))?;
+        let later = pairs().find(|&(_, later)| later == above);
+        let name = later.map_or_else(
+            || names.symbol(above),
+            |(symbol, _)| format!("the later value of {}", names.symbol(symbol)),
+        );
+        let (value, most) = (values[above], ceiling(above));
         Some(format!("{name} is {value}, and at most {most} is allowed"))
     }
+
+    fn later_fault(&self, names: &Names) -> Option<String> {
+        let values = self.values();
+        let (symbol, _) = pairs().find(|&(symbol, later)| values[later] > values[symbol])?;
+        let (name, words) = (names.symbol(symbol), value_words(symbol, self));
+        let most = values[symbol];
+        Some(format!(
+            "{name} is {words}, and later at most {most} is allowed"
+        ))
+    }
+}
+
+/// The paired symbols, each with the place of its later value in a file.
+fn pairs() -> impl Iterator<Item = (usize, usize)> {
+    (0..SYMBOLS).filter_map(|symbol| Some((symbol, later(symbol)?)))
 }
 
 /// Values as a file has them.

@@ -8,6 +8,7 @@ mod text;
 
 use std::ops::Range;
 
+use crate::counts::Counts;
 use crate::names::Names;
 use crate::table::{self, Kind, Node, Place};
 use head::Head;
@@ -24,6 +25,7 @@ text{font-family:'DejaVu Sans Mono','Liberation Mono',Menlo,Consolas,monospace;f
 .small{font-size:11px;fill:#374151}
 .branch{font-weight:bold}
 .limit{fill:#5b21b6}
+.pair{fill:#1d4ed8}
 .address{fill:#374151}
 .block rect{fill:#f3f4f6;stroke:#4b5563}
 .sequence rect{fill:#dbeafe;stroke:#1d4ed8}
@@ -38,11 +40,11 @@ text{font-family:'DejaVu Sans Mono','Liberation Mono',Menlo,Consolas,monospace;f
 
 /// The picture of a table that the library accepts, as an SVG file's text. `branch` is the child of the root choice that sets the quote,
 /// where counts are given.
-pub fn svg(table: &[u8], names: &Names, branch: Option<usize>) -> String {
+pub fn svg(table: &[u8], names: &Names, counts: Option<&Counts>, branch: Option<usize>) -> String {
     let nodes = table::nodes(table);
     let (places, _) = table::places(&table::records(table));
     let mark = branch.and_then(|child| Mark::find(&nodes, &places, child));
-    let labels = labels(&nodes, &places, names, mark.as_ref());
+    let labels = labels(&nodes, &places, names, counts, mark.as_ref());
     let head = head::head(&nodes, &places, names, mark.as_ref().map(|mark| mark.child));
 
     let sizes: Vec<_> = labels.iter().map(Label::size).collect();
@@ -108,7 +110,13 @@ impl Mark {
     }
 }
 
-fn labels(nodes: &[Node], places: &[Place], names: &Names, mark: Option<&Mark>) -> Vec<Label> {
+fn labels(
+    nodes: &[Node],
+    places: &[Place],
+    names: &Names,
+    counts: Option<&Counts>,
+    mark: Option<&Mark>,
+) -> Vec<Label> {
     let root_is_choice = nodes[0].kind == Kind::Choice;
     let marked = mark.map(|mark| mark.child);
     let lines_of = |(node, place): (&Node, &Place)| {
@@ -118,7 +126,7 @@ fn labels(nodes: &[Node], places: &[Place], names: &Names, mark: Option<&Mark>) 
         };
         // A branch without a name needs its number only where the legend speaks of it.
         let branch = child.filter(|&child| Some(child) == marked || names.branch(child).is_some());
-        Label::new(node, names, branch)
+        Label::new(node, names, counts, branch)
     };
     nodes.iter().zip(places).map(lines_of).collect()
 }

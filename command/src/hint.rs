@@ -2,7 +2,7 @@
 
 use std::ops::Range;
 
-use volefleece::{ceiling, Refusal, FIRST_TIME, RECORD_BYTES, VALUES};
+use volefleece::{ceiling, Refusal, FIRST_TIME, RECORD_BYTES, SYMBOLS};
 
 use crate::table::{
     places, records, Amount, Ending, Kind, Node, Place, Record, Scope, BLOCK, FILLER, LOOP,
@@ -130,7 +130,7 @@ fn number_fault(node: Node) -> Option<String> {
         .limit
         .and_then(|limit| amount_fault("limit", limit.amount, &counts));
     limit.or_else(|| match node.kind {
-        Kind::Block(time) => amount_fault("time", time, &(FIRST_TIME..VALUES)),
+        Kind::Block(time) => amount_fault("time", time, &(FIRST_TIME..SYMBOLS)),
         Kind::Loop(bound) => amount_fault("bound", bound, &counts),
         Kind::Sequence | Kind::Choice => None,
     })
@@ -147,7 +147,7 @@ fn amount_fault(name: &str, amount: Amount, symbols: &Range<usize>) -> Option<St
             let is = match usize::try_from(symbol) {
                 Ok(allowed) if symbols.contains(&allowed) => return None,
                 Ok(count) if count < FIRST_TIME => "is a count",
-                Ok(time) if time < VALUES => "is a time",
+                Ok(time) if time < SYMBOLS => "is a time",
                 _ => "does not exist",
             };
             let (least, most) = (symbols.start, symbols.end - 1);
@@ -210,22 +210,38 @@ fn naming_fault(place: Place, scope: Scope) -> Option<String> {
     }
 }
 
-/// Where the limits, from the first record on, begin to weigh too much.
+/// Where limits and paired symbols, from the first record on, begin to weigh too much.
 fn weight_fault(records: &[Record]) -> Option<Hint> {
     let mut sum = 0_u64;
-    first(scopes(records).into_iter().map(|(place, scope)| {
-        let inside = match scope? {
-            Scope::Loop(number) => u32::from(number) - 1,
-            Scope::Run => u32::try_from(place.loops).expect("fewer than a table's records"),
+    let places = places(records).0.into_iter();
+    first(places.zip(records).map(|(place, record)| {
+        let node = record.node()?;
+        let limit = node.limit.map(|limit| weight(limit.scope, place));
+        // As a limit in the whole run would, beside its own.
+        let paired = node.paired_symbol().map(|_| weight(Scope::Run, place));
+        for weight in limit.into_iter().chain(paired) {
+            sum = sum.saturating_add(weight);
+        }
+        let words = match (limit, paired) {
+            (None, None) => return None,
+            (Some(limit), None) => format!("its limit weighs {limit} and brings"),
+            (None, Some(paired)) => format!("its paired symbol weighs {paired} and brings"),
+            (Some(limit), Some(paired)) => {
+                format!("its limit weighs {limit}, its paired symbol {paired}, and both bring")
+            }
         };
-        let weight = 2_u64.saturating_pow(inside);
-        sum = sum.saturating_add(weight);
-        (sum > MOST_WEIGHT).then(|| {
-            format!(
-                "its limit weighs {weight} and brings the sum of weights to {sum}, above {MOST_WEIGHT}"
-            )
-        })
+        (sum > MOST_WEIGHT)
+            .then(|| format!("{words} the sum of weights to {sum}, above {MOST_WEIGHT}"))
     }))
+}
+
+/// What a limit weighs that counts in this.
+fn weight(scope: Scope, place: Place) -> u64 {
+    let inside = match scope {
+        Scope::Loop(number) => u32::from(number) - 1,
+        Scope::Run => u32::try_from(place.loops).expect("fewer than a table's records"),
+    };
+    2_u64.saturating_pow(inside)
 }
 
 fn counted(number: u8, one: &str, many: &str) -> String {

@@ -3,15 +3,16 @@
 use std::io::{self, BufRead, IsTerminal, Write};
 use std::path::Path;
 
-use volefleece::{ceiling, Quote, Refusal, FIRST_TIME, MOST_TRIANGULAR};
+use volefleece::{ceiling, Quote, Refusal, FIRST_PAIRED, MOST_TRIANGULAR, SYMBOLS};
 
 use crate::counts::Counts;
 use crate::failure::{note, Failure, Outcome};
 use crate::files;
-use crate::table::{self, Amount, Kind, Node};
+use crate::names::class;
+use crate::table::{self, is_paired, Amount, Kind, Node};
 use crate::text::digits;
 use crate::tree::{self, read_names, Tree};
-use crate::words::{on_one_line, unaddressed_words};
+use crate::words::{on_one_line, unaddressed_words, unit, value_words};
 
 const TABLE: &str = "values.tab";
 const TEXT: &str = "values.txt";
@@ -28,7 +29,7 @@ pub struct House {
     pub title: String,
 }
 
-/// A number that is set for a symbol, as `cards=40`.
+/// A number that is set for a symbol, as `cards=40`, or both of a paired one, as `radio=90000,40000`.
 #[derive(Clone, Debug)]
 pub struct Setting {
     pub name: String,
@@ -70,17 +71,17 @@ impl House {
     /// Sets a symbol, by its name or its number, and answers which.
     pub fn set(&mut self, setting: &Setting) -> Outcome<usize> {
         let Setting { name, value } = setting;
-        let symbol = self.tree.names.find_or_number(name);
-        let symbol =
-            symbol.map_err(|why| Failure::Problem(format!("--set {name}={value}: {why}")))?;
-        let most = ceiling(symbol);
-        let number = digits(value, most).ok_or_else(|| {
-            Failure::Problem(format!(
-                "--set {name}={value}: expected a number from 0 to {most}"
-            ))
-        })?;
-        self.counts.set(symbol, number);
+        let wrong = |why: String| Failure::Problem(format!("--set {name}={value}: {why}"));
+        let symbol = self.tree.names.find_or_number(name).map_err(wrong)?;
+        let (first, later) = numbers(symbol, value).map_err(wrong)?;
+        self.counts.set(symbol, first, later);
         Ok(symbol)
+    }
+
+    /// What a symbol is, its name, and what it counts.
+    pub fn count_line(&self, symbol: usize) -> String {
+        let (class, name) = (class(symbol), self.tree.names.symbol(symbol));
+        format!("{class} {name} {}", value_words(symbol, &self.counts))
     }
 
     /// Says which of these symbols, that were set, the tree has no use for.
@@ -113,8 +114,8 @@ impl House {
         for symbol in self.absent(nodes) {
             let name = self.tree.names.symbol(symbol);
             if ask && io::stdin().is_terminal() && io::stderr().is_terminal() {
-                let value = ask_for(&name, symbol, most(symbol, nodes))?;
-                self.counts.set(symbol, value);
+                let (first, later) = ask_for(&name, symbol, most(symbol, nodes))?;
+                self.counts.set(symbol, first, later);
             } else {
                 note(&not_given(&name, symbol));
             }
@@ -122,7 +123,7 @@ impl House {
         Ok(())
     }
 
-    /// The symbols that the tree uses and nothing gives; none where question 9 refuses the values whatever these are given.
+    /// The symbols that the tree uses and nothing gives; none where the values are refused whatever these are given.
     pub fn absent(&self, nodes: &[Node]) -> Vec<usize> {
         if self.counts.refusal().is_some() {
             return Vec::new();
@@ -141,7 +142,7 @@ impl House {
     /// A refusal of this house's tree and counts, with what a reader may look at first.
     pub fn refused(&self, refusal: Refusal) -> Failure {
         let hint = match refusal {
-            Refusal::Values => self.counts.fault(&self.tree.names),
+            Refusal::Values | Refusal::LaterValue => self.counts.fault(refusal, &self.tree.names),
             Refusal::TriangularNumber => self.wrong_triangular(),
             Refusal::Ceiling => Some(self.too_large()),
             _ => return self.tree.refused(refusal),
@@ -153,7 +154,7 @@ impl House {
     fn too_large(&self) -> String {
         let absent = self.absent(&table::nodes(&self.tree.table));
         let mut low = self.counts.clone();
-        absent.iter().for_each(|&symbol| low.set(symbol, 0));
+        absent.iter().for_each(|&symbol| low.set(symbol, 0, None));
         if volefleece::figure(&self.tree.table, &low.lent()).is_err() {
             return self.tree.too_large("these values");
         }
@@ -239,36 +240,74 @@ fn most(symbol: usize, nodes: &[Node]) -> u64 {
     }
 }
 
-/// What stands behind a symbol's value.
-pub fn unit(symbol: usize) -> &'static str {
-    if symbol < FIRST_TIME {
-        ""
-    } else {
-        " cycles"
-    }
-}
-
 /// What is said of a value that is not given.
 pub fn not_given(name: &str, symbol: usize) -> String {
     format!("{name} is not given and counts {}", ceiling(symbol))
 }
 
-/// Asks until a number in range is typed. Whole lines are read, so that the terminal itself tells the end of input and an interrupt.
-fn ask_for(name: &str, symbol: usize, most: u64) -> Outcome<u64> {
-    let mut input = io::stdin().lock();
+/// The number that a setting has for a symbol, and the later one where it has both, or what was expected.
+fn numbers(symbol: usize, value: &str) -> Result<(u64, Option<u64>), String> {
+    let most = ceiling(symbol);
+    let (first, later) = match value.split_once(',') {
+        None => (value, None),
+        Some((first, later)) => (first.trim(), Some(later.trim())),
+    };
+    if !is_paired(symbol) && later.is_some() {
+        let (least, most) = (FIRST_PAIRED, SYMBOLS - 1);
+        return Err(format!(
+            "expected one number: symbols {least} to {most} alone have a later one"
+        ));
+    }
+    let both = match is_paired(symbol) {
+        false => "",
+        true => ", or a first and a later one, as 90000,40000",
+    };
+    let expected = || format!("expected a number from 0 to {most}{both}");
+    // The zeros of 90,000 are no later number: it would be read as 90, then 0.
+    let later_digits = |later: &str| {
+        let has_zeros = later.len() > 1 && later.starts_with('0');
+        digits(later, most).filter(|_| !has_zeros)
+    };
+    let first = digits(first, most).ok_or_else(expected)?;
+    let later = later.map(|later| later_digits(later).ok_or_else(expected));
+    Ok((first, later.transpose()?))
+}
+
+/// Asks for a symbol's number; for a paired one's first, then for its later one, which is the first where none is typed.
+fn ask_for(name: &str, symbol: usize, most: u64) -> Outcome<(u64, Option<u64>)> {
     let unit = unit(symbol);
+    let paired = is_paired(symbol);
+    let first = if paired { " first" } else { "" };
+    let prompt = format!("{name}{first} (0 to {most}{unit}): ");
+    let please = format!("a number from 0 to {most}, please");
+    let first = ask(name, &prompt, &please, |line| digits(line, most))?;
+    if !paired {
+        return Ok((first, None));
+    }
+    let prompt = format!("{name} later (0 to {first}{unit}, {first} if nothing is typed): ");
+    let please = format!("a number from 0 to {first}, please: later is at most the first");
+    let later = ask(name, &prompt, &please, |line| match line {
+        "" => Some(None),
+        line => digits(line, first).map(Some),
+    })?;
+    Ok((first, later))
+}
+
+/// Asks until a line is typed that can be read so. Whole lines are read, so that the terminal itself tells the end of input and an interrupt.
+fn ask<T>(name: &str, prompt: &str, please: &str, read: impl Fn(&str) -> Option<T>) -> Outcome<T> {
+    let mut input = io::stdin().lock();
     loop {
-        let _ = write!(io::stderr(), "{name} (0 to {most}{unit}): ");
+        let _ = write!(io::stderr(), "{prompt}");
         let mut line = Vec::new();
-        let read = input.read_until(b'\n', &mut line);
-        if read.is_err() || line.is_empty() {
+        let got = input.read_until(b'\n', &mut line);
+        if got.is_err() || line.is_empty() {
             note("");
             let message = format!("{name}: no number was typed; --set {name}=NUMBER gives one");
             return Err(Failure::Problem(message));
         }
-        match digits(String::from_utf8_lossy(&line).trim(), most) {
-            Some(number) => return Ok(number),
-            None => note(&format!("a number from 0 to {most}, please")),
+        match read(String::from_utf8_lossy(&line).trim()) {
+            Some(typed) => return Ok(typed),
+            None => note(please),
         }
     }
 }

@@ -2,7 +2,7 @@
 
 use std::collections::{BTreeMap, BTreeSet};
 
-use volefleece::{FIRST_TIME, VALUES};
+use volefleece::{FIRST_TIME, SYMBOLS};
 
 use crate::text::{digits, no_utf8};
 
@@ -147,7 +147,7 @@ impl Names {
 
     /// The symbol of that number or name, or which names there are.
     pub fn find_or_number(&self, symbol: &str) -> Result<usize, String> {
-        let number = digits(symbol, VALUES as u64 - 1).map(|number| number as usize);
+        let number = digits(symbol, SYMBOLS as u64 - 1).map(|number| number as usize);
         let found = number.or_else(|| self.find(symbol));
         found.ok_or_else(|| {
             let names: Vec<&str> = self.symbols.values().map(String::as_str).collect();
@@ -198,7 +198,7 @@ fn plain_name(symbol: usize) -> String {
 
 fn by_plain_name(name: &str) -> Option<usize> {
     let (_, number) = name.rsplit_once('-')?;
-    let symbol = number.parse().ok().filter(|&symbol| symbol < VALUES)?;
+    let symbol = number.parse().ok().filter(|&symbol| symbol < SYMBOLS)?;
     (plain_name(symbol) == name).then_some(symbol)
 }
 

@@ -221,6 +221,16 @@ impl Node {
         }
     }
 
+    /// The symbol of a block that has a first and a later value.
+    pub fn paired_symbol(self) -> Option<usize> {
+        match self.kind {
+            Kind::Block(Amount::Symbol(symbol)) => usize::try_from(symbol)
+                .ok()
+                .filter(|&symbol| is_paired(symbol)),
+            _ => None,
+        }
+    }
+
     /// The symbols that the node has, as its value and as its limit.
     pub fn symbols(self) -> impl Iterator<Item = usize> {
         let limit = self.limit.map(|limit| limit.amount);
@@ -311,4 +321,28 @@ pub fn symbols(nodes: &[Node]) -> Vec<usize> {
     symbols.sort_unstable();
     symbols.dedup();
     symbols
+}
+
+/// Whether a symbol has a first and a later value.
+pub fn is_paired(symbol: usize) -> bool {
+    volefleece::later(symbol).is_some()
+}
+
+/// The paired symbols that nodes use, in order.
+pub fn paired_symbols(nodes: &[Node]) -> Vec<usize> {
+    let mut symbols = symbols(nodes);
+    symbols.retain(|&symbol| is_paired(symbol));
+    symbols
+}
+
+/// The records of a table with a plain time in place of each paired symbol, so that they weigh what they did before symbols were paired.
+pub fn unpaired(table: &[u8]) -> Vec<u8> {
+    let plain = |record: Record| match record.node() {
+        Some(node) if node.paired_symbol().is_some() => {
+            let kind = Kind::Block(Amount::Plain(0));
+            Node { kind, ..node }.record().bytes()
+        }
+        _ => record.bytes(),
+    };
+    records(table).into_iter().flat_map(plain).collect()
 }

@@ -133,17 +133,21 @@ impl Tree {
         match refusal {
             Refusal::Length => return Some(self.wrong_length()),
             // Of simplifying, which asks it so. A house has more to say.
-            Refusal::Ceiling => return Some(self.too_large("every symbol 0")),
+            Refusal::Ceiling => return Some(self.too_large("every value 0")),
             _ => {}
         }
         let hint = hint::find(&self.table, refusal)?;
-        let record = self.record_words(hint.record);
-        let place = match &self.source {
-            Source::Text(path, lines) => format!("{}:{}", path.display(), lines[hint.record]),
-            Source::Table(path) => format!("{}: {record}", path.display()),
-            Source::Answer | Source::Missing(_) => record,
-        };
-        Some(format!("{place}: {}", hint.what))
+        Some(format!("{}: {}", self.place(hint.record), hint.what))
+    }
+
+    /// Where a record stands: the file, and there its line, or its number, byte and address.
+    pub fn place(&self, record: usize) -> String {
+        let words = self.record_words(record);
+        match &self.source {
+            Source::Text(path, lines) => format!("{}:{}", path.display(), lines[record]),
+            Source::Table(path) => format!("{}: {words}", path.display()),
+            Source::Answer | Source::Missing(_) => words,
+        }
     }
 
     /// A record by its number, its first byte and its address.
@@ -154,14 +158,13 @@ impl Tree {
         format!("record {record} (byte {byte}{address})")
     }
 
-    /// That the file holds a former table, where what it is converted to is accepted: no table of today's is taken for one.
+    /// That the file holds a former table, where it was accepted as one: no table of today's is taken for one.
     fn former(&self) -> Option<String> {
         let Source::Table(path) = &self.source else {
             return None;
         };
         let converted = volefleece::convert(&self.table).ok()?;
-        volefleece::check(&converted).ok()?;
-        Some(format!(
+        was_accepted(&converted).then(|| format!(
             "{} is a former table, with 16 bytes a record: `volefleece convert` makes a table of it",
             path.display()
         ))
@@ -202,6 +205,11 @@ impl Tree {
             files::replace(path, &self.table, said)
         }
     }
+}
+
+/// Whether a converted table was accepted as the former one that it is made of: a paired symbol weighed nothing then.
+pub fn was_accepted(converted: &[u8]) -> bool {
+    volefleece::check(&table::unpaired(converted)).is_ok()
 }
 
 /// How long a file's table is, of which no more was read than tells.

@@ -1,5 +1,8 @@
-//! The words for a node, in texts and pictures alike.
+//! The words for a node and for a symbol's value, the same wherever they are said.
 
+use volefleece::FIRST_TIME;
+
+use crate::counts::Counts;
 use crate::names::Names;
 use crate::table::{Amount, Kind, Limit, Node, Scope};
 
@@ -57,6 +60,36 @@ fn amount_words(amount: Amount, names: &Names) -> String {
         Amount::Plain(number) => number.to_string(),
         Amount::Symbol(symbol) => name(symbol),
         Amount::Triangular(symbol) => format!("triangular {}", name(symbol)),
+    }
+}
+
+/// What is said of a paired symbol, or of a block that has it, where no values are given.
+pub const PAIRED: &str = "first and later";
+
+/// What a symbol counts, of a paired one first and later, and what of that nobody gives.
+pub fn value_words(symbol: usize, counts: &Counts) -> String {
+    let (value, unit) = (counts.values()[symbol], unit(symbol));
+    let given = match counts.given(symbol) {
+        Some(_) => "",
+        None => " (not given)",
+    };
+    let value = format!("{value}{unit}{given}");
+    let Some(later) = counts.later_value(symbol) else {
+        return value;
+    };
+    let given = match counts.given_later(symbol) {
+        Some(_) => "",
+        None => " (as the first)",
+    };
+    format!("first {value}, later {later}{unit}{given}")
+}
+
+/// What stands behind a symbol's value.
+pub fn unit(symbol: usize) -> &'static str {
+    if symbol < FIRST_TIME {
+        ""
+    } else {
+        " cycles"
     }
 }
 

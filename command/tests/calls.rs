@@ -5,7 +5,7 @@ mod common;
 use std::collections::BTreeSet;
 
 use common::*;
-use volefleece::{ceiling, Members, Refusal};
+use volefleece::{Members, Refusal};
 use volefleece_tests::programs::{Folder, TREE, VALUES};
 use volefleece_tests::rng::Rng;
 use volefleece_tests::trees::{self, Amount, Kind, Tree};
@@ -14,7 +14,7 @@ const OUT: &str = "out.tab";
 
 /// How often each answer, 0 or a refusal's number, was compared.
 #[derive(Default)]
-struct Answers([u64; 14]);
+struct Answers([u64; 15]);
 
 impl Answers {
     /// The command says this, and writes this file where there is one, or refuses as the call does and writes none.
@@ -77,10 +77,11 @@ fn check_says_what_the_tree_has() {
         folder.write(TREE, &tree.encode());
         let mut found = BTreeSet::new();
         symbols(&tree, &mut found);
-        let class = |symbol: u64| if symbol < 16 { "count" } else { "time" };
-        let lines = found
-            .iter()
-            .map(|&symbol| format!("symbol {symbol} {}-{symbol}\n", class(symbol)));
+        let lines = found.iter().map(|symbol| match symbol {
+            0..16 => format!("symbol {symbol} count-{symbol}\n"),
+            16..24 => format!("symbol {symbol} time-{symbol}\n"),
+            _ => format!("symbol {symbol} time-{symbol} (first and later)\n"),
+        });
         let lines: String = lines.collect();
         let said = format!(
             "accepted\nrecords {records}\ndepth {}\n{lines}",
@@ -109,14 +110,12 @@ fn check_refuses_what_the_call_refuses() {
 
 /// What a file of values says to the call; of a wrong length, nothing that it takes.
 fn numbers(file: &[u8]) -> Vec<u64> {
-    if file.len() > 256 || file.len() % 8 != 0 {
+    if file.len() > 320 || file.len() % 8 != 0 {
         return Vec::new();
     }
-    let mut values: Vec<u64> = (0..32).map(ceiling).collect();
-    for (value, bytes) in values.iter_mut().zip(file.chunks(8)) {
-        *value = u64::from_le_bytes(bytes.try_into().expect("eight bytes"));
-    }
-    values
+    let bytes = file.chunks(8);
+    let numbers = bytes.map(|bytes| u64::from_le_bytes(bytes.try_into().expect("eight bytes")));
+    all_values(&numbers.collect::<Vec<u64>>())
 }
 
 fn shown(members: &Members) -> String {
@@ -145,7 +144,7 @@ fn list_says_what_the_call_answers() {
         let said = list.map(|list| (list.iter().map(shown).collect(), None));
         answers.compare(&folder, &["list", "."], said);
     }
-    answers.assert_reached(&[0, 1, 2, 3, 4, 5, 6, 7, 9, 10, 13]);
+    answers.assert_reached(&[0, 1, 2, 3, 4, 5, 6, 7, 9, 10, 13, 14]);
     assert!(members > 20, "{members}");
 }
 
@@ -185,6 +184,15 @@ fn simplify_writes_what_the_call_writes() {
     assert!(finished > 10 && spent > 10, "{finished}, {spent}");
 }
 
+/// Gives the blocks that have a paired symbol another one.
+fn unpair(table: &mut [u8]) {
+    let records = table.chunks_exact_mut(24);
+    let blocks = records.filter(|record| record[0] == 0 && record[1] & 1 > 0);
+    for block in blocks.filter(|block| (24..32).contains(&block[8])) {
+        block[8] -= 8;
+    }
+}
+
 #[test]
 fn graft_writes_what_the_call_writes() {
     let mut rng = Rng::new(905);
@@ -198,13 +206,17 @@ fn graft_writes_what_the_call_writes() {
             1 => tables[rng.index(2)] = random::table(&mut rng),
             _ => {}
         }
+        // As a supplier would send it, most often.
+        if !rng.once_in(4) {
+            unpair(&mut tables[1]);
+        }
         // Near the longest, so that some are too long.
         if round % 10 == 0 {
             tables[1] = trees::without_limits(&mut rng, 500).encode();
         }
         folder.write(TREE, &tables[0]);
         folder.write("sent.tab", &tables[1]);
-        let symbol = rng.within(14..=31);
+        let symbol = rng.within(14..=25);
         let grafted = volefleece::graft(&tables[0], &tables[1], symbol);
         grown += u64::from(
             grafted

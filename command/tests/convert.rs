@@ -4,6 +4,7 @@
 mod common;
 
 use common::*;
+use volefleece::Refusal;
 use volefleece_tests::converter::converted;
 use volefleece_tests::programs::{sample, written, Folder, TREE};
 use volefleece_tests::reader;
@@ -13,6 +14,7 @@ use volefleece_tests::trees;
 
 const OLD: &str = "old.tab";
 const CONVERT: [&str; 4] = ["convert", OLD, "-o", TREE];
+const NOW_PAIRED: &str = "the former table was accepted: its symbols of 24 to 31 have a first and a later value now, and each block with one weighs as a limit per run does\n";
 
 fn made(records: usize) -> String {
     match records {
@@ -119,7 +121,11 @@ fn what_no_call_accepts_is_made_all_the_same() {
             None => String::new(),
             Some(_) => {
                 let check = ends(folder.command().args(["check", TREE]), 1).output;
-                format!("made, but no call accepts it: {check}")
+                let told = format!("made, but no call accepts it: {check}");
+                match reader::check_former(&old) {
+                    Ok(_) => told + NOW_PAIRED,
+                    Err(_) => told,
+                }
             }
         };
         assert_eq!(said.error, told);
@@ -129,6 +135,41 @@ fn what_no_call_accepts_is_made_all_the_same() {
         reached.iter().all(|&refusal| refusals[refusal] > 0),
         "{refusals:?}"
     );
+}
+
+/// A table that was accepted before symbols were paired, and weighs too much since.
+#[test]
+fn a_table_that_was_accepted_once_is_told() {
+    let folder = folder();
+    for (body, refusal) in [
+        (symbol_block(24), Some("its paired symbol weighs 256 and brings the sum of weights to 256")),
+        (
+            limited(symbol_block(31), 3, 1),
+            Some("its limit weighs 1, its paired symbol 256, and both bring the sum of weights to 257"),
+        ),
+        (symbol_block(23), None),
+    ] {
+        let table = in_loops(8, 1, body);
+        let old = table.chunks_exact(24).flat_map(|record| &record[..16]);
+        folder.write(OLD, &old.copied().collect::<Vec<u8>>());
+        let said = ends(folder.command().args(CONVERT), 0);
+        assert_eq!(said.output, made(17));
+        assert_eq!(folder.read(TREE), Some(table));
+        let told = refusal.map(|what| {
+            let place = format!("{TREE}: record 8 (byte 192)");
+            let refused = Refusal::Weight;
+            let told = format!("made, but no call accepts it: {refused}\nhint: {place}: {what}, above 255\n");
+            told + NOW_PAIRED
+        });
+        assert_eq!(said.error, told.unwrap_or_default());
+    }
+    // One that its limits alone make too heavy was never accepted.
+    let table = in_loops(8, 1, limited(symbol_block(24), 3, 255));
+    let old = table.chunks_exact(24).flat_map(|record| &record[..16]);
+    folder.write(OLD, &old.copied().collect::<Vec<u8>>());
+    let said = ends(folder.command().args(CONVERT), 0);
+    assert!(said.error.contains("refused 7: "), "{}", said.error);
+    assert!(!said.error.contains("was accepted"), "{}", said.error);
 }
 
 /// The program leaves the same tree.tab in its folder, whatever old.tab holds.

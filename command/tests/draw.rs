@@ -13,6 +13,7 @@ mod xml;
 use case::Case;
 use checks::check;
 use picture::{squeezed, Node};
+use volefleece_command::counts::Counts;
 use volefleece_command::names::{Named, Names};
 use volefleece_tests::reader;
 use volefleece_tests::rng::Rng;
@@ -58,11 +59,27 @@ fn add(names: &mut Names, named: Named, name: &str) {
     names.add(named, name).expect("a name");
 }
 
+/// Counts for some of the paired symbols, first and later or one for both, up to the longest numbers.
+fn random_counts(rng: &mut Rng) -> Counts {
+    let mut counts = Counts::default();
+    for symbol in 24..32 {
+        let first = rng.pick(&[0, 9, 60_000, 1_000_000_000_000]);
+        let later = rng.within(0..=first);
+        match rng.index(3) {
+            0 => counts.set(symbol, first, Some(later)),
+            1 => counts.set(symbol, first, None),
+            _ => {}
+        }
+    }
+    counts
+}
+
 fn random_case(rng: &mut Rng, tree: Tree) -> Case {
     let branch = rng.index(tree.children.len().max(1));
     Case {
         branch: rng.once_in(2).then_some(branch),
         names: random_names(rng),
+        counts: rng.once_in(2).then(|| random_counts(rng)),
         tree,
     }
 }
@@ -71,6 +88,7 @@ fn random_case(rng: &mut Rng, tree: Tree) -> Case {
 fn random_trees() {
     let mut rng = Rng::new(1);
     let (mut marked, mut limited, mut addressed) = (0, 0, 0);
+    let mut paired = [0; 2];
     for _ in 0..250 {
         let most = rng.pick(&[6, 20, 20, 60, 150]);
         let records = rng.size(1..=most);
@@ -80,7 +98,13 @@ fn random_trees() {
         marked += usize::from(!case.marked().is_empty());
         limited += usize::from(case.tree != case.tree.unlimited());
         addressed += usize::from(case.tree != case.tree.unaddressed());
+        let is_paired = case
+            .expected()
+            .iter()
+            .any(|node| case::paired(node.tree).is_some());
+        paired[usize::from(case.counts.is_some())] += usize::from(is_paired);
     }
+    assert!(paired.iter().all(|&times| times >= 20), "{paired:?}");
     assert!(
         marked >= 30 && limited >= 120 && (120..250).contains(&addressed),
         "{marked} {limited} {addressed}"
@@ -132,6 +156,7 @@ fn every_branch_of_a_root_choice_can_be_marked() {
             let case = Case {
                 branch: Some(branch),
                 names: random_names(&mut rng),
+                counts: None,
                 tree: tree.clone(),
             };
             assert_eq!(case.marked().len(), tree.children[branch].records());
@@ -171,6 +196,7 @@ fn long_names_and_large_numbers_make_boxes_higher_and_not_much_wider() {
     let picture = check(&Case {
         tree,
         names,
+        counts: None,
         branch: Some(1),
     });
     assert!(picture.page.right < 1_000.0, "{:?}", picture.page);
@@ -192,7 +218,7 @@ fn sample(folder: &str) -> Case {
     );
     let table = std::fs::read(file).expect("a sample");
     let mut case = Case::plain(reader::check(&table).expect("an accepted sample"));
-    for (symbol, name) in [(0, "cards"), (1, "retries"), (16, "radio")] {
+    for (symbol, name) in [(0, "cards"), (1, "retries"), (16, "radio"), (24, "cipher")] {
         add(&mut case.names, Named::Symbol(symbol), name);
     }
     case
@@ -248,4 +274,45 @@ fn sample_entrance_with_the_branch_that_sets_its_quote() {
     assert_eq!(marked, [4, 5, 6]);
     assert_eq!(picture.nodes[4].label(), "branch1byradiosequence");
     assert_eq!(picture.title, "Oak Street 12: 7 records, 3 deep");
+}
+
+/// Both numbers stand on each block that has the symbol, or that there are two.
+#[test]
+fn sample_cipher_with_its_first_and_later_numbers() {
+    let mut counts = Counts::default();
+    counts.set(24, 60_000, Some(9_000));
+    let mut alone = Counts::default();
+    alone.set(24, 60_000, None);
+    let mut other = Counts::default();
+    other.set(0, 40, None);
+    for (counts, words) in [
+        (None, "first and later"),
+        (Some(counts), "first 60000 cycles, later 9000 cycles"),
+        (
+            Some(alone),
+            "first 60000 cycles, later 60000 cycles (as the first)",
+        ),
+        (
+            Some(other),
+            "first 1000000000000 cycles (not given), later 1000000000000 cycles (as the first)",
+        ),
+    ] {
+        let picture = check(&Case {
+            counts,
+            ..sample("cipher")
+        });
+        let labels: Vec<String> = picture.nodes.iter().map(Node::label).collect();
+        let cipher = format!("block cipher {words}");
+        let expected = [
+            "sequence",
+            "block 1200",
+            &cipher,
+            "loop cards",
+            "sequence",
+            "block 340",
+            &cipher,
+            "block 60",
+        ];
+        assert_eq!(labels, expected.map(squeezed));
+    }
 }

@@ -41,11 +41,11 @@ fn draw(folder: &Folder, arguments: &[&str]) -> (String, String) {
     (picture, written.error)
 }
 
-/// It draws that table with those names and that branch, and has nothing to add.
+/// It draws that table, which has no paired symbols, with those names and that branch, and has nothing to add.
 #[track_caller]
 fn draws(folder: &Folder, arguments: &[&str], table: &[u8], names: &Names, branch: Option<usize>) {
     let (picture, error) = draw(folder, arguments);
-    let expected = svg(table, names, branch);
+    let expected = svg(table, names, None, branch);
     assert!(picture == expected, "{arguments:?} {branch:?}\n{picture}");
     assert_eq!(error, "");
     assert_eq!(picture.contains("sets the quote"), branch.is_some());
@@ -53,9 +53,7 @@ fn draws(folder: &Folder, arguments: &[&str], table: &[u8], names: &Names, branc
 
 /// The branch that the library answers for these values, where those after them count the most.
 fn branch(table: &[u8], values: &[u64]) -> Option<usize> {
-    let absent = (values.len()..32).map(ceiling);
-    let values: Vec<u64> = values.iter().copied().chain(absent).collect();
-    let quote = volefleece::figure(table, &values).expect("a figure");
+    let quote = volefleece::figure(table, &all_values(values)).expect("a figure");
     quote.branch.map(usize::from)
 }
 
@@ -161,7 +159,7 @@ fn of_more_than_300_records() {
     let folder = folder();
     folder.write(TREE, &table);
     let (picture, _) = draw(&folder, &[".", "--set", "0=1"]);
-    assert!(picture == svg(&table, &Names::default(), Some(1)));
+    assert!(picture == svg(&table, &Names::default(), None, Some(1)));
     let picture = xml::parse(&picture).expect("a picture");
     for (name, id) in [("g", "record-"), ("path", "to-")] {
         let marked = picture.named(name).filter(|one| one.has_class("marked"));
@@ -231,6 +229,66 @@ fn with_the_names_of_texts() {
     );
 }
 
+// First and later.
+
+/// What stands in the boxes of a picture's blocks with a paired symbol, a line each.
+fn pairs(picture: &str) -> Vec<String> {
+    let picture = xml::parse(picture).expect("a picture");
+    let boxes = picture.named("g").filter(|group| group.has_class("block"));
+    let lines = boxes.map(|block| {
+        let texts = block.named("text").filter(|text| text.has_class("pair"));
+        texts.map(|text| text.text.as_str()).collect::<Vec<_>>()
+    });
+    let lines = lines.filter(|lines| !lines.is_empty());
+    lines.map(|lines| lines.join(" ")).collect()
+}
+
+/// By every way to give counts, or none; a tree that is refused with them is drawn with them all the same, but not with wrong ones.
+#[test]
+fn both_numbers_stand_on_a_paired_block() {
+    let folder = house("cipher");
+    put(&folder, ALONE, sample("cipher", TREE));
+    put(&folder, "counts.tab", sample("cipher", VALUES));
+    put(
+        &folder,
+        "counts.txt",
+        "symbol 24 cipher\ncipher 70000 500\n",
+    );
+    let both = "first 60000 cycles, later 9000 cycles";
+    for (arguments, words) in [
+        (&["."][..], both),
+        (&[ALONE, "--values", "counts.tab"], both),
+        (
+            &[ALONE, "--values", "counts.txt"],
+            "first 70000 cycles, later 500 cycles",
+        ),
+        (
+            &[ALONE, "--set", "24=8,3"],
+            "first 8 cycles, later 3 cycles",
+        ),
+        (
+            &[".", "--set", "cipher=8"],
+            "first 8 cycles, later 8 cycles (as the first)",
+        ),
+        (
+            &[ALONE, "--set", "0=1"],
+            "first 1000000000000 cycles (not given), later 1000000000000 cycles (as the first)",
+        ),
+        (&[ALONE], "first and later"),
+        (&[".", "--set", "cipher=3,8"], "first and later"),
+    ] {
+        let (picture, _) = draw(&folder, arguments);
+        assert_eq!(pairs(&picture), [words; 2], "{arguments:?}");
+    }
+    let (picture, error) = draw(&folder, &[".", "--set", "cipher=3,8"]);
+    assert_eq!(pairs(&picture), ["first and later"; 2]);
+    let refusal = Refusal::LaterValue;
+    let hint = "cipher is first 3 cycles, later 8 cycles, and later at most 3 is allowed";
+    let told = format!("no branch is marked: {refusal}\nhint: {hint}\n");
+    assert_eq!(error, told);
+    assert_eq!(pairs(&draw(&house("entrance"), &["."]).0), [""; 0]);
+}
+
 // No branch, and what is said.
 
 #[test]
@@ -282,7 +340,7 @@ fn absent_counts_are_named() {
             4
         };
         let marked = branch(&table, &values);
-        assert!(picture == svg(&table, &names(b"symbol 17 bolt\n"), marked));
+        assert!(picture == svg(&table, &names(b"symbol 17 bolt\n"), None, marked));
     }
 }
 
@@ -295,7 +353,7 @@ fn a_refused_figure_is_told_and_nothing_is_marked() {
     let limited = triangular_limited(block(1), 0, 255);
     let triangular = "count-0 is 1001, and its triangular number is a limit";
     let above = "count-1 is 1000001, and at most 1000000 is allowed";
-    let length = "the file of values has 9 bytes; expected a multiple of 8, at most 256";
+    let length = "the file of values has 9 bytes; expected a multiple of 8, at most 320";
     let large = "with these values a part of the tree takes more than 1000000000000 cycles";
     for (child, values, refusal, hint) in [
         (&two, values_file(&dear), Refusal::Ceiling, large),
@@ -317,7 +375,10 @@ fn a_refused_figure_is_told_and_nothing_is_marked() {
         put(&folder, ALONE, &table);
         put(&folder, "counts.tab", &values);
         let (picture, error) = draw(&folder, &[ALONE, "--values", "counts.tab"]);
-        assert!(picture == svg(&table, &Names::default(), None), "{refusal}");
+        assert!(
+            picture == svg(&table, &Names::default(), None, None),
+            "{refusal}"
+        );
         assert_eq!(
             error,
             format!("no branch is marked: {refusal}\nhint: {hint}\n")

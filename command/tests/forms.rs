@@ -68,13 +68,18 @@ fn values_that_are_refused_have_a_hint_and_are_shown() {
     for (bytes, hint, last) in [
         (
             vec![0; 9],
-            "the file of values has 9 bytes; expected a multiple of 8, at most 256",
+            "the file of values has 9 bytes; expected a multiple of 8, at most 320",
             "cards 0\nbytes # no value of its own\n",
         ),
         (
-            vec![0; 264],
-            "the file of values has more than 256 bytes; expected a multiple of 8, at most 256",
-            "time-31 0\nbytes # no value of its own\n",
+            vec![0; 321],
+            "the file of values has more than 320 bytes; expected a multiple of 8, at most 320",
+            "time-31 0 0\nbytes # no value of its own\n",
+        ),
+        (
+            vec![0; 328],
+            "the file of values has more than 320 bytes; expected a multiple of 8, at most 320",
+            "time-31 0 0\nbytes # no value of its own\n",
         ),
         (
             values_file(&[0, 1_000_001]),
@@ -88,6 +93,9 @@ fn values_that_are_refused_have_a_hint_and_are_shown() {
         assert!(said.contains(&format!("\n# hint: {hint}\n")), "{said}");
         assert!(said.ends_with(last), "{said}");
     }
+    folder.write(VALUES, &[0; 320]);
+    let said = ends(folder.command().args(show), 0).output;
+    assert!(said.ends_with("time-30 0 0\ntime-31 0 0\n"), "{said}");
     // A picture is drawn all the same, and says why no branch is marked.
     folder.write(VALUES, &[0; 3]);
     let draw = ["draw", TREE, "--values", VALUES, "-o", "out.svg"];

@@ -284,6 +284,23 @@ fn of_a_former_table_what_makes_a_table_of_it() {
     }
     // Every third length is that of a table too.
     assert_eq!(refusals, [13, 5]);
+    // One that would be accepted still, if its symbol were not paired since, was accepted too.
+    for (symbol, limit, is_told) in [(24, 0, true), (16, 255, false), (24, 255, false)] {
+        let heavy = in_loops(
+            8,
+            1,
+            limited(symbol_block(symbol), u32::from(limit > 0), limit),
+        );
+        let former = heavy
+            .chunks_exact(RECORD_BYTES)
+            .flat_map(|record| &record[..16]);
+        folder.write(BAD, &former.copied().collect::<Vec<u8>>());
+        let written = ends(folder.command().args(["check", BAD]), 1);
+        let told = written
+            .output
+            .ends_with(&format!("\nhint: {BAD} {is_former}\n"));
+        assert_eq!(told, is_told, "{}", written.output);
+    }
 }
 
 #[test]
@@ -355,6 +372,76 @@ fn of_question_13_the_triangular_symbol() {
         let set = format!("{symbol}=1000");
         ends(folder.command().args(["quote", ".", "--set", &set]), 0);
     }
+}
+
+/// Whichever pair it is, and whatever asks for the figure.
+#[test]
+fn of_question_14_both_numbers() {
+    let folder = folder();
+    folder.write(TREE, &block(7));
+    for symbol in 24..32 {
+        let mut values = vec![9; 40];
+        (values[symbol], values[symbol + 8]) = (500, 501);
+        folder.write(VALUES, &values_file(&values));
+        let refusal = Refusal::LaterValue;
+        let hint = format!(
+            "hint: time-{symbol} is first 500 cycles, later 501 cycles, and later at most 500 is allowed"
+        );
+        for command in ["quote", "list", "contract"] {
+            says(&folder, &[command, "."], &format!("{refusal}\n{hint}\n"));
+        }
+        let written = ends(folder.command().args(["quotes", "."]), 1);
+        assert_eq!(written.output, format!(".: {refusal}\n"));
+        assert_eq!(written.error, format!(".: {hint}\n"));
+        let written = ends(folder.command().args(["quote", ".", "--json"]), 1);
+        let json: serde_json::Value = serde_json::from_str(&written.output).expect("JSON");
+        assert_eq!(json["refused"], 14);
+        assert_eq!(json["hint"], hint.trim_start_matches("hint: "));
+        values[symbol + 8] = 500;
+        folder.write(VALUES, &values_file(&values));
+        ends(folder.command().args(["quote", "."]), 0);
+    }
+}
+
+// What a graft replaces.
+
+#[test]
+fn of_question_11_the_symbol_or_the_record_that_has_it() {
+    let folder = folder();
+    let host = "symbol 3 cards\nsymbol 16 radio\nsymbol 24 cipher\nsequence\n  block radio\n  block cipher\n";
+    folder.write("host.txt", host.as_bytes());
+    folder.write(GOOD, &block(7));
+    let says_of = |symbol: &str, sent: &str, hint: &str| {
+        let graft = ["graft", "host.txt", sent, "--symbol", symbol, "-o", OUT];
+        let said = format!("{}\nhint: {hint}\n", Refusal::ReplacedSymbol);
+        says(&folder, &graft, &said);
+    };
+    says_of("cards", GOOD, "cards is a count, and a time is replaced");
+    says_of("15", GOOD, "count-15 is a count, and a time is replaced");
+    let two = "has a first and a later value";
+    let figure = "and a sent tree has one figure";
+    says_of("cipher", GOOD, &format!("cipher {two}, {figure}"));
+    for symbol in 25..32 {
+        let hint = format!("time-{symbol} {two}, {figure}");
+        says_of(&symbol.to_string(), GOOD, &hint);
+    }
+    // In the sent tree, the first block that is in the way.
+    let own = addressed(symbol_block(16), 0x4a0);
+    let children = [symbol_block(17), own, symbol_block(25), symbol_block(16)];
+    folder.write(BAD, &sequence(&children));
+    let place = format!("{BAD}: record 2 (byte 48, address 0x4a0)");
+    says_of("radio", BAD, &format!("{place}: radio is what is replaced"));
+    let place = format!("{BAD}: record 1 (byte 24)");
+    says_of("17", BAD, &format!("{place}: time-17 is what is replaced"));
+    let place = format!("{BAD}: record 3 (byte 72)");
+    says_of("20", BAD, &format!("{place}: time-25 {two}"));
+    let text = "symbol 24 code\n# Words.\nloop 3\n  body block code\n  exit block time-31\n";
+    folder.write(BAD_TEXT, text.as_bytes());
+    says_of("radio", BAD_TEXT, &format!("{BAD_TEXT}:4: code {two}"));
+    says_of("cipher", BAD_TEXT, &format!("cipher {two}, {figure}"));
+    // Paired symbols of the host are in nobody's way.
+    let graft = ["graft", "host.txt", GOOD, "--symbol", "radio", "-o", OUT];
+    ends(folder.command().args(graft), 0);
 }
 
 // The records of a refused table.

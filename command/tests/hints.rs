@@ -169,6 +169,42 @@ fn words_for_weights() {
     hints(Refusal::Weight, &loops, 11, what);
 }
 
+/// A block with a paired symbol weighs as a limit in the whole run does, beside its own limit.
+#[test]
+fn words_for_weights_of_paired_symbols() {
+    let paired = |symbol, names| (0, 1, 0, names, u32::from(names > 0), symbol);
+    let in_loops = |loops, body: &[Record]| {
+        let body = [&[sequence(body.len() as u8)], body].concat();
+        [vec![LOOP; loops], body, vec![BLOCK; loops]].concat()
+    };
+    for symbol in [24, 31] {
+        let what = "its paired symbol weighs 256 and brings the sum of weights to 256, above 255";
+        hints(Refusal::Weight, &in_loops(8, &[paired(symbol, 0)]), 9, what);
+        let body = [
+            paired(symbol, 0),
+            limited(7),
+            paired(symbol, 0),
+            paired(24, 0),
+        ];
+        let what = "its paired symbol weighs 128 and brings the sum of weights to 320, above 255";
+        hints(Refusal::Weight, &in_loops(7, &body), 10, what);
+        let body = [limited(255), paired(symbol, 1)];
+        let what =
+            "its limit weighs 1, its paired symbol 128, and both bring the sum of weights to 257, above 255";
+        hints(Refusal::Weight, &in_loops(7, &body), 9, what);
+        let body = [paired(symbol, 255)];
+        let what =
+            "its limit weighs 128, its paired symbol 128, and both bring the sum of weights to 256, above 255";
+        hints(Refusal::Weight, &in_loops(7, &body), 8, what);
+        // After such a one a limit too many is still a limit.
+        let body = [paired(symbol, 0), limited(255)];
+        let what = "its limit weighs 128 and brings the sum of weights to 256, above 255";
+        hints(Refusal::Weight, &in_loops(7, &body), 9, what);
+    }
+    assert!(check(&table(&in_loops(8, &[paired(23, 0)]))).is_ok());
+    assert!(check(&table(&in_loops(7, &[paired(24, 0)]))).is_ok());
+}
+
 #[test]
 fn no_hint_where_no_record_shows_it() {
     let bad = [table(&[(7, 0, 0, 0, 0, 0)]), vec![0; 3]].concat();
@@ -250,8 +286,16 @@ fn agrees(table: &[u8], refusal: Refusal, hint: &Hint) -> bool {
         }
         Refusal::Weight => {
             let weights = weights(table);
-            let words = [weights[record], weights[..=record].iter().sum(), 255];
-            is_first(table, refusal, record, without_limits_from) && numbers(what) == words
+            let (limit, paired) = weights[record];
+            let sum = weights[..=record]
+                .iter()
+                .map(|(limit, paired)| limit + paired);
+            let mut words = vec![limit, paired, sum.sum(), 255];
+            words.retain(|&number| number > 0);
+            is_first(table, refusal, record, without_limits_from)
+                && numbers(what) == words
+                && what.contains("limit weighs") == (limit > 0)
+                && what.contains("paired symbol") == (paired > 0)
         }
         _ => false,
     }
@@ -277,14 +321,22 @@ fn with_blocks_from(table: &[u8], record: usize) -> Vec<u8> {
     blocks
 }
 
-/// The table without the limits of the records from that one on.
+/// The table without the limits and paired symbols of the records from that one on.
 fn without_limits_from(table: &[u8], record: usize) -> Vec<u8> {
     let mut table = table.to_vec();
     for record in table.chunks_exact_mut(RECORD_BYTES).skip(record) {
+        if is_paired(record) {
+            record[1] = 0;
+            record[8..16].fill(0);
+        }
         record[1] &= 1;
         record[3..8].fill(0);
     }
     table
+}
+
+fn is_paired(record: &[u8]) -> bool {
+    record[0] == 0 && record[1] & 1 > 0 && (24..32).contains(&record[8]) && record[9..16] == [0; 7]
 }
 
 /// Whether words lead to what is wrong with a record: mending the field that they name, and what the next words name, ends the refusal;
@@ -421,15 +473,19 @@ fn loops_around(table: &[u8]) -> Vec<u64> {
     around.map(|loops| loops as u64).collect()
 }
 
-/// What each record's limit weighs.
-fn weights(table: &[u8]) -> Vec<u64> {
-    let names = table.chunks_exact(RECORD_BYTES).map(|record| record[3]);
-    let weigh = |(names, around)| match names {
-        0 => 0,
-        255 => 1_u64 << around,
-        _ => 1 << (names - 1),
+/// What each record's limit weighs, and what its paired symbol.
+fn weights(table: &[u8]) -> Vec<(u64, u64)> {
+    let weigh = |(record, around): (&[u8], u64)| {
+        let run = 1_u64 << around;
+        let limit = match record[3] {
+            0 => 0,
+            255 => run,
+            names => 1 << (names - 1),
+        };
+        (limit, if is_paired(record) { run } else { 0 })
     };
-    names.zip(loops_around(table)).map(weigh).collect()
+    let records = table.chunks_exact(RECORD_BYTES);
+    records.zip(loops_around(table)).map(weigh).collect()
 }
 
 /// The numbers in some words.
@@ -546,7 +602,29 @@ fn limits_that_name_no_loop_or_weigh_too_much() {
         }
         judge.judge(&table);
     }
-    judge.assert_reached(&[(0, 20_000), (6, 25_000), (7, 9_000)], 3);
+    judge.assert_reached(&[(0, 20_000), (6, 25_000), (7, 9_000)], 4);
+}
+
+/// With limits beside them and without, on the same blocks and on others.
+#[test]
+fn paired_symbols_that_weigh_too_much() {
+    let (mut rng, mut judge) = start(8);
+    for _ in 0..20_000 {
+        let size = rng.size(10..=120);
+        let mut tree = trees::without_limits(&mut rng, size);
+        let wanted = rng.pick(&[0, 100, 240]);
+        trees::put_limits(&mut rng, &mut tree, wanted);
+        let mut table = tree.encode();
+        let often = rng.within(1..=5);
+        for record in table.chunks_exact_mut(RECORD_BYTES) {
+            if record[0] == 0 && rng.once_in(often) {
+                record[1] |= 1;
+                record[8..16].copy_from_slice(&rng.within(24..=31).to_le_bytes());
+            }
+        }
+        judge.judge(&table);
+    }
+    judge.assert_reached(&[(0, 3_000), (7, 5_000)], 3);
 }
 
 #[test]

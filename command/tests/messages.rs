@@ -353,11 +353,12 @@ fn a_wrong_name_is_told_once() {
         ],
     );
     values(
-        "symbol 32 x\nx abc\nx 7 8",
+        "symbol 32 x\nx abc\nx 7 8\nx 7 abc\nx 7 8 9",
         &[
             symbol,
             "2:3: expected a number from 0 to 1000000000000, found \"abc\"",
-            "3:5: expected the end of the line, found \"8\"",
+            "4:5: expected a number from 0 to 1000000000000, found \"abc\"",
+            "5:7: expected the end of the line, found \"9\"",
         ],
     );
     // Nor does one that another symbol has, or a name that there is not, excuse anything.
@@ -474,10 +475,17 @@ fn values_of_symbols() {
         "count-0 = 40",
         &["1:9: expected a number from 0 to 1000000, found \"=\""],
     );
-    values(
-        "count-0 40 50",
-        &["1:12: expected the end of the line, found \"50\""],
-    );
+    let one = "expected the end of the line (symbols 24 to 31 alone have a later number)";
+    for name in ["count-0", "time-16", "time-23"] {
+        let column = name.len() + 5;
+        values(
+            &format!("{name} 40 50\n{name} 7"),
+            &[
+                &format!("1:{column}: {one}, found \"50\""),
+                &format!("2:1: {name} has a value already"),
+            ],
+        );
+    }
     values(
         "symbol 0 cards\ncards 1\ncards 1\ncount-0 2",
         &[
@@ -491,6 +499,49 @@ fn values_of_symbols() {
             &format!("1:1: {HEADER}, or a symbol's name and its value, found \"x\""),
             &format!("2:1: {HEADER}, or a symbol's name and its value, found \"y\""),
         ],
+    );
+}
+
+#[test]
+fn later_values() {
+    for name in ["time-24", "time-31"] {
+        values(
+            &format!("{name} 40 50 60"),
+            &["1:15: expected the end of the line, found \"60\""],
+        );
+        for wrong in ["x", "-1", "1000000000001", "=", "50,"] {
+            values(
+                &format!("{name} 40 {wrong}"),
+                &[&format!(
+                    "1:12: expected a number from 0 to 1000000000000, found \"{wrong}\""
+                )],
+            );
+        }
+        values(
+            &format!("{name} 40, 50"),
+            &["1:9: expected a number from 0 to 1000000000000, found \"40,\""],
+        );
+        values(
+            &format!("{name} 40 x\n{name} 40 50"),
+            &[
+                "1:12: expected a number from 0 to 1000000000000, found \"x\"",
+                &format!("2:1: {name} has a value already"),
+            ],
+        );
+    }
+    values(
+        "symbol 24 x\nx 4 3\ntime-24 5\nx 6 2",
+        &[
+            "3:1: time-24 has a value already",
+            "4:1: x has a value already",
+        ],
+    );
+    // A later value has no name of its own.
+    values(
+        "time-32 5",
+        &[&format!(
+            "1:1: {HEADER}, or a symbol's name and its value, found \"time-32\""
+        )],
     );
 }
 

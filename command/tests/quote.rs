@@ -116,7 +116,7 @@ fn a_refusal_as_json() {
 fn a_refusal_has_its_reason_and_a_hint() {
     for (values, hint) in [
         (vec![0; 9], "the file of values has 9 bytes"),
-        (vec![0; 1_000], "the file of values has more than 256 bytes"),
+        (vec![0; 1_000], "the file of values has more than 320 bytes"),
         (values_file(&[0, 1_000_001]), "retries is 1000001"),
     ] {
         let folder = house("house");
@@ -129,6 +129,249 @@ fn a_refusal_has_its_reason_and_a_hint() {
     folder.write(VALUES, &values_file(&[1_001]));
     let said = refuses(&folder, &QUOTE, 13);
     assert!(said.contains("\nhint: cards is 1001"), "{said}");
+}
+
+// First and later.
+
+/// What is said of the sample whose cipher has two numbers.
+const CIPHER_LINES: &str = "\
+house Lakeside, the back door
+figure 485860 cycles
+branch none (no choice at the root)
+count cards 40
+time cipher first 60000 cycles, later 9000 cycles
+";
+
+fn cipher_lines(figure: u64, cipher: &str) -> String {
+    let lines = CIPHER_LINES.replace("485860", &figure.to_string());
+    lines.replace("first 60000 cycles, later 9000 cycles", cipher)
+}
+
+#[test]
+fn two_numbers_in_lines() {
+    let folder = house("cipher");
+    answers(&folder, &QUOTE, CIPHER_LINES);
+    answers(
+        &folder,
+        &["quote", ".", "--line"],
+        "figure 485860 branch 255\n",
+    );
+    // What the file ends before is the first number again, with it, and without any the most.
+    folder.write(VALUES, &sample("cipher", VALUES)[..256]);
+    let one = cipher_lines(
+        2_474_860,
+        "first 60000 cycles, later 60000 cycles (as the first)",
+    );
+    answers(&folder, &QUOTE, &one);
+    folder.write(
+        TREE,
+        &choice(&[block(7), limited(symbol_block(24), 0, 255)]),
+    );
+    folder.write(VALUES, &values_file(&[]));
+    let said = ends(folder.command().args(QUOTE), 0);
+    let most = "1000000000000 cycles";
+    let line = format!("\ntime cipher first {most} (not given), later {most} (as the first)\n");
+    assert!(said.output.ends_with(&line), "{}", said.output);
+    let note = "cipher is not given and counts 1000000000000\n";
+    assert_eq!(said.error, note);
+}
+
+#[test]
+fn two_numbers_as_json() {
+    let folder = house("cipher");
+    let count = |first: u64, given, later: u64, later_given| {
+        json!({
+            "symbol": 24, "name": "cipher", "first": first, "given": given, "later": later, "later_given": later_given,
+        })
+    };
+    let cards = json!({"symbol": 0, "name": "cards", "value": 40, "given": true});
+    let json = json_of(&folder, 0);
+    assert_eq!(
+        json["counts"],
+        json!([cards, count(60_000, true, 9_000, true)])
+    );
+    assert_eq!(json["figure"], 485_860);
+    folder.write(VALUES, &sample("cipher", VALUES)[..256]);
+    let json = json_of(&folder, 0);
+    assert_eq!(json["counts"][1], count(60_000, true, 60_000, false));
+    folder.write(TREE, &choice(&[limited(symbol_block(24), 0, 255)]));
+    folder.write(VALUES, &[]);
+    let most = 1_000_000_000_000;
+    let json = json_of(&folder, 0);
+    assert_eq!(json["counts"], json!([count(most, false, most, false)]));
+}
+
+/// One number means both, whatever was given before, and the last setting of a symbol counts.
+#[test]
+fn settings_have_both_numbers_or_one() {
+    let folder = house("cipher");
+    for (settings, figure, words) in [
+        (
+            &["cipher=50000,8000"][..],
+            426_860,
+            "first 50000 cycles, later 8000 cycles",
+        ),
+        (
+            &["24=50000,8000"],
+            426_860,
+            "first 50000 cycles, later 8000 cycles",
+        ),
+        (
+            &[" time-24 = 50000 , 8000 "],
+            426_860,
+            "first 50000 cycles, later 8000 cycles",
+        ),
+        (
+            &["cipher=50000"],
+            2_064_860,
+            "first 50000 cycles, later 50000 cycles (as the first)",
+        ),
+        (
+            &["cipher=50000,50000"],
+            2_064_860,
+            "first 50000 cycles, later 50000 cycles",
+        ),
+        (
+            &["cipher=50000,0"],
+            114_860,
+            "first 50000 cycles, later 0 cycles",
+        ),
+        (
+            &["cipher=1,1", "cipher=50000"],
+            2_064_860,
+            "first 50000 cycles, later 50000 cycles (as the first)",
+        ),
+        (
+            &["cipher=50000", "24=50000,8000"],
+            426_860,
+            "first 50000 cycles, later 8000 cycles",
+        ),
+    ] {
+        answers(&folder, &with_set(settings), &cipher_lines(figure, words));
+    }
+}
+
+#[test]
+fn wrong_settings_of_two_numbers_are_told() {
+    let folder = house("cipher");
+    let both =
+        "expected a number from 0 to 1000000000000, or a first and a later one, as 90000,40000";
+    for wrong in [
+        "",
+        ",",
+        "5,",
+        ",5",
+        "5,x",
+        "x,5",
+        "5,-1",
+        "5,4,3",
+        "5 4",
+        "5;4",
+        "1000000000001",
+        "5,1000000000001", // Thousands, most likely.
+        "60,000",
+        "1,000,000",
+        "5,00",
+        "5,04",
+    ] {
+        let told = format!("--set cipher={wrong}: {both}");
+        complains(&folder, &with_set(&[&format!("cipher={wrong}")]), &[&told]);
+    }
+    let one = "expected one number: symbols 24 to 31 alone have a later one";
+    for wrong in ["cards=40,30", "cards=1,000", "16=5,4", "23=,"] {
+        let told = format!("--set {wrong}: {one}");
+        complains(&folder, &with_set(&[wrong]), &[&told]);
+    }
+    for last in ["24=5,4", "31=5,4"] {
+        ends(folder.command().args(with_set(&[last])), 0);
+    }
+    complains(
+        &folder,
+        &with_set(&["32=4"]),
+        &["no symbol is called 32 (names here: cards, cipher)"],
+    );
+}
+
+/// Whichever pair it is, used or not, and wherever it comes from.
+#[test]
+fn a_later_number_above_its_first_is_refused_with_both() {
+    let folder = house("cipher");
+    for symbol in 24..32 {
+        let name = match symbol {
+            24 => "cipher".into(),
+            symbol => format!("time-{symbol}"),
+        };
+        let hint = format!(
+            "\nhint: {name} is first 5 cycles, later 6 cycles, and later at most 5 is allowed\n"
+        );
+        let set = format!("{symbol}=5,6");
+        let said = refuses(&folder, &with_set(&[&set]), 14);
+        assert!(said.ends_with(&hint), "{said}");
+        ends(
+            folder.command().args(with_set(&[&set.replace('6', "5")])),
+            0,
+        );
+        let mut values = [0; 40];
+        (values[symbol], values[symbol + 8]) = (5, 6);
+        folder.write("other.tab", &values_file(&values));
+        let said = ends(folder.command().args(["values", "show", "other.tab"]), 1).output;
+        assert!(said.starts_with("# refused 14: "), "{said}");
+        assert!(said.contains(&hint.replace("\nhint", "\n# hint")), "{said}");
+        assert!(said.contains(&format!("\n{name} 5 6\n")), "{said}");
+        folder.write("other.txt", format!("time-{symbol} 5 6\n").as_bytes());
+        let make = ["values", "make", "other.txt", "-o", "made.tab"];
+        assert!(refuses(&folder, &make, 14).ends_with(&hint));
+        assert_eq!(folder.read("made.tab"), None);
+    }
+    // Of two pairs the first.
+    let said = refuses(&folder, &with_set(&["30=1,2", "26=3,4"]), 14);
+    assert!(
+        said.contains("\nhint: time-26 is first 3 cycles, later 4 "),
+        "{said}"
+    );
+    // Question 9 comes before, of a later number too, and 13, but not 10.
+    let mut values = [0; 40];
+    values[33] = 1_000_000_000_001;
+    folder.write(VALUES, &values_file(&values));
+    let said = refuses(&folder, &QUOTE, 9);
+    let hint = "\nhint: the later value of time-25 is 1000000000001, and at most 1000000000000 is allowed\n";
+    assert!(said.ends_with(hint), "{said}");
+    let past = sequence(&[block(1_000_000_000_000), block(1)]);
+    folder.write(VALUES, &values_file(&[1_001]));
+    folder.write(TREE, &triangular_limited(past.clone(), 0, 255));
+    refuses(&folder, &with_set(&["24=5,6"]), 13);
+    folder.write(TREE, &past);
+    refuses(&folder, &with_set(&["24=5,6"]), 14);
+    refuses(&folder, &with_set(&["24=5,5"]), 10);
+}
+
+/// A text with one number beside a file with both alike says the same.
+#[test]
+fn one_number_in_a_text_agrees_with_two_in_a_file() {
+    let folder = house("cipher");
+    let numbers = |later| all_values(&[&[40][..], &[0; 23], &[60_000], &[0; 7], &[later]].concat());
+    let zeros: String = (1..24)
+        .chain(25..32)
+        .map(|symbol| match symbol {
+            0..16 => format!("count-{symbol} 0\n"),
+            _ => format!("time-{symbol} 0\n"),
+        })
+        .collect();
+    folder.write(
+        VALUES_TEXT,
+        format!("{zeros}cards 40\ncipher 60000\n").as_bytes(),
+    );
+    folder.write(VALUES, &values_file(&numbers(60_000)));
+    let one = "first 60000 cycles, later 60000 cycles (as the first)";
+    answers(&folder, &QUOTE, &cipher_lines(2_474_860, one));
+    folder.write(VALUES, &values_file(&numbers(59_999)));
+    let differ = "values.tab and values.txt hold different values";
+    complains(&folder, &QUOTE, &[differ]);
+    folder.write(
+        VALUES_TEXT,
+        format!("{zeros}cards 40\ncipher 60000 59999\n").as_bytes(),
+    );
+    ends(folder.command().args(QUOTE), 0);
 }
 
 #[test]
@@ -363,6 +606,11 @@ fn a_quote_that_is_too_large_has_its_reason() {
             "time-17 1",
             "what is not given counts high; give a value to time-16".into(),
         ),
+        (
+            "block time-24\n  block time-25",
+            "time-25 1",
+            "what is not given counts high; give a value to time-24".into(),
+        ),
     ] {
         let folder = folder();
         folder.write(
@@ -376,7 +624,7 @@ fn a_quote_that_is_too_large_has_its_reason() {
     let folder = folder();
     for (symbol, hint) in [
         ("", large.to_string()),
-        ("  block time-17\n", format!("with every symbol 0 {large}")),
+        ("  block time-17\n", format!("with every value 0 {large}")),
     ] {
         let text = format!("sequence\n  block 1000000000000\n  block 1\n{symbol}");
         folder.write(TREE_TEXT, text.as_bytes());
@@ -467,7 +715,7 @@ fn names_that_contradict_are_told() {
 #[test]
 fn random_houses_have_the_desks_line() {
     let mut rng = Rng::new(701);
-    let mut answered = [0; 14];
+    let mut answered = [0; 15];
     for _ in 0..480 {
         let folder = Folder::new("desk");
         folder.write(TREE, &random::table(&mut rng));
@@ -487,5 +735,5 @@ fn random_houses_have_the_desks_line() {
     }
     // No buffer is too short here, and nothing is grafted.
     let reached = |number: usize| matches!(number, 8 | 11 | 12) || answered[number] > 3;
-    assert!((0..14).all(reached), "{answered:?}");
+    assert!((0..15).all(reached), "{answered:?}");
 }

@@ -11,6 +11,7 @@ use std::sync::atomic::{AtomicBool, Ordering};
 use std::thread;
 
 use common::*;
+use volefleece::Refusal;
 use volefleece_tests::programs::{
     copy_program, sample, values_file, Folder, Written, TREE, VALUES,
 };
@@ -121,6 +122,33 @@ fn a_thousand_houses_in_order() {
         }
     }
     assert!(statuses.iter().all(|&times| times > 10), "{statuses:?}");
+}
+
+/// Houses whose cipher has two numbers: both given, one for both, the later above the first, and neither.
+#[test]
+fn first_and_later_below_a_folder() {
+    let folder = folder();
+    for house in ["above", "both", "neither", "one"] {
+        for file in [TREE, NAMES] {
+            put(&folder, &format!("{house}/{file}"), sample("cipher", file));
+        }
+    }
+    let values = sample("cipher", VALUES);
+    put(&folder, "above/values.txt", "cards 40\ncipher 5 6\n");
+    put(&folder, "both/values.tab", &values);
+    put(&folder, "neither/values.txt", "cards 1\n");
+    put(&folder, "one/values.tab", &values[..256]);
+    let said = quotes(&folder, 1);
+    let (later, ceiling) = (Refusal::LaterValue, Refusal::Ceiling);
+    let lines = format!(
+        "above: {later}\nboth: figure 485860 branch 255\nneither: {ceiling}\none: figure 2474860 branch 255\n"
+    );
+    assert_eq!(said.output, lines);
+    let notes =
+        "above: hint: cipher is first 5 cycles, later 6 cycles, and later at most 5 is allowed\n\
+                 neither: cipher is not given and counts 1000000000000\n\
+                 neither: hint: what is not given counts high; give a value to cipher\n";
+    assert_eq!(said.error, notes);
 }
 
 /// Whatever the number of processors that quote at once.
@@ -371,14 +399,35 @@ No opening that this tree admits with these counts keeps the lock's processor aw
 The figure is exactly what the published method gives for this tree and these counts, no lower and no higher.
 
 tree sha256 c08cbb6ea3451c30c816f725f9e5295953c514d013217ee203edb720eebf039a (the table's bytes)
-counts sha256 6c69caec53ebd845e63bb3a989fc45b4c794043b24e6b355f8c8920b44c73052 (all 32 values, 8 bytes each)
+counts sha256 148139dd81a86fb8ff59ec1d3948a3984938eb184eff5d93361b211a1313ca60 (all 40 values, 8 bytes each)
+";
+
+/// With a time that has two numbers, and what that means.
+const CIPHER_PAGE: &str = "\
+Waking figure for one opening
+
+house Lakeside, the back door
+figure 485860 cycles
+branch none (no choice at the root)
+count cards 40
+time cipher first 60000 cycles, later 9000 cycles
+
+Where a time has a first and a later number, the first pass of a step in an opening costs the first, and each further pass of that step the later one.
+Two steps of the same time have a first pass each.
+No opening that this tree admits with these counts keeps the lock's processor awake for more cycles than the figure.
+The figure is exactly what the published method gives for this tree and these counts, no lower and no higher.
+
+tree sha256 5d17474f529f2216d99800170333b0eabfda85197a725d705122b1f36a6f1c1c (the table's bytes)
+counts sha256 6d01053b94d0264d9ca7dfa8b776ac1f0331556a7d2a36feb1aabb10ed345286 (all 40 values, 8 bytes each)
 ";
 
 #[test]
 fn the_page_word_by_word() {
     let version = env!("CARGO_PKG_VERSION");
-    let expected = format!("{ENTRANCE_PAGE}volefleece {version}\n");
-    answers(&house("entrance"), &["contract", "."], &expected);
+    for (name, page) in [("entrance", ENTRANCE_PAGE), ("cipher", CIPHER_PAGE)] {
+        let expected = format!("{page}volefleece {version}\n");
+        answers(&house(name), &["contract", "."], &expected);
+    }
 }
 
 #[test]
@@ -396,8 +445,8 @@ fn a_page_says_all_that_was_quoted() {
         page.contains(&format!("\ntree sha256 {} (", sum(TREE))),
         "{page}"
     );
-    // Of all 32 values, also those that the file leaves out.
-    let mut values = vec![0; 32];
+    // Of all 40 values, also those that the file leaves out.
+    let mut values = vec![0; 40];
     values[17..].fill(1_000_000_000_000);
     (values[0], values[1], values[16]) = (40, 3, 90_000);
     folder.write("all", &values_file(&values));
@@ -429,7 +478,15 @@ fn the_same_inputs_give_the_same_page() {
 #[test]
 fn each_input_changes_the_page() {
     let mut pages = vec![page(&house("entrance"), &[])];
-    for setting in ["cards=41", "radio=90001", "retries=4", "31=0"] {
+    for setting in [
+        "cards=41",
+        "radio=90001",
+        "retries=4",
+        "31=0",
+        "30=5",
+        "30=5,4",
+        "31=5,4",
+    ] {
         pages.push(page(&house("entrance"), &["--set", setting]));
     }
     let tree = sample("entrance", TREE);

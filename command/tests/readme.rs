@@ -49,6 +49,11 @@ fn a_choice() {
 }
 
 #[test]
+fn first_and_later() {
+    printed("./quote samples/cipher");
+}
+
+#[test]
 fn a_block_by_its_address() {
     printed("volefleece find samples/workshop 0x8000474");
 }

@@ -139,8 +139,9 @@ fn nodes_have_last_bytes_of_255() {
     }
 }
 
-fn value(rng: &mut Rng, symbol: usize) -> u64 {
-    let most = volefleece::ceiling(symbol);
+/// A value for that place in a file, in range.
+fn value(rng: &mut Rng, place: usize) -> u64 {
+    let most = volefleece::ceiling(place);
     match rng.index(4) {
         0 => 0,
         1 => most,
@@ -148,13 +149,14 @@ fn value(rng: &mut Rng, symbol: usize) -> u64 {
     }
 }
 
+/// Of every length: with later values for all pairs, for some of them, for none, and without some of the first ones.
 #[test]
 fn values_return() {
     let mut rng = Rng::new(3);
-    let mut lengths = [0; 33];
+    let mut lengths = [0; 41];
     for _ in 0..100_000 {
-        let given = rng.index(33);
-        let values: Vec<u64> = (0..given).map(|symbol| value(&mut rng, symbol)).collect();
+        let given = rng.index(41);
+        let values: Vec<u64> = (0..given).map(|place| value(&mut rng, place)).collect();
         let bytes: Vec<u8> = values
             .iter()
             .flat_map(|value| value.to_le_bytes())
@@ -170,24 +172,65 @@ fn values_return() {
     assert!(lengths.iter().all(|&times| times > 1_000), "{lengths:?}");
 }
 
-/// Values that a text leaves out count the most, as absent ones do, also where a file has to hold something in their place.
+/// Values that a text leaves out count the most, as absent ones do, and later ones as their first, also where a file has to hold something
+/// in their place.
 #[test]
 fn values_left_out_count_the_most() {
     let mut rng = Rng::new(4);
+    let (mut written, mut absent) = (0, 0);
     for _ in 0..20_000 {
         let mut counts = Counts::default();
+        let mut expected = [0; 40];
+        let mut last = 0;
         for symbol in 0..32 {
-            if rng.once_in(3) {
-                counts.set(symbol, value(&mut rng, symbol));
+            let given = rng.once_in(3).then(|| value(&mut rng, symbol));
+            let paired = given.is_some() && symbol >= 24 && rng.once_in(2);
+            let later = paired.then(|| value(&mut rng, symbol + 8));
+            expected[symbol] = given.unwrap_or(if symbol < 16 {
+                1_000_000
+            } else {
+                1_000_000_000_000
+            });
+            if symbol >= 24 {
+                expected[symbol + 8] = later.unwrap_or(expected[symbol]);
+            }
+            if let Some(given) = given {
+                counts.set(symbol, given, later);
+                last = last.max(symbol + 1).max(later.map_or(0, |_| symbol + 9));
             }
         }
         let shown = text::values::print(&counts, &names(&mut rng));
         let read = text::values::parse(&shown, &mut Names::default()).expect("values");
         assert_eq!(read, counts);
-        let filed = Counts::from_bytes(&counts.bytes());
-        assert_eq!(filed.lent(), counts.lent());
-        for symbol in (0..32).filter(|&symbol| counts.given(symbol).is_none()) {
-            assert_eq!(filed.lent()[symbol], volefleece::ceiling(symbol));
+        assert_eq!(counts.lent(), expected);
+        // No longer than what is given needs.
+        let bytes = counts.bytes();
+        assert_eq!(bytes.len(), 8 * last);
+        assert_eq!(Counts::from_bytes(&bytes).lent(), expected);
+        let single = (24..32).filter(|&symbol| counts.given_later(symbol).is_none());
+        for symbol in single {
+            *(if symbol + 8 < last {
+                &mut written
+            } else {
+                &mut absent
+            }) += 1;
         }
     }
+    assert!(written > 10_000 && absent > 10_000, "{written} {absent}");
+}
+
+/// One number for a paired symbol says both, and as much as the same number twice.
+#[test]
+fn one_number_means_both() {
+    let read = |text: &str| text::values::parse(text, &mut Names::default()).expect("values");
+    let [one, two] = ["time-24 90000\n", "time-24 90000 90000\n"].map(read);
+    assert_eq!(one.lent(), two.lent());
+    assert_eq!(one.lent()[32], 90_000);
+    assert_eq!(one.bytes().len(), 8 * 25);
+    assert_eq!(two.bytes().len(), 8 * 33);
+    assert_eq!(read("time-24 90000 40000\n").lent()[32], 40_000);
+    // And takes back what was given apart before.
+    let mut counts = read("time-24 90000 40000\n");
+    counts.set(24, 90_000, None);
+    assert_eq!(counts, one);
 }

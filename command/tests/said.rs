@@ -410,11 +410,18 @@ fn simplified_says_bytes_and_steps() {
     }
 }
 
-/// A line of a count or a time, where so many counts are given.
+/// A line of a count or a time, where so many counts are given. Every other paired symbol is set to both its numbers.
 fn quoted(symbol: usize, given: usize) -> String {
     let value = 100 + symbol;
     match symbol {
-        16.. => format!("time time-{symbol} {value} cycles\n"),
+        16..24 => format!("time time-{symbol} {value} cycles\n"),
+        24.. => {
+            let later = match symbol % 2 {
+                0 => format!("later {symbol} cycles"),
+                _ => format!("later {value} cycles (as the first)"),
+            };
+            format!("time time-{symbol} first {value} cycles, {later}\n")
+        }
         _ if symbol < given => format!("count count-{symbol} {value}\n"),
         _ => format!("count count-{symbol} 1000000 (not given)\n"),
     }
@@ -431,7 +438,10 @@ fn quote_tells_counts_from_times() {
     let values: Vec<u64> = (100..132).collect();
     let figure: u64 = values[16..].iter().sum();
     let set: Vec<String> = (16..32)
-        .map(|symbol| format!("--set={symbol}={}", values[symbol]))
+        .map(|symbol| match symbol {
+            24.. if symbol % 2 == 0 => format!("--set={symbol}={},{symbol}", values[symbol]),
+            _ => format!("--set={symbol}={}", values[symbol]),
+        })
         .collect();
     for given in [32, 16, 8, 5, 0] {
         folder.write(VALUES, &values_file(&values[..given]));
@@ -443,6 +453,42 @@ fn quote_tells_counts_from_times() {
         let written = ends(folder.command().args(["quote", "."]), i32::from(given < 32));
         assert_eq!(written.error.lines().count(), 32 - given);
     }
+}
+
+/// The members alone stand on standard output; which times are counted first and later, and how, is said beside them.
+#[test]
+fn list_says_what_is_first_and_later() {
+    let folder = house("cipher");
+    let listed = |arguments: &[&str], output: &str, error: &str| {
+        let written = ends(folder.command().args(["list", "."]).args(arguments), 0);
+        assert_eq!(written.output, output);
+        assert_eq!(written.error, error);
+    };
+    let line = "time cipher first 60000 cycles, later 9000 cycles\n";
+    listed(&[], "485860 once\n383860 for ever\n", line);
+    let line = "time cipher first 60000 cycles, later 60000 cycles (as the first)\n";
+    listed(&["--set", "cipher=60000"], "2474860 for ever\n", line);
+    // Those that the tree uses, each on its line.
+    let blocks = [31, 24, 16, 24, 26].map(symbol_block);
+    folder.write(TREE, &sequence(&blocks));
+    let set = ["--set=16=1", "--set=24=5,4", "--set=26=3", "--set=31=9,0"];
+    let lines = "time cipher first 5 cycles, later 4 cycles\n\
+                 time time-26 first 3 cycles, later 3 cycles (as the first)\n\
+                 time time-31 first 9 cycles, later 0 cycles\n";
+    listed(&set, "23 once\n12 for ever\n", lines);
+}
+
+/// Those that have two numbers are named so.
+#[test]
+fn check_tells_what_is_first_and_later() {
+    let folder = house("cipher");
+    let said = "accepted\nrecords 8\ndepth 4\nsymbol 0 cards\nsymbol 24 cipher (first and later)\n";
+    answers(&folder, &["check", "."], said);
+    folder.write(TREE, &sequence(&[16, 23, 24, 31].map(symbol_block)));
+    remove(&folder, NAMES);
+    let said = "accepted\nrecords 5\ndepth 2\nsymbol 16 time-16\nsymbol 23 time-23\n\
+                symbol 24 time-24 (first and later)\nsymbol 31 time-31 (first and later)\n";
+    answers(&folder, &["check", "."], said);
 }
 
 #[test]
@@ -550,6 +596,43 @@ fn a_text_beside_its_table_tells_what_is_not_given() {
     let lines = "\ncount count-0 1000000 (not given)\ntime time-16 5 cycles\n";
     assert!(written.output.ends_with(lines), "{}", written.output);
     assert_eq!(written.error, "count-0 is not given and counts 1000000\n");
+}
+
+/// What stands in the file for a later number that the text does not give is its first; nothing is said of that, which the text says.
+#[test]
+fn a_later_value_is_made_where_one_follows() {
+    let folder = folder();
+    let made = |text: &str, values: &[u64], notes: &str| {
+        folder.write("in.txt", text.as_bytes());
+        let make = ["values", "make", "in.txt", "-o", OUT];
+        let written = ends(folder.command().args(make), 0);
+        assert_eq!(written.output, format!("made {} values\n", values.len()));
+        assert_eq!(written.error, notes);
+        assert_eq!(folder.read(OUT), Some(values_file(values)));
+    };
+    let zeros: String = (0..16)
+        .map(|symbol| format!("count-{symbol} 0\n"))
+        .chain((16..24).map(|symbol| format!("time-{symbol} 0\n")))
+        .collect();
+    let most = 1_000_000_000_000;
+    let start = |rest: &[u64]| [&[0; 24][..], rest].concat();
+    made(&format!("{zeros}time-24 5\n"), &start(&[5]), "");
+    let absent: String = (26..32)
+        .map(|symbol| format!("time-{symbol} is not given and counts {most}\n"))
+        .collect();
+    made(
+        &format!("{zeros}time-24 5\ntime-25 7 3\n"),
+        &start(&[5, 7, most, most, most, most, most, most, 5, 3]),
+        &absent,
+    );
+    // And that returns, with as many numbers as the file has.
+    let shown = output(&folder, &["values", "show", OUT]);
+    let last = format!("time-24 5 5\ntime-25 7 3\ntime-26 {most}\n");
+    assert!(shown.contains(&last), "{shown}");
+    folder.write("shown.txt", shown.as_bytes());
+    let make = ["values", "make", "shown.txt", "-o", "again.tab"];
+    answers(&folder, &make, "made 34 values\n");
+    assert_eq!(folder.read("again.tab"), folder.read(OUT));
 }
 
 // Houses far below.

@@ -100,11 +100,14 @@ fn a_refused_tree_ends_with_1() {
 fn refused_counts_end_with_1() {
     let past = sequence(&[block(1_000_000_000_000), block(1)]);
     let triangular = triangular_limited(block(1), 0, 255);
+    // The later value of symbol 24 is above its first.
+    let later = [&[0; 24][..], &[5], &[0; 7], &[6]].concat();
     for (tree, values, number) in [
         (block(7), vec![0; 9], 9),
         (block(7), values_file(&[1_000_001]), 9),
         (past.clone(), values_file(&[]), 10),
         (triangular, values_file(&[1_001]), 13),
+        (block(7), values_file(&later), 14),
     ] {
         let folder = with_files();
         folder.write(TREE, &tree);
@@ -112,13 +115,10 @@ fn refused_counts_end_with_1() {
         for arguments in OF_COUNTS {
             refuses(&folder, arguments, number);
         }
-        if number == 9 {
+        if matches!(number, 9 | 14) {
             let shown = ends(folder.command().args(["values", "show", VALUES]), 1);
-            assert!(
-                shown.output.starts_with("# refused 9: "),
-                "{}",
-                shown.output
-            );
+            let start = format!("# refused {number}: ");
+            assert!(shown.output.starts_with(&start), "{}", shown.output);
         }
     }
     let folder = with_files();
@@ -134,11 +134,13 @@ fn a_refused_graft_ends_with_1() {
         ]
     };
     let folder = with_files();
-    for symbol in ["cards", "15"] {
+    for symbol in ["cards", "15", "24", "31"] {
         refuses(&folder, &graft(symbol), 11);
     }
-    folder.write("sent.tab", &symbol_block(16));
-    refuses(&folder, &graft("radio"), 11);
+    for symbol in [16, 24, 31] {
+        folder.write("sent.tab", &symbol_block(symbol));
+        refuses(&folder, &graft("radio"), 11);
+    }
     folder.write("sent.tab", &in_sequences(31, block(1)));
     refuses(&folder, &graft("radio"), 12);
 }

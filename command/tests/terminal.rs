@@ -21,6 +21,8 @@ const CTRL_D: &[u8] = b"\x04";
 const CARDS: &str = "cards (0 to 1000000): ";
 const RETRIES: &str = "retries (0 to 1000000): ";
 const RADIO: &str = "radio (0 to 1000000000000 cycles): ";
+const CIPHER: &str = "cipher first (0 to 1000000000000 cycles): ";
+const LATER: &str = "cipher later (0 to 60000 cycles, 60000 if nothing is typed): ";
 const HOUSE: &str = "\
 house Lakeside
 figure 210910 cycles
@@ -209,6 +211,62 @@ fn bad_input_is_asked_again() {
     }
 }
 
+/// Both numbers of a paired symbol, one after the other.
+#[test]
+fn first_and_later_are_asked_for() {
+    let folder = house("cipher");
+    remove(&folder, VALUES);
+    for (typed, figure, later) in [
+        ("9000", 485_860, "later 9000 cycles"),
+        (" 0 ", 134_860, "later 0 cycles"),
+        ("60000", 2_474_860, "later 60000 cycles"),
+        ("", 2_474_860, "later 60000 cycles (as the first)"),
+        ("  ", 2_474_860, "later 60000 cycles (as the first)"),
+    ] {
+        let mut terminal = quote(&folder);
+        terminal.answer(CARDS, "40");
+        terminal.answer(CIPHER, "60000");
+        terminal.answer(LATER, typed);
+        let (status, seen) = terminal.finish();
+        assert_eq!(status.code(), Some(0));
+        let figure = format!("\nfigure {figure} cycles\n");
+        assert!(seen.contains(&figure), "{seen}");
+        let line = format!("\ntime cipher first 60000 cycles, {later}\n");
+        assert!(seen.ends_with(&line), "{seen}");
+        assert!(!seen.contains("please"), "{seen}");
+    }
+}
+
+/// A later number above the first would be refused, so that no more is offered; nothing typed is no first number.
+#[test]
+fn a_later_number_above_the_first_is_asked_again() {
+    let folder = house("cipher");
+    folder.write(VALUES, &values_file(&[40]));
+    for bad in ["60001", "1000000000000", "many", "-1", "4 5", "60000,9000"] {
+        let mut terminal = quote(&folder);
+        terminal.answer(CIPHER, "");
+        terminal.wait_for("a number from 0 to 1000000000000, please\r\n");
+        terminal.answer(CIPHER, "60000");
+        terminal.answer(LATER, bad);
+        terminal.wait_for("a number from 0 to 60000, please: later is at most the first");
+        terminal.answer(LATER, "9000");
+        let (status, seen) = terminal.finish();
+        assert_eq!(status.code(), Some(0), "{bad}");
+        assert!(seen.contains("\nfigure 485860 cycles\n"), "{seen}");
+    }
+}
+
+/// One number that is given says both.
+#[test]
+fn a_later_number_is_not_asked_for_beside_a_first() {
+    let folder = house("cipher");
+    folder.write(VALUES, &sample("cipher", VALUES)[..256]);
+    let (status, seen) = quote(&folder).finish();
+    assert_eq!(status.code(), Some(0));
+    let line = "\ntime cipher first 60000 cycles, later 60000 cycles (as the first)\n";
+    assert!(seen.ends_with(line) && !seen.contains("typed"), "{seen}");
+}
+
 #[test]
 fn bytes_that_are_no_text_are_asked_again() {
     let folder = house("house");
@@ -246,6 +304,11 @@ fn nothing_is_asked_for_beside_values_that_are_refused() {
         assert_eq!(status.code(), Some(1));
         assert!(seen.starts_with("refused 9: "), "{seen}");
     }
+    remove(&folder, VALUES);
+    folder.write(VALUES_TEXT, b"time-24 5 6\n");
+    let (status, seen) = quote(&folder).finish();
+    assert_eq!(status.code(), Some(1));
+    assert!(seen.starts_with("refused 14: "), "{seen}");
 }
 
 #[test]
@@ -345,6 +408,21 @@ fn the_end_of_input_ends_without_a_figure() {
         assert!(seen.ends_with(&told), "{seen}");
         assert!(!seen.contains("figure"), "{seen}");
     }
+}
+
+/// Nor is it an answer to the second question, whose answer may be empty.
+#[test]
+fn the_end_of_input_is_no_later_number() {
+    let folder = house("cipher");
+    folder.write(VALUES, &values_file(&[40]));
+    let mut terminal = quote(&folder);
+    terminal.answer(CIPHER, "60000");
+    terminal.wait_for(LATER);
+    terminal.press(CTRL_D);
+    let (status, seen) = terminal.finish();
+    assert_eq!(status.code(), Some(2));
+    let told = "\nvolefleece: cipher: no number was typed; --set cipher=NUMBER gives one\n";
+    assert!(seen.ends_with(told) && !seen.contains("figure"), "{seen}");
 }
 
 #[test]

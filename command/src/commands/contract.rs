@@ -7,6 +7,7 @@ use super::quote;
 use crate::cli::Counted;
 use crate::counts::bytes_of;
 use crate::failure::Outcome;
+use crate::table::paired_symbols;
 
 /// What the figure promises, as proved of the library's call: that no admitted run costs more, and that it is the method's.
 const PROMISE: &str = "\
@@ -14,12 +15,22 @@ No opening that this tree admits with these counts keeps the lock's processor aw
 The figure is exactly what the published method gives for this tree and these counts, no lower and no higher.
 ";
 
+/// What two numbers mean, where a time on the page has them.
+const TWO_NUMBERS: &str = "\
+Where a time has a first and a later number, the first pass of a step in an opening costs the first, and each further pass of that step the later one.
+Two steps of the same time have a first pass each.
+";
+
 pub fn run(counted: &Counted) -> Outcome<String> {
     let quoted = quote::quote(counted, true)?;
     let house = &quoted.house;
     let values = bytes_of(&house.counts.values());
+    let paired = match &paired_symbols(&quoted.nodes)[..] {
+        [] => "",
+        _ => TWO_NUMBERS,
+    };
     Ok(format!(
-        "Waking figure for one opening\n\n{}\n{PROMISE}\ntree sha256 {} (the table's bytes)\ncounts sha256 {} (all {VALUES} values, 8 bytes each)\nvolefleece {}\n",
+        "Waking figure for one opening\n\n{}\n{paired}{PROMISE}\ntree sha256 {} (the table's bytes)\ncounts sha256 {} (all {VALUES} values, 8 bytes each)\nvolefleece {}\n",
         quoted.lines(),
         digest(&house.tree.table),
         digest(&values),

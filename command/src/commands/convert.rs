@@ -9,8 +9,11 @@ use crate::cli::Convert;
 use crate::failure::{note, Failure, Outcome};
 use crate::files;
 use crate::names::Names;
-use crate::tree::{length_words, Tree};
+use crate::tree::{length_words, was_accepted, Tree};
 use crate::words::counted;
+
+/// Why a table that was accepted once is refused now: only question 7 can be the one.
+const NOW_PAIRED: &str = "the former table was accepted: its symbols of 24 to 31 have a first and a later value now, and each block with one weighs as a limit per run does";
 
 /// Makes a table of a former one. One that is refused later is made all the same, as the program in Rattle makes it, and told; but no table that is
 /// accepted as it is gives way to that.
@@ -32,6 +35,9 @@ pub fn run(arguments: &Convert) -> Outcome<Answer> {
     let said = made.write(output, format!("made {}", counted(records, "record")))?;
     if let Err(refused) = made.check() {
         note(&format!("made, but no call accepts it: {refused}"));
+        if was_accepted(&made.table) {
+            note(NOW_PAIRED);
+        }
     }
     needless.iter().for_each(|line| note(line));
     Ok(said.into())

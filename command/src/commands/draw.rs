@@ -23,7 +23,8 @@ pub fn run(arguments: &Draw) -> Outcome<String> {
         .iter()
         .for_each(|line| note(line));
     let branch = branch(&mut house, &nodes)?;
-    let picture = draw::svg(&house.tree.table, &house.tree.names, branch);
+    let counts = Some(&house.counts).filter(|counts| counts.any() && counts.refusal().is_none());
+    let picture = draw::svg(&house.tree.table, &house.tree.names, counts, branch);
     let said = format!("drew {}", counted(nodes.len(), "record"));
     files::replace(&arguments.output, picture.as_bytes(), said)
 }

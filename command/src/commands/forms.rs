@@ -2,6 +2,8 @@
 
 use std::path::Path;
 
+use volefleece::SYMBOLS;
+
 use super::Answer;
 use crate::cli::{Made, Source};
 use crate::counts::Counts;
@@ -12,7 +14,7 @@ use crate::names::Names;
 use crate::table;
 use crate::text;
 use crate::tree::{read_names, Tree};
-use crate::words::counted;
+use crate::words::{counted, PAIRED};
 
 pub fn check(source: &Source) -> Outcome<String> {
     let tree = Tree::read(&source.tree, source.names.as_deref())?;
@@ -25,7 +27,11 @@ pub fn check(source: &Source) -> Outcome<String> {
         .unwrap_or_default();
     let mut lines = format!("accepted\nrecords {}\ndepth {depth}\n", nodes.len());
     for symbol in table::symbols(&nodes) {
-        lines += &format!("symbol {symbol} {}\n", tree.names.symbol(symbol));
+        let paired = match table::is_paired(symbol) {
+            false => String::new(),
+            true => format!(" ({PAIRED})"),
+        };
+        lines += &format!("symbol {symbol} {}{paired}\n", tree.names.symbol(symbol));
     }
     Ok(lines)
 }
@@ -70,7 +76,9 @@ pub fn make_values(made: &Made) -> Outcome<String> {
     accept(&counts, &names)?;
     let bytes = counts.bytes();
     let values = bytes.len() / 8;
-    for symbol in (0..values).filter(|&symbol| counts.given(symbol).is_none()) {
+    // A later value that is not given counts its first, as the text has it.
+    let symbols = 0..values.min(SYMBOLS);
+    for symbol in symbols.filter(|&symbol| counts.given(symbol).is_none()) {
         note(&not_given(&names.symbol(symbol), symbol));
     }
     let said = format!("made {}", counted(values, "value"));
@@ -79,7 +87,7 @@ pub fn make_values(made: &Made) -> Outcome<String> {
 
 fn accept(counts: &Counts, names: &Names) -> Outcome {
     counts.refusal().map_or(Ok(()), |refusal| {
-        let hint = counts.fault(names);
+        let hint = counts.fault(refusal, names);
         Err(Failure::Refused { refusal, hint })
     })
 }

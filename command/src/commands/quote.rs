@@ -6,8 +6,7 @@ use volefleece::Quote;
 use super::Answer;
 use crate::cli;
 use crate::failure::{note, Failure, Outcome};
-use crate::house::{unit, House};
-use crate::names::class;
+use crate::house::House;
 use crate::table::{self, Node};
 
 pub fn run(arguments: &cli::Quote) -> Outcome<Answer> {
@@ -38,7 +37,7 @@ pub fn run(arguments: &cli::Quote) -> Outcome<Answer> {
 pub struct Quoted {
     pub house: House,
     pub quote: Quote,
-    nodes: Vec<Node>,
+    pub nodes: Vec<Node>,
 }
 
 /// The house's quote with what the caller sets, asking for what is missing or saying that it counts high.
@@ -81,16 +80,7 @@ impl Quoted {
             self.house.title, self.quote.figure
         );
         for symbol in table::symbols(&self.nodes) {
-            let class = class(symbol);
-            let name = self.house.tree.names.symbol(symbol);
-            let value = self.house.counts.values()[symbol];
-            let unit = unit(symbol);
-            let given = if self.house.counts.given(symbol).is_some() {
-                ""
-            } else {
-                " (not given)"
-            };
-            lines += &format!("{class} {name} {value}{unit}{given}\n");
+            lines += &format!("{}\n", self.house.count_line(symbol));
         }
         lines
     }
@@ -120,11 +110,19 @@ impl Quoted {
     }
 
     fn count(&self, symbol: usize) -> Value {
-        json!({
-            "symbol": symbol,
-            "name": self.house.tree.names.symbol(symbol),
-            "value": self.house.counts.values()[symbol],
-            "given": self.house.counts.given(symbol).is_some(),
-        })
+        let (names, counts) = (&self.house.tree.names, &self.house.counts);
+        let (name, value) = (names.symbol(symbol), counts.values()[symbol]);
+        let given = counts.given(symbol).is_some();
+        match counts.later_value(symbol) {
+            None => json!({"symbol": symbol, "name": name, "value": value, "given": given}),
+            Some(later) => json!({
+                "symbol": symbol,
+                "name": name,
+                "first": value,
+                "given": given,
+                "later": later,
+                "later_given": counts.given_later(symbol).is_some(),
+            }),
+        }
     }
 }

@@ -40,6 +40,9 @@ const LIMITS: [&str; 2] = [
     "at most 3 per run: no more than 3 passes in the whole run",
 ];
 
+const PAIRS: &str =
+    "first and later: a block's first pass in the run takes the first number, each other pass of that block the later one";
+
 /// What stands above the tree, and how far it reaches.
 pub struct Head {
     pub title: String,
@@ -65,6 +68,9 @@ pub fn head(nodes: &[Node], places: &[Place], names: &Names, marked: Option<usiz
         for remark in LIMITS {
             head.add_remark("small", remark);
         }
+    }
+    if nodes.iter().any(|node| node.paired_symbol().is_some()) {
+        head.add_remark("small", PAIRS);
     }
     if let Some(child) = marked {
         let branch = branch_words(child, names);

@@ -2,9 +2,10 @@
 
 use super::layout::Size;
 use super::text::{cells, wrapped, CELL};
+use crate::counts::Counts;
 use crate::names::Names;
 use crate::table::Node;
-use crate::words::{address_words, kind_words, limit_words};
+use crate::words::{address_words, kind_words, limit_words, value_words, PAIRED};
 
 pub const LINE_HEIGHT: usize = 16;
 /// From a box's edge to its text. A choice's points and a loop's ends take up the sides.
@@ -26,15 +27,20 @@ pub struct Line {
 }
 
 impl Label {
-    /// The label of a node, that of a branch with the branch's number and name.
-    pub fn new(node: &Node, names: &Names, branch: Option<usize>) -> Self {
+    /// The label of a node, that of a branch with the branch's number and name, that of a paired symbol with what it counts first and later.
+    pub fn new(node: &Node, names: &Names, counts: Option<&Counts>, branch: Option<usize>) -> Self {
         let branch = branch.map(|child| (Some("branch"), branch_words(child, names)));
         let what = (None, kind_words(node.kind, names));
+        let pair = node.paired_symbol().map(|symbol| {
+            let values = counts.map(|counts| value_words(symbol, counts));
+            (Some("pair"), values.unwrap_or_else(|| PAIRED.into()))
+        });
         let limit = node
             .limit
             .map(|limit| (Some("limit"), limit_words(limit, names)));
         let address = address_words(node.address).map(|words| (Some("address"), words));
-        let parts = branch.into_iter().chain([what]).chain(limit).chain(address);
+        let parts = branch.into_iter().chain([what]).chain(pair);
+        let parts = parts.chain(limit).chain(address);
         let lines = parts.flat_map(|(class, text)| {
             let lines = wrapped(&text, MOST_CELLS).into_iter();
             lines.map(move |text| Line { text, class })

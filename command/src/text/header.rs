@@ -1,6 +1,6 @@
 //! The names at the beginning of a text: `symbol 0 cards`, `branch 1 radio`, `house Lakeside`.
 
-use volefleece::VALUES;
+use volefleece::SYMBOLS;
 
 use super::lines::{number, Line, Problem, Word};
 use crate::names::{Named, Names};
@@ -30,7 +30,7 @@ pub fn read(line: &mut Line, names: &mut Names) -> Result<(), Problem> {
 
 /// What is wrong here is told once, and not again wherever the name is used.
 fn symbol(line: &mut Line, names: &mut Names) -> Result<(), Problem> {
-    let symbol = index(line, VALUES as u64 - 1, "a symbol's number");
+    let symbol = index(line, SYMBOLS as u64 - 1, "a symbol's number");
     let word = line.next();
     let added = symbol.and_then(|symbol| add(&word, Named::Symbol(symbol), names));
     if added.is_err() {

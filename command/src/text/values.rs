@@ -1,12 +1,13 @@
-//! Values as text: a symbol's name and its value on each line.
+//! Values as text: a symbol's name and its value on each line; for a paired one its first value and, where it is given, its later one.
 
-use volefleece::{ceiling, MOST_TIME, VALUES};
+use volefleece::{ceiling, FIRST_PAIRED, MOST_TIME, SYMBOLS};
 
 use super::header;
 use super::lines::{lines, number, Line, Problem, Problems};
 use crate::counts::Counts;
 use crate::failure::Failure;
 use crate::names::Names;
+use crate::table::is_paired;
 
 /// The values that a text gives. Its names are taken in beside those that are known.
 pub fn parse(text: &str, names: &mut Names) -> Result<Counts, Problems> {
@@ -39,18 +40,38 @@ fn value(line: &mut Line, names: &Names, counts: &mut Counts) -> Result<(), Prob
     if symbol.is_none() && !names.is_excused(name.text) {
         return Err(expected());
     }
-    let word = line.next();
     let most = symbol.map_or(MOST_TIME, ceiling);
-    let value = number(&word, most);
-    let expected = || Problem::expected(&word, &format!("a number from 0 to {most}"));
-    let value = value.ok_or_else(expected)?;
+    let first = number_to(line, most)?;
+    let later = later(line, symbol, most);
     if let Some(symbol) = symbol {
         if counts.given(symbol).is_some() {
             return Err(name.problem(format!("{} has a value already", name.text)));
         }
-        counts.set(symbol, value);
+        let later = later.as_ref().ok().copied().flatten();
+        counts.set(symbol, first, later);
     }
-    line.want_end()
+    later.and_then(|_| line.want_end())
+}
+
+/// The second number of a line, which a paired symbol may have, and one whose name is wrong where it is given.
+fn later(line: &mut Line, symbol: Option<usize>, most: u64) -> Result<Option<u64>, Problem> {
+    match symbol {
+        _ if line.peek().text.is_empty() => Ok(None),
+        Some(symbol) if !is_paired(symbol) => {
+            let (first, last) = (FIRST_PAIRED, SYMBOLS - 1);
+            let expected = format!(
+                "the end of the line (symbols {first} to {last} alone have a later number)"
+            );
+            Err(Problem::expected(&line.next(), &expected))
+        }
+        _ => number_to(line, most).map(Some),
+    }
+}
+
+fn number_to(line: &mut Line, most: u64) -> Result<u64, Problem> {
+    let word = line.next();
+    let expected = || Problem::expected(&word, &format!("a number from 0 to {most}"));
+    number(&word, most).ok_or_else(expected)
 }
 
 /// Values that the library refuses, as far as they can be read: the refusal, then each value.
@@ -65,16 +86,18 @@ pub fn print_refused(counts: &Counts, names: &Names, failure: &Failure) -> Strin
 
 /// The text of these values, which gives them back if each is in range.
 pub fn print(counts: &Counts, names: &Names) -> String {
-    let given: Vec<usize> = (0..VALUES)
-        .filter(|&symbol| counts.given(symbol).is_some())
-        .collect();
+    let given = (0..SYMBOLS).filter_map(|symbol| {
+        let numbers = [counts.given(symbol)?].into_iter();
+        let numbers = numbers.chain(counts.given_later(symbol));
+        Some(numbers.fold(names.symbol(symbol), |line, number| {
+            format!("{line} {number}")
+        }))
+    });
+    let given: Vec<String> = given.collect();
     let mut lines = names.header(&[]);
     if !lines.is_empty() && !given.is_empty() {
         lines.push(String::new());
     }
-    for symbol in given {
-        let value = counts.given(symbol).expect("a given value");
-        lines.push(format!("{} {value}", names.symbol(symbol)));
-    }
+    lines.extend(given);
     lines.iter().map(|line| format!("{line}\n")).collect()
 }

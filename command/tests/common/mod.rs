@@ -40,6 +40,19 @@ pub fn house(name: &str) -> Folder {
     folder
 }
 
+/// All values where these alone are given: the others count the most, and later ones as their first.
+pub fn all_values(given: &[u64]) -> Vec<u64> {
+    let mut values = given.to_vec();
+    for place in values.len()..40 {
+        values.push(match place {
+            0..16 => 1_000_000,
+            16..32 => 1_000_000_000_000,
+            _ => values[place - 8],
+        });
+    }
+    values
+}
+
 /// Writes a file and makes the folders above it.
 pub fn put(folder: &Folder, name: &str, bytes: impl AsRef<[u8]>) {
     let path = folder.path(name);

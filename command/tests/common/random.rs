@@ -15,12 +15,17 @@ const MIDDLING: Amounts = Amounts {
     symbols: 3,
 };
 
-/// A table that is accepted.
+/// A table that is accepted. Its new amounts may be too many paired symbols, and then there is another.
 pub fn accepted(rng: &mut Rng) -> Vec<u8> {
-    let records = rng.size(1..=60);
-    let mut tree = trees::within_limits(rng, records);
-    MIDDLING.set(rng, &mut tree);
-    tree.encode()
+    loop {
+        let records = rng.size(1..=60);
+        let mut tree = trees::within_limits(rng, records);
+        MIDDLING.set(rng, &mut tree);
+        let table = tree.encode();
+        if volefleece::check(&table).is_ok() {
+            return table;
+        }
+    }
 }
 
 /// A table that is accepted about every other time.
@@ -43,18 +48,26 @@ pub fn table(rng: &mut Rng) -> Vec<u8> {
     table
 }
 
-/// A file of values: none, short, whole, of a wrong length, or with a number out of range.
+/// A file of values: none, short, whole, of a wrong length, with a number out of range, or with a later one above its first.
 pub fn values(rng: &mut Rng) -> Option<Vec<u8>> {
     let mut values = MIDDLING.values(rng);
+    values.truncate(32);
+    for first in 24..32 {
+        values.push(rng.within(0..=values[first]));
+    }
     if rng.once_in(6) {
         let most = rng.pick(&[1_000_001, 1_000_000_000_001, u64::MAX]);
-        values[rng.index(32)] = most;
+        values[rng.index(40)] = most;
+    }
+    if rng.once_in(8) {
+        let pair = rng.index(8);
+        values[32 + pair] = values[24 + pair].saturating_add(1);
     }
     let mut file = values_file(&values);
     match rng.index(10) {
         0 => return None,
-        1 => file.truncate(8 * rng.size(0..=32)),
-        2 => file.truncate(rng.size(0..=256)),
+        1 => file.truncate(8 * rng.size(0..=40)),
+        2 => file.truncate(rng.size(0..=320)),
         3 => file.extend(vec![0; rng.pick(&[1, 8, 300])]),
         _ => {}
     }

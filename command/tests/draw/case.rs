@@ -4,6 +4,7 @@ use std::ops::Range;
 
 use super::picture::Picture;
 use super::xml;
+use volefleece_command::counts::Counts;
 use volefleece_command::draw::svg;
 use volefleece_command::names::Names;
 use volefleece_tests::trees::{Amount, Kind, Tree};
@@ -12,6 +13,7 @@ use volefleece_tests::trees::{Amount, Kind, Tree};
 pub struct Case {
     pub tree: Tree,
     pub names: Names,
+    pub counts: Option<Counts>,
     pub branch: Option<usize>,
 }
 
@@ -29,6 +31,7 @@ impl Case {
         Case {
             tree,
             names: Names::default(),
+            counts: None,
             branch: None,
         }
     }
@@ -36,7 +39,7 @@ impl Case {
     pub fn draw(&self) -> Picture {
         let table = self.tree.encode();
         assert_eq!(volefleece::check(&table), Ok(self.tree.records()));
-        let svg = svg(&table, &self.names, self.branch);
+        let svg = svg(&table, &self.names, self.counts.as_ref(), self.branch);
         Picture::read(&xml::parse(&svg).expect("well-formed XML"))
     }
 
@@ -58,7 +61,7 @@ impl Case {
         branch.map_or(0..0, |node| node.records.clone())
     }
 
-    /// A node's words: its branch's, its own, its limit's and its address.
+    /// A node's words: its branch's, its own, its paired symbol's, its limit's and its address.
     pub fn words(&self, node: &Expected) -> String {
         let branch = match node.parent {
             Some((0, child)) if self.tree.kind == Kind::Choice => match self.names.branch(child) {
@@ -74,6 +77,7 @@ impl Case {
             Kind::Choice => "choice".into(),
             Kind::Loop(bound) => format!("loop {}", self.amount(bound)),
         };
+        let pair = paired(node.tree).map_or(String::new(), |symbol| self.pair(symbol));
         let limit = node.tree.limit.map_or(String::new(), |limit| {
             let scope = match limit.names {
                 255 => "run".into(),
@@ -85,7 +89,24 @@ impl Case {
             0 => String::new(),
             address => format!("address 0x{address:x}"),
         };
-        [branch, kind, limit, address].join(" ")
+        [branch, kind, pair, limit, address].join(" ")
+    }
+
+    /// What a paired symbol counts first and later.
+    fn pair(&self, symbol: usize) -> String {
+        let Some(counts) = &self.counts else {
+            return "first and later".into();
+        };
+        match (counts.given(symbol), counts.given_later(symbol)) {
+            (Some(first), Some(later)) => format!("first {first} cycles, later {later} cycles"),
+            (Some(first), None) => {
+                format!("first {first} cycles, later {first} cycles (as the first)")
+            }
+            (None, _) => {
+                let most = "1000000000000 cycles";
+                format!("first {most} (not given), later {most} (as the first)")
+            }
+        }
     }
 
     fn amount(&self, amount: Amount) -> String {
@@ -96,6 +117,14 @@ impl Case {
                 format!("triangular {}", self.names.symbol(symbol as usize))
             }
         }
+    }
+}
+
+/// The paired symbol of a block.
+pub fn paired(tree: &Tree) -> Option<usize> {
+    match tree.kind {
+        Kind::Block(Amount::Symbol(symbol @ 24..)) => Some(symbol as usize),
+        _ => None,
     }
 }
 

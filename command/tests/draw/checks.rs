@@ -1,6 +1,6 @@
 //! What must hold of every picture.
 
-use super::case::{Case, Expected};
+use super::case::{paired, Case, Expected};
 use super::picture::{squeezed, Area, Link, Picture};
 use volefleece_tests::trees::Kind;
 
@@ -69,13 +69,18 @@ fn check_marks(case: &Case, picture: &Picture) {
     assert!(picture.drawn_marks.is_sorted());
 }
 
-/// The legend has a sample of each kind, and says what a mark and a limit mean where there are any.
+/// The legend has a sample of each kind, and says what a mark, a limit, and first and later mean where there are any.
 fn check_legend(case: &Case, picture: &Picture) {
     assert_eq!(picture.samples.len(), 4);
     let lines = picture.loose.iter();
     let legend: String = lines.map(|text| squeezed(&text.content)).collect();
     let has_limits = case.tree != case.tree.unlimited();
     assert_eq!(legend.contains("atmost3perrun:"), has_limits);
+    let has_pairs = case
+        .expected()
+        .iter()
+        .any(|node| paired(node.tree).is_some());
+    assert_eq!(legend.contains("firstandlater:"), has_pairs);
     let is_marked = !case.marked().is_empty();
     assert_eq!(legend.contains("setsthequote"), is_marked);
     if let Some(child) = case.branch.filter(|_| is_marked) {
