@@ -43,7 +43,7 @@ pub fn front(tree: &Tree, members: usize, values: &[u64]) -> Result<Front, u64> 
 fn block(time: Amount, members: usize, values: &[u64]) -> Vec<u64> {
     let mut times = vec![number(time, values); members];
     if let Amount::Symbol(symbol @ 24..=31) = time {
-        times[1..].fill(values[symbol as usize + 8]);
+        times[1..].fill(values[symbol as usize + LATER]);
     }
     times
 }
