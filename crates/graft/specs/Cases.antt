@@ -2,6 +2,7 @@
 use mathlib.Core.Path.{_≡_, refl}
 use Prim.Native.Nat.{ℕ}
 use lib.ListN.{replicate}
+use Rattle.table.specs.Questions.{numberHas}
 use Rattle.table.specs.Table.{encode}
 use Rattle.table.specs.Trees.{Tree, around, rest, everyNode}
 use Rattle.table.specs.Notation.{_addressed_, _/_at_, block, both, either, loop, sequence, symbol}
@@ -19,7 +20,7 @@ sent i j = loop 2 (either (block 10 / 1 at i addressed 3) (block 4 / 3 at 1 addr
 
 -- each X becomes a loop 1 of the sent tree, which its whole-run limits name and which has X's address; its exit has address 0
 pub example-holds : graft 20 (sent 255 255) (host (symbol 20)) ≡ host (loop 1 (sent 2 1) (block 0))
-unfolding host sent graft inPlace rename renamedLimit isSymbol around rest block symbol _/_at_ _addressed_ sequence both either loop
+unfolding host sent graft inPlace rename renamedLimit isSymbol numberHas around rest block symbol _/_at_ _addressed_ sequence both either loop
 example-holds = refl
 
 -- the number of the refusal, 0 for none, where this tree is sent for a host of one block with symbol s
@@ -36,7 +37,7 @@ record Elevens : Type 0 where
   paired-below : refusedFor (loop 1 (symbol 31) (block 0)) 16 ≡ 11
 
 elevens-hold : Elevens
-unfolding computed refusedFor graftedRefusal graftAnswer graftRefusal graftQuestions question11 question12 graftTable uses everyNode graft inPlace rename renamedLimit isSymbol
+unfolding computed refusedFor graftedRefusal graftAnswer graftRefusal graftQuestions question11 question12 graftTable uses everyNode graft inPlace rename renamedLimit isSymbol numberHas
 elevens-hold = record {
   last-single = refl;
   first-paired = refl;

@@ -2,8 +2,9 @@
 use mathlib.Core.Bool.{Bool, false, cond, _||_}
 use Prim.Native.Nat.{ℕ, suc}
 use lib.Dec.{eqb}
-use Rattle.splice.specs.Nodes.{Plain, Symbol, Limit, Unlimited, AtMost, Kind, Block, Sequence, Choice, Loop}
+use Rattle.splice.specs.Nodes.{Plain, Limit, Unlimited, AtMost, Kind, Block, Sequence, Choice, Loop}
 use Rattle.table.specs.Numbers.{wholeRun}
+use Rattle.table.specs.Questions.{numberHas}
 use Rattle.table.specs.Trees.{Tree, node, Forest, nil, _▸_, rest, around}
 
 -- ---- whole-run limits of the sent tree then name the loop that is put around it
@@ -28,8 +29,7 @@ unfoldable mutual
 
 -- a block whose time is symbol s
 unfoldable pub isSymbol : ℕ → Kind → Bool
-isSymbol s (Block (Plain n)) = false
-isSymbol s (Block (Symbol k)) = eqb k s
+isSymbol s (Block t) = numberHas s t
 isSymbol s Sequence = false
 isSymbol s Choice = false
 isSymbol s (Loop n) = false

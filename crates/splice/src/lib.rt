@@ -23,22 +23,12 @@ const LOOP_ROOM: usize = 9;
 
 // ---- The symbol
 
-// Is a block's time the symbol?
-fn time_is(time: Number, symbol: u64) -> bool
-    ensures { λ r. ⌜ r ≡ isSymbol symbol (Kind.Block time) ⌝ }
-{
-    match time {
-        Number::Plain(_) => false,
-        Number::Symbol(s) => s == symbol,
-    }
-}
-
 // Is this a block whose time is the symbol?
 fn is_symbol(kind: Kind, symbol: u64) -> bool
     ensures { λ r. ⌜ r ≡ isSymbol symbol kind ⌝ }
 {
     match kind {
-        Kind::Block(time) => time_is(time, symbol),
+        Kind::Block(time) => table::number_has(time, symbol),
         Kind::Sequence => false,
         Kind::Choice => false,
         Kind::Loop(_) => false,

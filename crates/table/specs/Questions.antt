@@ -56,8 +56,14 @@ unfoldable mutual
   listedIn nil = true
   listedIn (t ▸ f) = listed t and listedIn f
 
--- ---- symbols with a first and a later value
+-- ---- symbols
 
+-- a time or bound that is symbol s
+unfoldable pub numberHas : (symbol : ℕ) → Number → Bool
+numberHas s (Plain n) = false
+numberHas s (Symbol k) = eqb k s
+
+-- symbols with a first and a later value
 abbrev pub pairedSymbol : ℕ → Bool
 pairedSymbol s = leb firstPairedSymbol s and ltb s howManySymbols
 

@@ -8,7 +8,7 @@ ghost use Rattle.table.specs.Questions.{timeInRange, countInRange, kindI
 ghost use Rattle.table.specs.Checking.{fillListed, flagsListed, kindListed, limitCount, limitListed, question1, question2, question3, question4, recordInRange, recordListed, refusal};
 ghost use Rattle.table.specs.Numbers.{mostLoops, mostDepth};
 ghost use Rattle.table.specs.Trees.{around};
-ghost use Rattle.table.specs.Questions.{nameOk, paired, pairedBlock, pairedShare};
+ghost use Rattle.table.specs.Questions.{nameOk, numberHas, paired, pairedBlock, pairedShare};
 ghost use Rattle.table.specs.Survey.{mostShare, nodeShare, nameShare, listedShare, withNext, withParent, Small, surveyNode, surveyChildren, surveyRefusal};
 
 // ---- Numbers, as in specs/Numbers.antt
@@ -76,6 +76,16 @@ pub struct Node {
     pub kind: Kind,
     pub limit: Limit,
     pub address: u32,
+}
+
+// Is a time or bound the symbol?
+pub fn number_has(number: Number, symbol: u64) -> bool
+    ensures { λ r. ⌜ r ≡ numberHas symbol number ⌝ }
+{
+    match number {
+        Number::Plain(_) => false,
+        Number::Symbol(s) => s == symbol,
+    }
 }
 
 // Has this time two values, one for its block's first pass and one for the later ones?
@@ -332,7 +342,7 @@ pub fn records_listed(table: &[u8]) -> bool
 
 // ---- Question 3
 
-fn time_in_range(time: Number) -> bool
+pub fn time_in_range(time: Number) -> bool
     ensures { λ r. ⌜ r ≡ timeInRange time ⌝ }
 {
     match time {
@@ -341,7 +351,7 @@ fn time_in_range(time: Number) -> bool
     }
 }
 
-fn count_in_range(count: Number) -> bool
+pub fn count_in_range(count: Number) -> bool
     ensures { λ r. ⌜ r ≡ countInRange count ⌝ }
 {
     match count {
@@ -350,7 +360,7 @@ fn count_in_range(count: Number) -> bool
     }
 }
 
-fn most_in_range(most: Most) -> bool
+pub fn most_in_range(most: Most) -> bool
     ensures { λ r. ⌜ r ≡ mostInRange most ⌝ }
 {
     match most {

@@ -1,1 +1,3 @@
+-- Laws, in the order in which they lean on each other.
 pub mod Values
+pub mod Set

@@ -22,7 +22,7 @@ use Rattle.values.specs.Values.{NoneLower, ceiling, question14, question9, valu
 use Rattle.quoting.specs.Answers.{figureAnswer, figureRefusal, quoteOf, quoteQuestions, quotedRefusal}
 use Rattle.deskfiles.specs.Files.{FilesPromise, fileValues, filesAnswer, fileValue, filesRefusal, symbolValue, valueLength, valueOr, valuesFrom, valuesWhole}
 use Rattle.quoting.specs.Laws.Figures.{figure-monotone, figured}
-use Rattle.values.specs.Laws.Values.{in-range, pair-low, values-fourteen, values-nine}
+use Rattle.values.specs.Laws.Values.{pair-low, value-ranged, values-fourteen, values-nine}
 
 values-length : (n i : ℕ) (b : List ℕ) → length (valuesFrom n i b) ≡ n
 unfolding valuesFrom
@@ -120,7 +120,7 @@ module _ (v more : List ℕ) (whole : length v % valueLength ≡ 0) where
       where
         go : (b : Bool) → ltb (valueLength * i) (length v) ≡ b → fileValue longer i ≤ fileValue v i
         go true e = omega (arith, value-first v i l, value-first longer i l, written-same (ceiling i) (ceiling i) i (ltb-true _ _ e))
-        go false e = omega (arith, value-first v i l, absent-is (ceiling i) i (ltb-false (valueLength * i) (length v) e), value-at longer i (omega arith), in-range (fileValues longer) nine i (omega arith))
+        go false e = omega (arith, value-first v i l, absent-is (ceiling i) i (ltb-false (valueLength * i) (length v) e), value-at longer i (omega arith), value-ranged (fileValues longer) nine i (omega arith))
 
     -- a later value that is absent from it equals its first there, and in the longer file is not above its own
     later-lower : (i : ℕ) → howManySymbols ≤ i → i < howManyValues → fileValue longer i ≤ fileValue v i

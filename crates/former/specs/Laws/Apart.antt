@@ -1,9 +1,9 @@
 -- No former table that was accepted passes as a table: what would be the last four bytes of its first record is the second record's limit, and no limit
 -- was as large as these bytes ask.
 use mathlib.Core.Path.{_≡_, _∙_}
-use mathlib.Core.Bool.{Bool, _&&_}
+use mathlib.Core.Bool.{_&&_}
 use mathlib.Core.List.{List}
-use Prim.Native.Nat.{ℕ, zero, suc, _≤_, _/_, _%_}
+use Prim.Native.Nat.{ℕ, zero, suc, _<_, _≤_, _/_, _%_}
 use native.Mathlib.Omega.{arith}
 use lib.Dec.{T, eqb, eqb→eq, leb→le, ltb→lt}
 use lib.ListN.{drop, getD, length}
@@ -12,10 +12,10 @@ use Rattle.booleans.specs.Laws.{&&-both, both}
 use Rattle.table.specs.Checking.{fieldsListed, flagsListed, kindListed, limitCount, limitListed, question1, question2, questions, recordInRange, recordListed, refusal}
 use Rattle.table.specs.Numbers.{fill, firstTimeSymbol, mostCount, recordLength}
 use Rattle.table.specs.Questions.{mostInRange}
-use Rattle.table.specs.Table.{each, eachBy, field, firstNode, limitFrom, mostFrom, recordCount}
+use Rattle.table.specs.Table.{field, firstNode, limitFrom, mostFrom, recordCount}
 use Rattle.table.specs.Laws.Asking.{Yes, all-yes, numbered}
 use Rattle.table.specs.Laws.Canonical.{listed-parts}
-use Rattle.table.specs.Laws.Reading.{field-4}
+use Rattle.table.specs.Laws.Reading.{each-at, field-4}
 use Rattle.former.specs.Former.{formerCount, formerLength, formerQuestion1, formerQuestions, formerRefusal}
 
 -- a limit's field that questions 2 and 3 let pass
@@ -38,19 +38,8 @@ field-low b t h =
     let F = flagsListed (getD b 1 0 / 2) in
     limit-low (getD b 3 0) (getD b 1 0 / 2) (field b 4 4) (&&-both S N (&&-both (S && N) F t .0) .1) (both _ _ h .1)
 
-first-each : (p : List ℕ → Bool) (n : ℕ) (b : List ℕ) → 1 ≤ n → T (each p n b) → T (p b)
-unfolding eachBy
-first-each p zero b l h = absurd (omega arith)
-first-each p (suc n) b l h = both _ _ h .0
-
-second-each : (p : List ℕ → Bool) (n : ℕ) (b : List ℕ) → 2 ≤ n → T (eachBy formerLength p n b) → T (p (drop formerLength b))
-unfolding eachBy
-second-each p zero b l h = absurd (omega arith)
-second-each p (suc zero) b l h = absurd (omega arith)
-second-each p (suc (suc n)) b l h = both _ _ (both _ _ h .1) .0
-
 -- what a length that both first questions let pass is at least
-two-records : (b : List ℕ) → T (question1 b) → T (formerQuestion1 b) → (1 ≤ recordCount b) × (2 ≤ formerCount b)
+two-records : (b : List ℕ) → T (question1 b) → T (formerQuestion1 b) → (0 < recordCount b) × (1 < formerCount b)
 unfolding question1 formerQuestion1
 two-records b h i =
     let (p, s) = both _ _ h in
@@ -66,6 +55,6 @@ never-both b e f =
     let z = all-yes (questions b) tt f in
     let (one, two) = two-records b (z .0) (y .0) in
     let c = drop formerLength b in
-    let low = field-low c (second-each fieldsListed (formerCount b) b two (y .1 .0)) (second-each recordInRange (formerCount b) b two (y .1 .1 .0)) in
-    let (i, j, k, l) = listed-parts b (first-each recordListed (recordCount b) b one (z .1 .0)) .fill in
+    let low = field-low c (each-at formerLength fieldsListed (formerCount b) b 1 (y .1 .0) two) (each-at formerLength recordInRange (formerCount b) b 1 (y .1 .1 .0) two) in
+    let (i, j, k, l) = listed-parts b (each-at recordLength recordListed (recordCount b) b 0 (z .1 .0) one) .fill in
     omega (arith, low, field-4 c 4, getD-drop formerLength b 4 0 ∙ i, getD-drop formerLength b 5 0 ∙ j, getD-drop formerLength b 6 0 ∙ k, getD-drop formerLength b 7 0 ∙ l)

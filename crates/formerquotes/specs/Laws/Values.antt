@@ -6,7 +6,7 @@ use native.Mathlib.Omega.{arith}
 use lib.Dec.{T, eqb, eqb→eq, le→leb, leb→le, ltb→lt}
 use lib.ListN.{List·getD-append, drop, getD, length, length-append, length-drop}
 use lib.Seq.{getD-append-add, getD-drop}
-use borrow.Author.Tests.{eq-eqb, le-ltb}
+use borrow.Author.Tests.{eq-eqb}
 use Rattle.booleans.specs.Tests.{_and_}
 use Rattle.booleans.specs.Laws.{both, is-T, join-and, same-test}
 use Rattle.table.specs.Checking.{limitCount, recordInRange}
@@ -19,15 +19,12 @@ use Rattle.table.specs.declared.Limit.the-variants.{AtMost, Unlimited}
 use Rattle.table.specs.declared.Most.{Most}
 use Rattle.evaluate.specs.Evaluate.{Values, valuesOf}
 use Rattle.values.specs.Values.{ceiling, laterLow, question14, question9, ranged, recordSmall, triangleSmall}
+use Rattle.values.specs.Laws.Values.{time-ceiling}
 use Rattle.former.specs.Former.{formerLength}
 use Rattle.formerquotes.specs.Answers.{formerQuestion9, withLaters}
 use Rattle.formerquotes.specs.Laws.Evaluation.{Repeats, symbol-was}
 
 -- ---- 9
-
-time-ceiling : (i : ℕ) → firstTimeSymbol ≤ i → ceiling i ≡ ceiling firstTimeSymbol
-unfolding ceiling
-time-ceiling i l = rw (le-ltb i firstTimeSymbol l) refl
 
 -- among times it does not matter which is asked
 ranged-times : (i j : ℕ) (xs : List ℕ) → firstTimeSymbol ≤ i → firstTimeSymbol ≤ j → T (ranged i xs) → T (ranged j xs)

@@ -1,10 +1,10 @@
 -- The grafted tree: the host's named loop, and the host's list with the symbol set to the sent tree's figure.
 use mathlib.Core.Path.{_≡_, refl, ap, ap₂, _∙_, sym, subst}
-use mathlib.Core.Bool.{Bool, true, false, cond, _||_}
-use Prim.Native.Nat.{ℕ, suc, min, _+_, _<_, _≤_}
+use mathlib.Core.Bool.{Bool, true, false, _||_}
+use Prim.Native.Nat.{ℕ, suc, min, _<_, _≤_}
 use native.Mathlib.Omega.{arith}
-use lib.Dec.{T, eqb, leb, le→leb, leb→le, ltb, ltb→lt}
-use borrow.Author.Tests.{eq-eqb, ne-eqb}
+use lib.Dec.{T, eqb, leb, le→leb, ltb, ltb→lt}
+use borrow.Author.Tests.{ne-eqb}
 use Rattle.triangular.specs.Triangular.{triangular}
 use Rattle.table.specs.declared.Most.{Most}
 use Rattle.table.specs.declared.Number.{Number}
@@ -14,10 +14,10 @@ use Rattle.table.specs.declared.Limit.the-variants.{Unlimited, AtMost}
 use Rattle.table.specs.declared.Kind.{Kind}
 use Rattle.table.specs.declared.Kind.the-variants.{Block, Sequence, Choice, Loop}
 use Rattle.booleans.specs.Tests.{_and_}
-use Rattle.booleans.specs.Laws.{both, join-and, by-cond, by-conds, either, or-else, is-T, T-is}
-use Rattle.table.specs.Numbers.{firstPairedSymbol, firstTimeSymbol, laterPlace, mostTime, wholeRun}
+use Rattle.booleans.specs.Laws.{both, join-and, by-cond, either, or-else, is-T, T-is}
+use Rattle.table.specs.Numbers.{firstPairedSymbol, firstTimeSymbol, mostTime, wholeRun}
 use Rattle.table.specs.Trees.{Tree, node, Forest, nil, _▸_, size, rest, around}
-use Rattle.table.specs.Questions.{Accepted, arity, countInRange, isAddress, kindInRange, limitInRange, listed, listedIn, nameOk, named, namedIn, paired, pairedBlock, pairedSymbol, timeInRange, mostInRange, unpaired}
+use Rattle.table.specs.Questions.{Accepted, arity, countInRange, isAddress, kindInRange, limitInRange, listed, listedIn, nameOk, named, namedIn, numberHas, paired, pairedBlock, timeInRange, mostInRange, unpaired}
 use Rattle.lists.specs.Streams.{Stream, S, add, cap, const, group, shift}
 use Rattle.evaluate.specs.Evaluate.{Values, amount, before, branch, branchIn, figure, fits, fitsIn, holderIn, inner, join, later, limit, list, name, nameIn, noBranch, onceThen, rounds, seen, start, turns, allowed}
 use Rattle.evaluate.specs.Closed.{stays, closed, closedIn}
@@ -25,6 +25,7 @@ use Rattle.evaluate.specs.Laws.Evaluator.{Fair, rest-ranged}
 use Rattle.evaluate.specs.Laws.Ranges.{figure-most}
 use Rattle.evaluate.specs.Laws.Constant.{closedIn-const, closedIn-run}
 use Rattle.evaluate.specs.Laws.Times.{later-below, once-same}
+use Rattle.values.specs.Laws.Set.{later-but, set-other, set-there, setValue}
 use Rattle.splice.specs.Graft.{graft, graftIn, inPlace, isSymbol, rename, uses, usesIn, zeroBlock}
 use Rattle.splice.specs.Laws.Sizes.{size-grafted, symbol-only}
 use Rattle.graft.specs.Laws.Renamed.{rename-closed, rename-fits, rename-list, rename-listed, rename-named}
@@ -140,18 +141,10 @@ module _ (v w : Values) (s : ℕ) (h : firstTimeSymbol ≤ s) (same : (k : ℕ) 
   limit-but Unlimited f r = refl
   limit-but (AtMost k m) f r = ap (λ n. cap n f) (allowed-but m (both _ _ r .1))
 
-  -- the later value of a paired symbol is behind them all
-  later-but : s < firstPairedSymbol → (k : ℕ) → eqb k s ≡ false → later v (Symbol k) ≡ later w (Symbol k)
-  unfolding later paired
-  later-but l k e =
-      by-conds _≡_ (pairedSymbol k) _ _ _ _
-      (λ p. ap₂ min (same k e) (same (k + laterPlace) (ne-eqb (k + laterPlace) s (λ q. omega (arith, leb→le firstPairedSymbol k (both _ _ p .0))))))
-      (λ p. same k e)
-
   start-but : s < firstPairedSymbol → (k : Kind) → T (kindInRange k) → isSymbol s k ≡ false → start v k ≡ start w k
-  unfolding start isSymbol amount later
+  unfolding start isSymbol numberHas amount later
   start-but l (Block (Plain n)) r e = refl
-  start-but l (Block (Symbol k)) r e = ap₂ onceThen (same k e) (later-but l k e)
+  start-but l (Block (Symbol k)) r e = ap₂ onceThen (same k e) (later-but v w s same l k e)
   start-but l Sequence r e = refl
   start-but l Choice r e = refl
   start-but l (Loop n) r e = refl
@@ -163,24 +156,12 @@ module _ (v w : Values) (s : ℕ) (h : firstTimeSymbol ≤ s) (same : (k : ℕ) 
   turns-but Choice i f r = refl
   turns-but (Loop n) i f r = ap (λ m. rounds i m f) (amount-but n r)
 
--- the values with symbol s set to x
-unfoldable pub setValue : Values → (s x : ℕ) → Values
-setValue v s x k = cond (eqb k s) x (v k)
-
-pub set-other : (v : Values) (s x k : ℕ) → eqb k s ≡ false → v k ≡ setValue v s x k
-unfolding setValue
-set-other v s x k e = rw e refl
-
 rest-no-symbol : (s : ℕ) (k : Kind) → isSymbol s (rest k) ≡ false
 unfolding isSymbol rest
 rest-no-symbol s (Block t) = refl
 rest-no-symbol s Sequence = refl
 rest-no-symbol s Choice = refl
 rest-no-symbol s (Loop n) = refl
-
-set-there : (v : Values) (s x : ℕ) → setValue v s x s ≡ x
-unfolding setValue
-set-there v s x = rw (eq-eqb s s refl) refl
 
 module _ (v : Values) (s : ℕ) (u : Tree) (g : Replaces s u) (o : Fair u 0) where
   mutual

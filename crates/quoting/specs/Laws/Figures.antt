@@ -1,21 +1,21 @@
 -- What is asked of a table with a desk's values, and what it says of both that the figure call answers a figure.
 use mathlib.Core.Path.{_≡_, refl, sym, ap, _∙_}
 use mathlib.Core.List.{List, [], _∷_}
-use Prim.Native.Nat.{ℕ, _≤_}
+use Prim.Native.Nat.{ℕ, zero, suc, _≤_}
 use native.Mathlib.Omega.{arith}
 use lib.Dec.{T}
 use Rattle.booleans.specs.Laws.{T-is}
-use Rattle.table.specs.Table.{decode}
+use Rattle.table.specs.Table.{decode, recordCount}
 use Rattle.table.specs.Asking.{_asks_, byRefusal, firstNo}
 use Rattle.table.specs.Checking.{refusal}
-use Rattle.table.specs.Laws.Asking.{Yes, all-yes, number-is, numbered, passed, passes, stops}
+use Rattle.table.specs.Laws.Asking.{Yes, all-yes, answered, number-is, numbered, passed, passes, stops}
 use Rattle.table.specs.Laws.Refusal.{check-passed, check-passes}
 use Rattle.evaluate.specs.Evaluate.{valuesOf, figure, branch, fits}
 use Rattle.evaluate.specs.Laws.Monotone.{figure-mono}
+use Rattle.quoting.specs.declared.Checked.{Checked}
 use Rattle.quoting.specs.declared.Quote.{Quote}
-use Rattle.values.specs.Values.{NoneLower, question13, question14, question9, valueQuestions, valuesRefusal}
-use Rattle.quoting.specs.Answers.{figureAnswer, figureRefusal, quoteOf, quoteQuestions, quotedBranch, quotedFigure, quotedRefusal}
-use Rattle.values.specs.Laws.Values.{values-fourteen, values-nine, values-thirteen}
+use Rattle.values.specs.Values.{NoneLower, valueQuestions, valuesRefusal}
+use Rattle.quoting.specs.Answers.{checkAnswer, figureAnswer, figureRefusal, quoteOf, quoteQuestions, quotedBranch, quotedFigure, quotedRefusal}
 
 module _ (b vs : List ℕ) where
   -- a question about the values says no
@@ -28,15 +28,14 @@ module _ (b vs : List ℕ) where
   unfolding quoteQuestions valuesRefusal valueQuestions numbered
   quote-fits = passes (valueQuestions b vs) _ tt
 
-  -- the figure call on a table and values that questions 1 to 9 accept
-  pub figure-asked : refusal b ≡ 0 → T (question9 vs)
-      → figureAnswer b vs ≡ byRefusal (firstNo (13 asks question13 b vs ∷ 14 asks question14 vs ∷ 10 asks fits (valuesOf vs) (decode b) ∷ [])) (quoteOf b vs) Quote.Refused
-  unfolding figureAnswer figureRefusal quoteQuestions valueQuestions firstNo
-  figure-asked e n = ap (λ x. byRefusal x (quoteOf b vs) Quote.Refused) (check-passes b _ e ∙ rw (T-is (question9 vs) n) refl)
+  -- the figure call on an accepted table
+  figure-asked : refusal b ≡ 0 → figureAnswer b vs ≡ byRefusal (firstNo (quoteQuestions b vs)) (quoteOf b vs) Quote.Refused
+  unfolding figureAnswer figureRefusal
+  figure-asked e = ap (λ x. byRefusal x (quoteOf b vs) Quote.Refused) (check-passes b _ e)
 
   pub figure-is : refusal b ≡ 0 → valuesRefusal b vs ≡ 0 → T (fits (valuesOf vs) (decode b)) → figureAnswer b vs ≡ quoteOf b vs
   unfolding byRefusal firstNo
-  figure-is e q f = figure-asked e (values-nine b vs q) ∙ rw (T-is (question13 b vs) (values-thirteen b vs q), T-is (question14 vs) (values-fourteen b vs q), T-is (fits (valuesOf vs) (decode b)) f) refl
+  figure-is e q f = figure-asked e ∙ rw (quote-fits q, T-is (fits (valuesOf vs) (decode b)) f) refl
 
   pub record Figured : Type 0 where
     pub accepted : refusal b ≡ 0
@@ -56,6 +55,23 @@ module _ (b vs : List ℕ) where
       let (q, l) = passed (valueQuestions b vs) _ tt m in
       let f = all-yes (10 asks fits (valuesOf vs) (decode b) ∷ []) tt l .0 in
       record { accepted = e; allowed = q; small = f; is = ap quotedFigure (figure-is e q f); branches = ap quotedBranch (figure-is e q f) }
+
+-- The figure call answers the same of two accepted tables, each with values of its own, where the questions about values say the same and, where none says
+-- no, 10, the figure and the branch are the same.
+pub quotes-alike : (b c vs ws : List ℕ) → refusal b ≡ 0 → refusal c ≡ 0 → valuesRefusal b vs ≡ valuesRefusal c ws
+    → (valuesRefusal b vs ≡ 0
+    → (fits (valuesOf vs) (decode b) ≡ fits (valuesOf ws) (decode c)) × ((figure (valuesOf vs) (decode b) ≡ figure (valuesOf ws) (decode c)) × (branch (valuesOf vs) (decode b) ≡ branch (valuesOf ws) (decode c))))
+    → figureAnswer b vs ≡ figureAnswer c ws
+quotes-alike b c vs ws e f q w = figure-asked b vs e ∙ go (valuesRefusal b vs) refl ∙ sym (figure-asked c ws f)
+  where
+    go : (n : ℕ) → valuesRefusal b vs ≡ n → byRefusal (firstNo (quoteQuestions b vs)) (quoteOf b vs) Quote.Refused ≡ byRefusal (firstNo (quoteQuestions c ws)) (quoteOf c ws) Quote.Refused
+    go zero z = let (x, (y, u)) = w z in rw (quote-fits b vs z, quote-fits c ws (sym q ∙ z), x, y, u) refl
+    go (suc n) z = unfold byRefusal in rw (quote-values b vs (sym z) (λ k. omega (arith, k)), quote-values c ws (sym z ∙ q) (λ k. omega (arith, k))) refl
+
+-- checking answers an accepted table's number of records
+pub checked-accepted : (b : List ℕ) → refusal b ≡ 0 → checkAnswer b ≡ Checked.Accepted (recordCount b)
+unfolding checkAnswer
+checked-accepted b e = answered (refusal b) _ Checked.Refused e
 
 -- values none lower give no lower figure, where both get one
 pub figure-monotone : (b vs ws : List ℕ) → NoneLower vs ws → quotedRefusal (figureAnswer b vs) ≡ 0 → quotedRefusal (figureAnswer b ws) ≡ 0

@@ -28,7 +28,7 @@ use Rattle.quoting.specs.Answers.{figureAnswer, listAnswer, listRefusal,
 use Rattle.quoting.specs.Branches.{BranchPromises}
 use Rattle.quoting.specs.Promises.{ListPromises, NeverLowered, Promised, Promises, byRule}
 use Rattle.values.specs.Values.{question14, triangleSmall}
-use Rattle.writing.specs.Laws.Over.{take-over}
+use Rattle.writing.specs.Laws.Over.{front-over}
 use Rattle.quoting.specs.Laws.Branches.{branch-of}
 use Rattle.quoting.specs.Laws.Figures.{figure-monotone, figured}
 use Rattle.values.specs.Laws.Values.{later-own, small-rule, thirteen-limits, values-fourteen, values-thirteen}
@@ -80,7 +80,7 @@ long-numbers (ever v) = refl
 long-numbers (run v c p) = omega (arith, long-numbers p)
 
 take-numbers : (p : Pairs) (out : List ℕ) → take (2 * suc (width p)) (over (numbers p) out) ≡ numbers p
-take-numbers p out = ap (λ n. take n (over (numbers p) out)) (sym (long-numbers p)) ∙ take-over (numbers p) out
+take-numbers p out = front-over (numbers p) out (2 * suc (width p)) (long-numbers p)
 
 -- an answer that is the list call's, with its buffer, keeps them
 pub list-kept : (b vs out : List ℕ) {r : Listed} {x : List ℕ} → Lists b vs out r x → (r ≡ listAnswer b vs out) × ((x ≡ over (listWrites b vs out) out) × ListPromises b vs r x)

@@ -6,8 +6,8 @@ use Rattle.splice.proofs.is_symbol.Tie as tie
 enum-known-kind : tie.Need-enum-known-kind
 enum-known-kind c = search needs
 
-time-is-requires : tie.Need-time-is-requires
-time-is-requires c κs = search needs
+number-has-requires : tie.Need-number-has-requires
+number-has-requires c κs = search needs
 
 enum-told : tie.Need-enum-told
 enum-told c = search needs
@@ -20,7 +20,7 @@ enum-told-3 c = search needs
 
 returns : tie.Need-returns
 unfolding isSymbol
-returns c = rw (c .before .before .kind .given .1) (c .time-is .ensures)
+returns c = rw (c .before .before .kind .given .1) (c .number-has .ensures)
 
 returns-2 : tie.Need-returns-2
 unfolding isSymbol
@@ -39,7 +39,7 @@ is-symbol-spec =
     tie.close
     (tie.spec
     enum-known-kind
-    time-is-requires
+    number-has-requires
     enum-told
     enum-told-2
     enum-told-3

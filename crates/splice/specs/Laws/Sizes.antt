@@ -3,7 +3,7 @@ use mathlib.Core.Path.{_≡_, refl, ap, ap₂}
 use Prim.Native.Nat.{ℕ, suc, _+_}
 use native.Mathlib.Omega.{arith}
 use lib.Dec.{T, eqb→eq}
-use Rattle.table.specs.Questions.{arity}
+use Rattle.table.specs.Questions.{arity, numberHas}
 use Rattle.table.specs.Trees.{Forest, Tree, around, nil, node, records, recordsIn, rest, size, _▸_}
 use Rattle.splice.specs.Nodes.{Block, Choice, Kind, Loop, Plain, Sequence, Symbol}
 use Rattle.splice.specs.Graft.{graft, graftIn, isSymbol, rename, renameIn}
@@ -30,7 +30,7 @@ size-grafted s u (t ▸ f) = ap suc (size-grafted s u f)
 
 -- a block with the symbol has no children
 pub symbol-only : (s : ℕ) (k : Kind) (f : Forest) → T (isSymbol s k) → T (arity k (size f)) → (k ≡ Block (Symbol s)) × (f ≡ nil)
-unfolding isSymbol arity size
+unfolding isSymbol numberHas arity size
 symbol-only s (Block (Plain n)) f h a = absurd h
 symbol-only s (Block (Symbol k)) nil h a = (ap (λ x. Block (Symbol x)) (eqb→eq k s h), refl)
 symbol-only s (Block (Symbol k)) (t ▸ f) h a = let e : suc (size f) ≡ 0 = eqb→eq (suc (size f)) 0 a in absurd (omega arith)

@@ -3,13 +3,14 @@ use mathlib.Core.Path.{_≡_, refl, sym, ap, _∙_}
 use mathlib.Core.Bool.{Bool, _||_, false, not, true}
 use mathlib.Core.List.{List, [], _∷_}
 use Prim.Native.Nat.{ℕ, zero, suc, _+_, _*_, _^_, _-_, _<_, _≤_}
-use native.Mathlib.Nat.{zero-add, add-zero, suc-add, add-suc, mul-assoc, pow-succ', sub-zero}
+use native.Mathlib.Nat.{zero-add, add-comm, add-zero, suc-add, add-suc, mul-assoc, mul-suc, mul-zero, pow-succ', sub-zero}
 use native.Mathlib.Omega.{arith}
-use lib.Dec.{eqb}
+use lib.Dec.{T, eqb}
 use lib.ListN.{getD, length, take, drop, length-drop}
 use lib.Seq.{take-nil, drop-nil, take-all, drop-drop}
 use borrow.Author.Tests.{ne-eqb, not-false, not-true}
 use Rattle.booleans.specs.Tests.{_and_}
+use Rattle.booleans.specs.Laws.{both}
 use Rattle.table.specs.Nodes.{Symbol, Number, Most, Loop, AtMost}
 use Rattle.table.specs.Bytes.{fromBytes}
 use Rattle.table.specs.Numbers.{recordLength, mostChildren}
@@ -137,6 +138,13 @@ one-failed p b i r h q e t = each-step p b i r h q e ∙ rw (not-true r t) refl
 pub all-passed : (p : List ℕ → Bool) (b : List ℕ) (i : ℕ) → recordCount b ≤ i → Passed p b i → each p (recordCount b) b ≡ true
 unfolding eachBy
 all-passed p b i h q = q .left ∙ rw (none-left _ _ h) refl
+
+-- a test of each record, of l bytes, says yes of every one
+pub each-at : (l : ℕ) (p : List ℕ → Bool) (n : ℕ) (b : List ℕ) (j : ℕ) → T (eachBy l p n b) → j < n → T (p (drop (l * j) b))
+unfolding eachBy
+each-at l p zero b j h k = absurd (omega arith)
+each-at l p (suc n) b zero h k = rw mul-zero (both _ _ h .0)
+each-at l p (suc n) b (suc j) h k = rw (mul-suc l j, add-comm (l * j) l, ← drop-drop) (each-at l p n (drop l b) j (both _ _ h .1) (omega arith))
 
 -- ---- a pass over the records that counts the trees still wanted
 

@@ -8,10 +8,11 @@ use native.Mathlib.Omega.{arith}
 use lib.Dec.{T, eqb, leb→le, ltb→lt, eqb→eq}
 use lib.ListN.{length, getD, drop}
 use lib.Seq.{drop-cons, drop-length}
-use borrow.Author.Tests.{eq-eqb, eqb-false, ne-eqb, le-leb, lt-leb, lt-ltb}
+use borrow.Author.Tests.{eq-eqb, eqb-false, ne-eqb, le-leb, le-ltb, lt-leb, lt-ltb}
 use Rattle.booleans.specs.Tests.{_and_}
-use Rattle.booleans.specs.Laws.{both, by-cond}
-use Rattle.table.specs.Numbers.{howManyValues, howManySymbols, firstPairedSymbol, firstTimeSymbol, laterPlace, mostCount}
+use Rattle.booleans.specs.Laws.{both, by-cond, is-T}
+use Rattle.table.specs.Asking.{firstNo}
+use Rattle.table.specs.Numbers.{howManyValues, howManySymbols, firstPairedSymbol, firstTimeSymbol, laterPlace, mostCount, mostTime}
 use Rattle.table.specs.Questions.{paired, pairedSymbol}
 use Rattle.table.specs.declared.Number.the-variants.{Symbol}
 use Rattle.table.specs.Checking.{IsTable}
@@ -31,9 +32,20 @@ pub values-nine : (b vs : List ℕ) → valuesRefusal b vs ≡ 0 → T (question
 unfolding valuesRefusal valueQuestions numbered Yes
 values-nine b vs e = all-yes (valueQuestions b vs) tt e .0
 
-pub values-long : (b vs : List ℕ) → valuesRefusal b vs ≡ 0 → length vs ≡ howManyValues
+pub nine-long : (vs : List ℕ) → T (question9 vs) → length vs ≡ howManyValues
 unfolding question9
-values-long b vs e = eqb→eq (length vs) howManyValues (both _ _ (values-nine b vs e) .0)
+nine-long vs h = eqb→eq (length vs) howManyValues (both _ _ h .0)
+
+pub values-long : (b vs : List ℕ) → valuesRefusal b vs ≡ 0 → length vs ≡ howManyValues
+values-long b vs e = nine-long vs (values-nine b vs e)
+
+-- the same of two tables and values, where 9 and 14 say the same and, where 9 says yes, 13 does
+pub refusals-alike : (b c vs ws : List ℕ) → question9 vs ≡ question9 ws → question14 vs ≡ question14 ws → (T (question9 vs) → question13 b vs ≡ question13 c ws) → valuesRefusal b vs ≡ valuesRefusal c ws
+refusals-alike b c vs ws n m w = go (question9 vs) refl
+  where
+    go : (r : Bool) → question9 vs ≡ r → valuesRefusal b vs ≡ valuesRefusal c ws
+    go true e = unfold valuesRefusal valueQuestions firstNo in rw (← n, e, ← m, w (is-T _ e)) refl
+    go false e = unfold valuesRefusal valueQuestions firstNo in rw (← n, e) refl
 
 pub values-thirteen : (b vs : List ℕ) → valuesRefusal b vs ≡ 0 → T (question13 b vs)
 unfolding valuesRefusal valueQuestions numbered Yes
@@ -143,16 +155,17 @@ ranged-at i j [] h l = absurd (omega arith)
 ranged-at i zero (x ∷ xs) h l = rw add-zero (leb→le x (ceiling i) (both _ _ h .0))
 ranged-at i (suc j) (x ∷ xs) h l = let e : i + suc j ≡ suc i + j = omega arith in rw e (ranged-at (suc i) j xs (both _ _ h .1) (omega arith))
 
-pub in-range : (vs : List ℕ) → T (question9 vs) → (k : ℕ) → k < howManyValues → valuesOf vs k ≤ ceiling k
+pub value-ranged : (vs : List ℕ) → T (question9 vs) → (k : ℕ) → k < howManyValues → valuesOf vs k ≤ ceiling k
 unfolding question9
-in-range vs h k l =
-    let (a, b) = both _ _ h in
-    let n = eqb→eq (length vs) howManyValues a in
-    let e : 0 + k ≡ k = omega arith in
-    rw e at (ranged-at 0 k vs b (omega arith))
+value-ranged vs h k l = let e : 0 + k ≡ k = omega arith in rw e at (ranged-at 0 k vs (both _ _ h .1) (omega (arith, nine-long vs h)))
+
+pub count-ceiling : (k : ℕ) → k < firstTimeSymbol → ceiling k ≡ mostCount
+unfolding ceiling
+count-ceiling k l = rw (lt-ltb k firstTimeSymbol l) refl
+
+pub time-ceiling : (k : ℕ) → firstTimeSymbol ≤ k → ceiling k ≡ mostTime
+unfolding ceiling
+time-ceiling k l = rw (le-ltb k firstTimeSymbol l) refl
 
 pub counts-ranged : (vs : List ℕ) → T (question9 vs) → (k : ℕ) → k < firstTimeSymbol → valuesOf vs k ≤ mostCount
-counts-ranged vs h k l = omega (arith, in-range vs h k (omega arith), low-ceiling k l)
-  where
-    low-ceiling : (k : ℕ) → k < firstTimeSymbol → ceiling k ≡ mostCount
-    low-ceiling k l = unfold ceiling in rw (lt-ltb k firstTimeSymbol l) refl
+counts-ranged vs h k l = omega (arith, value-ranged vs h k (omega arith), count-ceiling k l)

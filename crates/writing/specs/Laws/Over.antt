@@ -1,5 +1,5 @@
 -- A buffer whose front is written over, number by number.
-use mathlib.Core.Path.{_≡_, refl, ap}
+use mathlib.Core.Path.{_≡_, refl, ap, sym, _∙_}
 use mathlib.Core.List.{List, [], _∷_, _++_}
 use Prim.Native.Nat.{ℕ, zero, suc, _<_, _≤_}
 use native.Mathlib.Omega.{arith}
@@ -26,6 +26,9 @@ copied-over s d n l = rw (length-take-le n s l) refl
 pub take-over : (front buffer : List ℕ) → take (length front) (over front buffer) ≡ front
 unfolding over
 take-over front buffer = take-at front (drop (length front) buffer) (length front) refl
+
+pub front-over : (front buffer : List ℕ) (n : ℕ) → length front ≡ n → take n (over front buffer) ≡ front
+front-over front buffer n e = ap (λ k. take k (over front buffer)) (sym e) ∙ take-over front buffer
 
 pub long-over : (front buffer : List ℕ) → length front ≤ length (over front buffer)
 unfolding over
