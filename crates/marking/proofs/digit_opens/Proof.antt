@@ -1,0 +1,25 @@
+use Rattle.marking.specs.Laws.Opening.{none-told, node-told}
+use borrow.Author.Needs.{needs}
+use Rattle.marking.proofs.digit_opens.Statement.{statement}
+use Rattle.marking.proofs.digit_opens.Tie as tie
+
+digit-at-requires : tie.Need-digit-at-requires
+digit-at-requires c κs = search needs
+
+returns : tie.Need-returns
+returns c = none-told _ _ _ _ _ _ (c .before .digit-at .ensures) (c .if1 .taken)
+
+node-at-requires : tie.Need-node-at-requires
+node-at-requires c κs = search needs
+
+node-opens-requires : tie.Need-node-opens-requires
+node-opens-requires c κs = search needs
+
+returns-2 : tie.Need-returns-2
+returns-2 c =
+    let test = c .before .before in
+    node-told _ _ _ _ _ _ (test .before .digit-at .ensures) _ _ (test .if1 .left) (c .before .node-at .ensures) (c .node-opens .ensures)
+
+pub digit-opens-spec : {M : Type 1} → statement M
+digit-opens-spec =
+    tie.close (tie.spec digit-at-requires returns node-at-requires node-opens-requires returns-2)
