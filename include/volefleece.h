@@ -5,8 +5,8 @@
 #include <stddef.h>
 #include <stdint.h>
 
-/* Each pointer lends as many elements as the length after it says, and out overlaps nothing else that is lent. A call wants less
-   than 192 KiB of stack, as measured. */
+/* Each pointer lends as many elements as the length after it says, and what is lent to be written overlaps nothing else that is
+   lent. A call wants less than 192 KiB of stack, as measured. */
 
 /* What each call answers is proved of these structs' numbers: its contract is in crates/volefleece/src/lib.rt. What
    holds of the calls together, so that a simplified table gives the figure of the original, is the contract of vf_both_desks there,
@@ -79,6 +79,34 @@ typedef struct {
    out past the written bytes changes, and nothing at all on a refusal. */
 vf_grafted vf_graft(const uint8_t *host, size_t host_len, const uint8_t *sent, size_t sent_len, uint64_t symbol, uint8_t *out,
                     size_t out_len);
+
+/* What filling answers. */
+typedef struct {
+    uint64_t refused; /* 0 if a table was written, else the number of the first question that says no */
+    uint64_t length;  /* how many bytes were written to out, 0 if it is refused */
+} vf_filled;
+
+/* Writes the table over the front of out with the plain number in every field that has the symbol, and 128 bytes that mark these
+   fields over the front of marks. Record i, counted from 0, has two bits of byte i / 4: bit 2 * (i % 4) for its value and the next
+   for its limit; those past the last record are 0. Puts questions 1 to 7; then 8, out is at least as long as the table and marks at
+   least 128 bytes; and 15, the symbol is 0 to 23 and not used under flag 4 in this table, and the number at most 1,000,000 for
+   symbols 0 to 15, else 1,000,000,000,000. Nothing past the written bytes changes, and nothing at all on a refusal. */
+vf_filled vf_fill(const uint8_t *table, size_t table_len, uint64_t symbol, uint64_t number, uint8_t *out, size_t out_len,
+                  uint8_t *marks, size_t marks_len);
+
+/* What opening answers. */
+typedef struct {
+    uint64_t refused; /* 0 if a table was written, else the number of the first question that says no */
+    uint64_t length;  /* how many bytes were written, 0 if it is refused */
+} vf_opened;
+
+/* Writes the table over the front of out with the symbol in each marked field: of what vf_fill wrote, with its marks, symbol and
+   number, that is the exact table that it was lent. Puts questions 1 to 7; then 8, out is at least as long as the table; 15 as
+   vf_fill does; and 16, the marks are exactly 128 bytes, and each stands on a plain field of that number in which the symbol is
+   allowed: one of 16 to 23 in a block's time, another in a loop's bound or in a limit. Nothing of out past the written bytes
+   changes, and nothing at all on a refusal. */
+vf_opened vf_open(const uint8_t *table, size_t table_len, const uint8_t *marks, size_t marks_len, uint64_t symbol, uint64_t number,
+                  uint8_t *out, size_t out_len);
 
 /* What converting a former table answers. */
 typedef struct {

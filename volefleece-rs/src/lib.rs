@@ -53,6 +53,9 @@ pub const MOST_TIME: u64 = 1_000_000_000_000;
 /// The largest value whose triangular number may be a limit.
 pub const MOST_TRIANGULAR: u64 = 1_000;
 
+/// The bytes of marks: two bits for each record of the longest table.
+pub const MARK_BYTES: usize = 128;
+
 /// The numbers that a list's buffer has room for.
 const LIST_ROOM: usize = 512;
 /// The branch of a figure whose root is no choice.
@@ -105,6 +108,15 @@ pub struct Simplified {
     pub steps: u64,
     /// No rule fits the table; otherwise the allowance is used and one does.
     pub finished: bool,
+}
+
+/// A table with a number in place of a symbol.
+#[derive(Clone, Debug, PartialEq, Eq)]
+pub struct Filled {
+    /// The table with the number.
+    pub table: Vec<u8>,
+    /// Which fields had the symbol: of each record in order two bits, the lowest first, for its value and for its limit.
+    pub marks: [u8; MARK_BYTES],
 }
 
 /// Puts questions 1 to 7 to a table, and answers how many records it has.
@@ -207,6 +219,47 @@ pub fn graft(host: &[u8], sent: &[u8], symbol: u64) -> Result<Vec<u8>, Refusal> 
     let answer = raw::graft(host, sent, symbol, &mut room);
     accepted(answer.refused)?;
     room.truncate(length(answer.length));
+    Ok(room)
+}
+
+/// Puts questions 1 to 7 and 15, and answers the table with the plain number in every field that has the symbol.
+///
+/// ```
+/// // A block whose time is symbol 16.
+/// let mut block = [0; volefleece::RECORD_BYTES];
+/// (block[1], block[8]) = (1, 16);
+/// block[20..].fill(255);
+/// let filled = volefleece::fill(&block, 16, 90)?;
+/// assert_eq!((filled.table[1], filled.table[8], filled.marks[0]), (0, 90, 1));
+/// assert_eq!(volefleece::open(&filled.table, &filled.marks, 16, 90)?, block);
+/// # Ok::<(), volefleece::Refusal>(())
+/// ```
+pub fn fill(table: &[u8], symbol: u64, number: u64) -> Result<Filled, Refusal> {
+    let mut room = vec![0; table.len()];
+    let mut marks = [0; MARK_BYTES];
+    let answer = raw::fill(table, symbol, number, &mut room, &mut marks);
+    accepted(answer.refused)?;
+    Ok(Filled { table: room, marks })
+}
+
+/// Puts questions 1 to 7, 15 and 16, and answers the table with the symbol in each marked field: what [`fill`] was lent, of what it answers.
+///
+/// ```
+/// // A block of 90 cycles; record 0's value is marked.
+/// let mut block = [0; volefleece::RECORD_BYTES];
+/// block[8] = 90;
+/// block[20..].fill(255);
+/// let mut marks = [0; volefleece::MARK_BYTES];
+/// marks[0] = 1;
+/// let opened = volefleece::open(&block, &marks, 16, 90)?;
+/// assert_eq!((opened[1], opened[8]), (1, 16));
+/// assert_eq!(volefleece::open(&block, &marks, 16, 91), Err(volefleece::Refusal::Marks));
+/// # Ok::<(), volefleece::Refusal>(())
+/// ```
+pub fn open(table: &[u8], marks: &[u8], symbol: u64, number: u64) -> Result<Vec<u8>, Refusal> {
+    let mut room = vec![0; table.len()];
+    let answer = raw::open(table, marks, symbol, number, &mut room);
+    accepted(answer.refused)?;
     Ok(room)
 }
 

@@ -73,6 +73,26 @@ pub struct Grafted {
     pub length: u64,
 }
 
+/// The answer of `vf_fill`.
+#[repr(C)]
+#[derive(Clone, Copy, Debug, PartialEq, Eq)]
+pub struct Filled {
+    /// The number of the first question answered "no", or 0.
+    pub refused: u64,
+    /// How many bytes the written table has, or 0 with a refusal.
+    pub length: u64,
+}
+
+/// The answer of `vf_open`.
+#[repr(C)]
+#[derive(Clone, Copy, Debug, PartialEq, Eq)]
+pub struct Opened {
+    /// The number of the first question answered "no", or 0.
+    pub refused: u64,
+    /// How many bytes the written table has, or 0 with a refusal.
+    pub length: u64,
+}
+
 /// The answer of `vf_convert`.
 #[repr(C)]
 #[derive(Clone, Copy, Debug, PartialEq, Eq)]
@@ -119,6 +139,28 @@ extern "C" {
         out: *mut u8,
         out_len: usize,
     ) -> Grafted;
+
+    pub fn vf_fill(
+        table: *const u8,
+        table_len: usize,
+        symbol: u64,
+        number: u64,
+        out: *mut u8,
+        out_len: usize,
+        marks: *mut u8,
+        marks_len: usize,
+    ) -> Filled;
+
+    pub fn vf_open(
+        table: *const u8,
+        table_len: usize,
+        marks: *const u8,
+        marks_len: usize,
+        symbol: u64,
+        number: u64,
+        out: *mut u8,
+        out_len: usize,
+    ) -> Opened;
 
     pub fn vf_convert(
         old_table: *const u8,
@@ -180,6 +222,40 @@ pub fn graft(host: &[u8], sent: &[u8], symbol: u64, out: &mut [u8]) -> Grafted {
             sent.as_ptr(),
             sent.len(),
             symbol,
+            out.as_mut_ptr(),
+            out.len(),
+        )
+    }
+}
+
+/// Puts questions 1 to 8, then 15, and writes the table with the number in every field that has the symbol, and 128 bytes of marks.
+pub fn fill(table: &[u8], symbol: u64, number: u64, out: &mut [u8], marks: &mut [u8]) -> Filled {
+    // SAFETY: the pointers and lengths are those of live slices, and only those that are lent mutably are written.
+    unsafe {
+        vf_fill(
+            table.as_ptr(),
+            table.len(),
+            symbol,
+            number,
+            out.as_mut_ptr(),
+            out.len(),
+            marks.as_mut_ptr(),
+            marks.len(),
+        )
+    }
+}
+
+/// Puts questions 1 to 8, then 15 and 16, and writes the table with the symbol in each marked field.
+pub fn open(table: &[u8], marks: &[u8], symbol: u64, number: u64, out: &mut [u8]) -> Opened {
+    // SAFETY: the pointers and lengths are those of live slices, and only the one that is lent mutably is written.
+    unsafe {
+        vf_open(
+            table.as_ptr(),
+            table.len(),
+            marks.as_ptr(),
+            marks.len(),
+            symbol,
+            number,
             out.as_mut_ptr(),
             out.len(),
         )

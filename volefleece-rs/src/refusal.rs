@@ -44,11 +44,15 @@ pub enum Refusal {
     TriangularNumber,
     /// 14, of the later values.
     LaterValue,
+    /// 15, of the symbol that is filled or opened, and of its number.
+    FilledSymbol,
+    /// 16, of the marks to open by.
+    Marks,
 }
 
 impl Refusal {
     /// Every refusal, by its number, from 1 on.
-    pub const ALL: [Refusal; 14] = [
+    pub const ALL: [Refusal; 16] = [
         Refusal::Length,
         Refusal::Fields,
         Refusal::Numbers,
@@ -63,6 +67,8 @@ impl Refusal {
         Refusal::GraftedTable,
         Refusal::TriangularNumber,
         Refusal::LaterValue,
+        Refusal::FilledSymbol,
+        Refusal::Marks,
     ];
 
     /// The refusal of that number, if it is one's.
@@ -101,6 +107,12 @@ impl Refusal {
             }
             Refusal::TriangularNumber => "a value whose triangular number is a limit is above 1,000",
             Refusal::LaterValue => "a later value, 32 to 39, is above its symbol's first, 24 to 31",
+            Refusal::FilledSymbol => {
+                "the symbol is not 0 to 23 or used under flag 4, or the number is above 1,000,000 (0 to 15) or 1,000,000,000,000 (16 to 23)"
+            }
+            Refusal::Marks => {
+                "the marks are not 128 bytes, or one is past the last record or on no plain field of that number where the symbol is allowed"
+            }
         }
     }
 }

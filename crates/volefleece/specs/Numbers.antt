@@ -11,8 +11,12 @@ use Rattle.quoting.specs.declared.Checked.{Checked}
 use Rattle.quoting.specs.declared.Quote.{Quote}
 use Rattle.simplifying.specs.Answers.{simplifiedFinished, simplifiedLength, simplifiedRefusal, simplifiedSteps}
 use Rattle.simplifying.specs.declared.Simplified.{Simplified}
+use Rattle.fill.specs.Answers.{filledLength, filledRefusal}
+use Rattle.fill.specs.declared.Filled.{Filled}
 use Rattle.volefleece.specs.declared.VfChecked.{VfChecked}
 use Rattle.volefleece.specs.declared.VfFigureAnswer.{VfFigureAnswer}
+use Rattle.volefleece.specs.declared.VfFilled.{VfFilled}
+use Rattle.volefleece.specs.declared.VfOpened.{VfOpened}
 use Rattle.volefleece.specs.declared.VfSimplified.{VfSimplified}
 
 abbrev pub CheckedAs : VfChecked → Checked → Type 0
@@ -38,3 +42,9 @@ pub record SimplifiedAs (r : VfSimplified) (answer : Simplified) : Type 0 where
   pub length : r .length ≡ simplifiedLength answer
   pub steps : r .steps ≡ simplifiedSteps answer
   pub finished : r .finished ≡ simplifiedFinished answer
+
+abbrev pub FilledAs : VfFilled → Filled → Type 0
+FilledAs r answer = (r .refused ≡ filledRefusal answer) × (r .length ≡ filledLength answer)
+
+abbrev pub OpenedAs : VfOpened → Filled → Type 0
+OpenedAs r answer = (r .refused ≡ filledRefusal answer) × (r .length ≡ filledLength answer)

@@ -1,4 +1,5 @@
 // The C interface: thin wrappers of the outside calls, whose answers become structs of numbers. include/volefleece.h declares them.
+use fill::Filled;
 use former::Conversion;
 use graft::Grafted;
 use quoting::Checked;
@@ -18,10 +19,13 @@ ghost use Rattle.simplifying.specs.Answers.{finishedNumber, simplifyAnswer, sim
 ghost use Rattle.simplifying.specs.Demand.{Demand3};
 ghost use Rattle.graft.specs.Answers.{graftAnswer, graftWrites, graftedLength, graftedRefusal};
 ghost use Rattle.graft.specs.Promises.{GraftPromised};
+ghost use Rattle.marking.specs.Marks.{markLength};
+ghost use Rattle.fill.specs.Answers.{fillAnswer, fillMarks, fillWrites, openAnswer, openWrites};
+ghost use Rattle.fill.specs.Promises.{FillPromised, OpenPromised};
 ghost use Rattle.former.specs.Former.{formerLength};
 ghost use Rattle.former.specs.Converted.{Converts, conversionLength, conversionRefusal, convertAnswer, convertWrites};
 ghost use Rattle.formerquotes.specs.Answers.{Agrees};
-ghost use Rattle.volefleece.specs.Numbers.{BranchPromised, CheckedAs, FigurePromised, FigureRises, QuotedAs, SimplifiedAs};
+ghost use Rattle.volefleece.specs.Numbers.{BranchPromised, CheckedAs, FigurePromised, FigureRises, FilledAs, OpenedAs, QuotedAs, SimplifiedAs};
 ghost use Rattle.volefleece.specs.BothDesks.{AskedInC, quotedBy, simplifiedBy};
 
 #[repr(C)]
@@ -161,6 +165,69 @@ pub extern "C" fn vf_graft(host: &[u8], sent: &[u8], symbol: u64, out: &mut [u8]
         },
         Grafted::Refused(question) => VfGrafted {
             refused: question,
+            length: 0,
+        },
+    }
+}
+
+#[repr(C)]
+pub struct VfFilled {
+    pub refused: u64,
+    pub length: u64,
+}
+
+#[no_mangle]
+pub extern "C" fn vf_fill(
+    table: &[u8],
+    symbol: u64,
+    number: u64,
+    out: &mut [u8],
+    marks: &mut [u8],
+) -> VfFilled
+    ensures answer { λ r. ⌜ FilledAs r (fillAnswer (now (table .entry)) symbol number (now (out .entry)) (now (marks .entry))) ⌝ }
+    ensures promise { λ r. ⌜ (r .refused ≡ 0 → FillPromised (now (table .entry)) symbol number (take (r .length) (now (out .exit))) (take markLength (now (marks .exit)))) ⌝ }
+    ensures written { λ r. ⌜ now (out .exit) ≡ over (fillWrites (now (table .entry)) symbol number (now (out .entry)) (now (marks .entry))) (now (out .entry)) ⌝ }
+    ensures marked { λ r. ⌜ now (marks .exit) ≡ over (fillMarks (now (table .entry)) symbol number (now (out .entry)) (now (marks .entry))) (now (marks .entry)) ⌝ }
+{
+    let answer = fill::fill(table, symbol, number, out, marks);
+    match answer {
+        Filled::Written(written) => VfFilled {
+            refused: 0,
+            length: written as u64,
+        },
+        Filled::Refused(why) => VfFilled {
+            refused: why,
+            length: 0,
+        },
+    }
+}
+
+#[repr(C)]
+pub struct VfOpened {
+    pub refused: u64,
+    pub length: u64,
+}
+
+#[no_mangle]
+pub extern "C" fn vf_open(
+    table: &[u8],
+    marks: &[u8],
+    symbol: u64,
+    number: u64,
+    out: &mut [u8],
+) -> VfOpened
+    ensures answer { λ r. ⌜ OpenedAs r (openAnswer (now (table .entry)) (now (marks .entry)) symbol number (now (out .entry))) ⌝ }
+    ensures promise { λ r. ⌜ (r .refused ≡ 0 → OpenPromised (now (table .entry)) symbol number (take (r .length) (now (out .exit)))) ⌝ }
+    ensures written { λ r. ⌜ now (out .exit) ≡ over (openWrites (now (table .entry)) (now (marks .entry)) symbol number (now (out .entry))) (now (out .entry)) ⌝ }
+{
+    let answer = fill::open(table, marks, symbol, number, out);
+    match answer {
+        Filled::Written(restored) => VfOpened {
+            refused: 0,
+            length: restored as u64,
+        },
+        Filled::Refused(reason) => VfOpened {
+            refused: reason,
             length: 0,
         },
     }
