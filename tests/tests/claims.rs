@@ -13,7 +13,7 @@ const DEMANDS: [(&str, &[&str]); 2] = [
 ];
 
 /// The other outside calls.
-const OTHERS: [(&str, &[&str]); 5] = [
+const OTHERS: [(&str, &[&str]); 6] = [
     (
         "volefleece",
         &[
@@ -22,11 +22,14 @@ const OTHERS: [(&str, &[&str]); 5] = [
             "vf_list",
             "vf_simplify",
             "vf_graft",
+            "vf_fill",
+            "vf_open",
             "vf_convert",
             "vf_both_desks",
         ],
     ),
     ("graft", &["graft"]),
+    ("fill", &["fill", "open"]),
     ("former", &["convert"]),
     ("deskfiles", &["quote_files"]),
     ("arguments", &["allowance_of"]),

@@ -16,6 +16,7 @@ const DESK: &str = "desk";
 const SALES: &str = "sales";
 const READDRESS: &str = "readdress";
 const SIMPLE: &str = "simple.tab";
+const MARKS: &str = "marks";
 
 /// What is wrong with the page.
 type Wrong = String;
@@ -60,7 +61,9 @@ fn without_remark(line: &str) -> String {
 // Examples.
 
 /// What an example may lend, by the names that it may have.
-const LENT: [&str; 7] = ["table", "host", TREE, "sent", VALUES, SIMPLE, FORMER];
+const LENT: [&str; 8] = [
+    "table", "host", TREE, "sent", VALUES, SIMPLE, FORMER, MARKS,
+];
 
 #[derive(Default)]
 struct Lent {
@@ -70,6 +73,8 @@ struct Lent {
     /// A table of 16-byte records.
     former: Vec<u8>,
     values_file: Vec<u8>,
+    /// What a table is opened by.
+    marks: Vec<u8>,
     /// What the last run of `sales` wrote.
     simple: Option<Vec<u8>>,
 }
@@ -137,6 +142,7 @@ fn lend(lent: &mut Lent, name: &str, bytes: Vec<u8>) -> Result<(), Wrong> {
         SIMPLE => return Err(format!("{SIMPLE} is {:?}", lent.simple)),
         VALUES => lent.values_file = bytes,
         FORMER => lent.former = bytes,
+        MARKS => lent.marks = bytes,
         "sent" => lent.sent = bytes,
         _ => lent.table = bytes,
     }
@@ -198,6 +204,7 @@ fn number(word: &str) -> Result<u64, Wrong> {
 struct Options {
     values: Vec<u64>,
     room: Option<usize>,
+    marks_room: Option<usize>,
     allowance: Option<u64>,
 }
 
@@ -208,11 +215,12 @@ impl Options {
     }
 }
 
-/// `value 0 is 40`, `39 values`, `room 511`, `allowance 1`.
+/// `value 0 is 40`, `39 values`, `room 511`, `marks room 127`, `allowance 1`.
 fn options<'t>(words: impl Iterator<Item = &'t str>) -> Result<Options, Wrong> {
     let mut options = Options {
         values: vec![0; 40],
         room: None,
+        marks_room: None,
         allowance: None,
     };
     for option in words {
@@ -222,6 +230,7 @@ fn options<'t>(words: impl Iterator<Item = &'t str>) -> Result<Options, Wrong> {
             }
             [count, "values"] => options.values.resize(number(count)? as usize, 0),
             ["room", room] => options.room = Some(number(room)? as usize),
+            ["marks", "room", room] => options.marks_room = Some(number(room)? as usize),
             ["allowance", allowance] => options.allowance = Some(number(allowance)?),
             _ => return Err(format!("{option} is no option")),
         }
@@ -243,9 +252,15 @@ fn put(lent: &mut Lent, call: &str, said: &str) -> Result<(), Wrong> {
         DESK => same(said, desk(lent)),
         SALES => same(said, sales(lent, &options)),
         READDRESS => readdress(lent, said),
-        _ => match name.strip_prefix("graft ") {
-            Some(symbol) => graft(lent, number(symbol)?, &options, said),
-            None => Err(format!("{name} is no call")),
+        _ => match name.split(' ').collect::<Vec<_>>()[..] {
+            ["graft", symbol] => graft(lent, number(symbol)?, &options, said),
+            ["fill", symbol, "with", with] => {
+                fill(lent, number(symbol)?, number(with)?, &options, said)
+            }
+            ["open", symbol, "with", with] => {
+                open(lent, number(symbol)?, number(with)?, &options, said)
+            }
+            _ => Err(format!("{name} is no call")),
         },
     }
 }
@@ -317,6 +332,33 @@ fn simplify(lent: &Lent, options: &Options, said: &str) -> Result<(), Wrong> {
 fn graft(lent: &Lent, symbol: u64, options: &Options, said: &str) -> Result<(), Wrong> {
     let mut out = options.buffer();
     let answer = raw::graft(&lent.table, &lent.sent, symbol, &mut out);
+    same_written(said, answer.refused, &out[..answer.length as usize])
+}
+
+/// Said is a refusal, or `TREE marks 01 02` without the last bytes of 0, or `TREE marks none`.
+fn fill(lent: &Lent, symbol: u64, with: u64, options: &Options, said: &str) -> Result<(), Wrong> {
+    let mut out = options.buffer();
+    let mut marks = vec![0; options.marks_room.unwrap_or(128)];
+    let answer = raw::fill(&lent.table, symbol, with, &mut out, &mut marks);
+    if answer.refused != 0 {
+        return same(said, refused(answer.refused));
+    }
+    let end = marks.iter().rposition(|byte| *byte != 0);
+    let written = match end {
+        None => "none".to_string(),
+        Some(end) => {
+            let bytes = marks[..=end].iter().map(|byte| format!("{byte:02x}"));
+            bytes.collect::<Vec<_>>().join(" ")
+        }
+    };
+    let (tree, said) = said.split_once(" marks ").ok_or("no marks")?;
+    same(said, written)?;
+    same_table(tree, &out[..answer.length as usize])
+}
+
+fn open(lent: &Lent, symbol: u64, with: u64, options: &Options, said: &str) -> Result<(), Wrong> {
+    let mut out = options.buffer();
+    let answer = raw::open(&lent.table, &lent.marks, symbol, with, &mut out);
     same_written(said, answer.refused, &out[..answer.length as usize])
 }
 
@@ -414,7 +456,7 @@ fn a_wrong_answer_shows() {
 #[test]
 fn every_question_has_an_example() {
     let examples = examples();
-    for question in 1..=13 {
+    for question in 1..=16 {
         let start = format!("{question}. ");
         let refusal = format!(": {}", refused(question));
         let shows_it = examples.iter().any(|Example { heading, lines }| {
