@@ -6,6 +6,8 @@ use std::os::fd::AsFd;
 use std::os::unix::fs::{fchown, MetadataExt};
 use std::path::{Path, PathBuf};
 
+use tempfile::TempDir;
+
 use crate::failure::{note, Failure, Outcome};
 use crate::text::Problems;
 
@@ -101,20 +103,122 @@ pub fn write_out(bytes: &[u8]) -> io::Result<()> {
 /// Puts bytes in a file's place: it has these or, where that fails or is ended before, what it had. What is no plain file, as a pipe, and
 /// what others write to as well, as standard output, is written directly. Answers what is left to say on standard output.
 pub fn replace(path: &Path, bytes: &[u8], said: String) -> Outcome<String> {
-    let to_output = is_standard_output(path);
-    let written = if to_output {
-        write_out(bytes)
-    } else {
-        replace_or_write(path, bytes)
-    };
-    written.map_err(|error| {
-        Failure::Problem(format!("{}: cannot be written: {error}", path.display()))
-    })?;
-    if to_output {
-        note(&said);
-        return Ok(String::new());
+    let new = New::prepare(path, bytes)?;
+    new.put()?;
+    Ok(left_to_say(&[new], said))
+}
+
+/// The same with two files, of which neither changes where either cannot be written. They are replaced one after the other: what is ended in
+/// between leaves the first as it is to be and the second as it was. What is written directly cannot be taken back.
+pub fn replace_both([first, second]: [(&Path, &[u8]); 2], said: String) -> Outcome<String> {
+    let (first, second) = (
+        New::prepare(first.0, first.1)?,
+        New::prepare(second.0, second.1)?,
+    );
+    if first.has_the_place_of(&second) {
+        return Err(Failure::Problem(format!(
+            "{} and {} are one file, and two are to be written",
+            first.path.display(),
+            second.path.display()
+        )));
     }
-    Ok(said + "\n")
+    first.keep_old()?;
+    first.put()?;
+    second.put().map_err(|failure| first.take_back(failure))?;
+    Ok(left_to_say(&[first, second], said))
+}
+
+/// What is said, unless a file went to standard output, where nobody looks for it then: standard error says it instead.
+fn left_to_say(written: &[New], said: String) -> String {
+    if written.iter().any(|new| matches!(new.way, Way::Output)) {
+        note(&said);
+        return String::new();
+    }
+    said + "\n"
+}
+
+/// Bytes that are ready to be put in a place.
+struct New<'n> {
+    path: &'n Path,
+    bytes: &'n [u8],
+    way: Way,
+}
+
+/// How bytes come to a path.
+enum Way {
+    /// As this process's standard output.
+    Output,
+    /// Directly, since this is no plain file.
+    Direct(File),
+    /// They are in a file already, in a folder beside the place, which is renamed to that.
+    Made { making: TempDir, place: PathBuf },
+}
+
+impl<'n> New<'n> {
+    /// Does all that can be done without a change at the path.
+    fn prepare(path: &'n Path, bytes: &'n [u8]) -> Outcome<Self> {
+        let way = Way::find(path, bytes).map_err(|error| unwritten(path, &error))?;
+        Ok(New { path, bytes, way })
+    }
+
+    fn put(&self) -> Outcome {
+        let put = match &self.way {
+            Way::Output => write_out(self.bytes),
+            Way::Direct(file) => (&*file).write_all(self.bytes),
+            Way::Made { making, place } => rename(&making.path().join(NEW), place),
+        };
+        put.map_err(|error| unwritten(self.path, &error))
+    }
+
+    /// Whether the other's bytes go to the same file, which may not be there yet.
+    fn has_the_place_of(&self, other: &New) -> bool {
+        let is_made_there = match (&self.way, &other.way) {
+            (Way::Made { place, .. }, Way::Made { place: other, .. }) => {
+                let place = without_links(place);
+                place.is_some() && place == without_links(other)
+            }
+            _ => false,
+        };
+        is_made_there || is_same(self.path, other.path)
+    }
+
+    /// Keeps what stands at the place, so that it can come back. Some file systems have no second name for a file.
+    fn keep_old(&self) -> Outcome {
+        let Way::Made { making, place } = &self.way else {
+            return Ok(());
+        };
+        let old = making.path().join(OLD);
+        let kept = match fs::hard_link(place, &old) {
+            Err(error) if error.kind() == io::ErrorKind::NotFound => Ok(()),
+            Err(_) => fs::copy(place, &old).map(drop),
+            Ok(()) => Ok(()),
+        };
+        kept.map_err(|error| unwritten(self.path, &error))
+    }
+
+    /// Has what stood at the place come back after another file's failure, which is answered.
+    fn take_back(&self, failure: Failure) -> Failure {
+        let Way::Made { making, place } = &self.way else {
+            return failure;
+        };
+        let old = making.path().join(OLD);
+        let back = if old.exists() {
+            rename(&old, place)
+        } else {
+            fs::remove_file(place)
+        };
+        match back {
+            Ok(()) => failure,
+            Err(error) => Failure::Problem(format!(
+                "{failure}\n{}: is written already, and cannot be taken back: {error}",
+                self.path.display()
+            )),
+        }
+    }
+}
+
+fn unwritten(path: &Path, error: &io::Error) -> Failure {
+    Failure::Problem(format!("{}: cannot be written: {error}", path.display()))
 }
 
 /// Whether a path leads to where this process's standard output goes, as /dev/stdout does.
@@ -142,17 +246,28 @@ pub fn expect_folder(path: &Path, what: &str) -> Outcome {
     )))
 }
 
-fn replace_or_write(path: &Path, bytes: &[u8]) -> io::Result<()> {
-    let old = match fs::metadata(path) {
-        Err(error) if error.kind() != io::ErrorKind::NotFound => return Err(error),
-        old => old.ok(),
-    };
-    match old {
-        Some(old) if !old.is_file() && !old.is_dir() => {
-            let mut file = File::options().write(true).open(path)?;
-            file.write_all(bytes)
+impl Way {
+    /// The way to a path, on which the bytes are made into a file where they are to be one.
+    fn find(path: &Path, bytes: &[u8]) -> io::Result<Self> {
+        if is_standard_output(path) {
+            return Ok(Way::Output);
         }
-        _ => replace_file(&behind_links(path), bytes, old.as_ref()),
+        let old = match fs::metadata(path) {
+            Err(error) if error.kind() != io::ErrorKind::NotFound => return Err(error),
+            old => old.ok(),
+        };
+        match old {
+            // A folder is refused here.
+            Some(old) if !old.is_file() => {
+                let file = File::options().write(true).open(path)?;
+                Ok(Way::Direct(file))
+            }
+            old => {
+                let place = behind_links(path);
+                let making = make(&place, bytes, old.as_ref())?;
+                Ok(Way::Made { making, place })
+            }
+        }
     }
 }
 
@@ -181,12 +296,16 @@ pub fn is_making(entry: &fs::DirEntry) -> bool {
     entry.file_name().to_string_lossy().starts_with(MAKING)
 }
 
+/// The new file in such a folder, and the old one where it is kept.
+const NEW: &str = "new";
+const OLD: &str = "old";
+
 /// The new file is made in a folder beside the old one, so that it has the permissions of any new file there, or the old one's.
-fn replace_file(place: &Path, bytes: &[u8], old: Option<&fs::Metadata>) -> io::Result<()> {
-    let folder = folder_of(place);
-    let making = tempfile::Builder::new().prefix(MAKING).tempdir_in(folder)?;
-    let new: PathBuf = making.path().join("new");
-    let mut file = File::create_new(&new)?;
+fn make(place: &Path, bytes: &[u8], old: Option<&fs::Metadata>) -> io::Result<TempDir> {
+    let making = tempfile::Builder::new()
+        .prefix(MAKING)
+        .tempdir_in(folder_of(place))?;
+    let mut file = File::create_new(making.path().join(NEW))?;
     if let Some(old) = old {
         // Another's file stays theirs, where root replaces it; others may give it to its group alone.
         let _ = fchown(&file, Some(old.uid()), Some(old.gid()))
@@ -195,8 +314,19 @@ fn replace_file(place: &Path, bytes: &[u8], old: Option<&fs::Metadata>) -> io::R
     }
     file.write_all(bytes)?;
     file.sync_all()?;
-    fs::rename(&new, place)?;
+    Ok(making)
+}
+
+/// Gives a file its place.
+fn rename(file: &Path, place: &Path) -> io::Result<()> {
+    fs::rename(file, place)?;
     // Some file systems cannot do this for a folder, and the file is replaced already.
-    let _ = File::open(folder).and_then(|folder| folder.sync_all());
+    let _ = File::open(folder_of(place)).and_then(|folder| folder.sync_all());
     Ok(())
+}
+
+/// A place by the one path to it that has no links.
+fn without_links(place: &Path) -> Option<PathBuf> {
+    let folder = folder_of(place).canonicalize().ok()?;
+    Some(folder.join(place.file_name()?))
 }

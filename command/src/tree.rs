@@ -198,11 +198,15 @@ impl Tree {
 
     /// Writes the tree to a file, as text where its name says so. Answers what is left to say on standard output.
     pub fn write(&self, path: &Path, said: String) -> Outcome<String> {
+        files::replace(path, &self.contents(path), said)
+    }
+
+    /// What a file of that name is to have: the text where the name says so, else the table.
+    pub fn contents(&self, path: &Path) -> Vec<u8> {
         if files::is_text(path) {
-            let text = text::tree::print(&self.table, &self.names);
-            files::replace(path, text.as_bytes(), said)
+            text::tree::print(&self.table, &self.names).into_bytes()
         } else {
-            files::replace(path, &self.table, said)
+            self.table.clone()
         }
     }
 }
