@@ -78,6 +78,16 @@ pub enum Command {
         after_help = "Example:\n  volefleece graft samples/house samples/supplier --symbol radio -o grafted.tab"
     )]
     Graft(Graft),
+    /// Put a number in place of a symbol, and write marks of where it stood
+    #[command(
+        after_help = "Example:\n  volefleece fill samples/house --set cards=40 -o chain.tab --marks chain.marks"
+    )]
+    Fill(Fill),
+    /// Put a symbol back where marks say that it stood
+    #[command(
+        after_help = "Example:\n  volefleece open samples/chain --marks samples/chain/cards.marks --set cards=40 -o tree.tab"
+    )]
+    Open(Open),
     /// Print a shell's completions
     #[command(hide = true)]
     Completions { shell: Shell },
@@ -220,4 +230,34 @@ pub struct Graft {
     /// Take the host's names from this file, not from names.txt beside it
     #[arg(long, value_name = "FILE")]
     pub names: Option<PathBuf>,
+}
+
+#[derive(Debug, Args)]
+pub struct Fill {
+    #[command(flatten)]
+    pub source: Source,
+    /// The symbol, by its name or its number, and the number to put in its place
+    #[arg(long = "set", value_name = "NAME=NUMBER")]
+    pub setting: Setting,
+    /// The file to write, replaced whole or not at all
+    #[arg(short, long, value_name = "OUT")]
+    pub output: PathBuf,
+    /// The marks to write, by which `volefleece open` puts the symbol back. Where OUT or this cannot be written, neither changes
+    #[arg(long, value_name = "FILE")]
+    pub marks: PathBuf,
+}
+
+#[derive(Debug, Args)]
+pub struct Open {
+    #[command(flatten)]
+    pub source: Source,
+    /// The marks that `volefleece fill` wrote
+    #[arg(long, value_name = "FILE")]
+    pub marks: PathBuf,
+    /// The symbol to put back, by its name or its number, and the number that stands in its place
+    #[arg(long = "set", value_name = "NAME=NUMBER")]
+    pub setting: Setting,
+    /// The file to write, replaced whole or not at all
+    #[arg(short, long, value_name = "OUT")]
+    pub output: PathBuf,
 }

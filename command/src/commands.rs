@@ -3,6 +3,7 @@
 mod contract;
 mod convert;
 mod draw;
+mod fill;
 mod find;
 mod forms;
 mod list;
@@ -46,6 +47,8 @@ pub fn run(command: &Command) -> Outcome<Answer> {
         Command::Draw(arguments) => draw::run(arguments).map(Answer::from),
         Command::Simplify(arguments) => rewrite::simplify(arguments).map(Answer::from),
         Command::Graft(arguments) => rewrite::graft(arguments).map(Answer::from),
+        Command::Fill(arguments) => fill::fill(arguments).map(Answer::from),
+        Command::Open(arguments) => fill::open(arguments).map(Answer::from),
         Command::Completions { shell } => Ok(completions(*shell).into()),
     }
 }

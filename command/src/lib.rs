@@ -1,5 +1,5 @@
 //! What the command `volefleece` is made of. It reads, asks, shows and draws; every acceptance, figure, list, branch, simplification,
-//! graft and conversion comes from the library's calls.
+//! graft, filling, opening and conversion comes from the library's calls.
 
 pub mod cli;
 pub mod commands;
@@ -9,6 +9,7 @@ pub mod failure;
 pub mod files;
 pub mod hint;
 pub mod house;
+pub mod marks;
 pub mod names;
 pub mod table;
 pub mod text;

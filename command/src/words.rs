@@ -53,7 +53,8 @@ pub fn limit_words(limit: Limit, names: &Names) -> String {
     }
 }
 
-fn amount_words(amount: Amount, names: &Names) -> String {
+/// A time, a bound or a limit's number.
+pub fn amount_words(amount: Amount, names: &Names) -> String {
     // A refused table may have symbols that there are not.
     let name = |symbol| names.symbol(usize::try_from(symbol).unwrap_or(usize::MAX));
     match amount {
@@ -65,6 +66,9 @@ fn amount_words(amount: Amount, names: &Names) -> String {
 
 /// What is said of a paired symbol, or of a block that has it, where no values are given.
 pub const PAIRED: &str = "first and later";
+
+/// What is said of a paired symbol where one that is not was wanted.
+pub const TWO_VALUES: &str = "has a first and a later value";
 
 /// What a symbol counts, of a paired one first and later, and what of that nobody gives.
 pub fn value_words(symbol: usize, counts: &Counts) -> String {

@@ -7,8 +7,7 @@ use crate::failure::{note, Failure, Outcome};
 use crate::names::Names;
 use crate::table::{self, Node};
 use crate::tree::Tree;
-
-const TWO_VALUES: &str = "has a first and a later value";
+use crate::words::TWO_VALUES;
 
 pub fn simplify(arguments: &Simplify) -> Outcome<String> {
     let source = &arguments.source;
