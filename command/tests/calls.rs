@@ -1,4 +1,4 @@
-//! `volefleece check`, `list`, `simplify` and `graft` say what the library's calls answer, on random tables.
+//! `volefleece check`, `list`, `simplify`, `graft`, `fill` and `open` say what the library's calls answer, on random tables.
 
 mod common;
 
@@ -11,10 +11,11 @@ use volefleece_tests::rng::Rng;
 use volefleece_tests::trees::{self, Amount, Kind, Tree};
 
 const OUT: &str = "out.tab";
+const MARKS: &str = "marks";
 
 /// How often each answer, 0 or a refusal's number, was compared.
 #[derive(Default)]
-struct Answers([u64; 15]);
+struct Answers([u64; 17]);
 
 impl Answers {
     /// The command says this, and writes this file where there is one, or refuses as the call does and writes none.
@@ -233,4 +234,89 @@ fn graft_writes_what_the_call_writes() {
     }
     answers.assert_reached(&[0, 1, 2, 3, 4, 5, 6, 7, 11, 12]);
     assert!(grown > 10, "{grown}");
+}
+
+/// A symbol, most often one that the table has, and a number, rarely out of range.
+fn symbol_and_number(rng: &mut Rng, table: &[u8]) -> (u64, u64) {
+    let mut symbols = vec![0, 16, 23];
+    for record in table.chunks_exact(24) {
+        let has = |flag| record[1] & flag != 0;
+        symbols.extend(has(1).then_some(u64::from(record[8])));
+        symbols.extend(has(2).then_some(u64::from(record[4])));
+    }
+    let symbol = match rng.index(10) {
+        0 => rng.pick(&[24, 31, 32, u64::MAX]),
+        _ => rng.pick(&symbols),
+    };
+    let number = match rng.index(8) {
+        0 => rng.pick(&[1_000_000, 1_000_001, 1_000_000_000_001, u64::MAX]),
+        _ => rng.within(0..=50),
+    };
+    (symbol, number)
+}
+
+#[test]
+fn fill_writes_what_the_call_writes() {
+    let mut rng = Rng::new(906);
+    let mut answers = Answers::default();
+    let mut marked = 0;
+    for _ in 0..400 {
+        let folder = folder();
+        let table = random::table(&mut rng);
+        folder.write(TREE, &table);
+        let (symbol, number) = symbol_and_number(&mut rng, &table);
+        let filled = volefleece::fill(&table, symbol, number);
+        let said = filled.as_ref().map(|filled| {
+            let marks: u32 = filled.marks.iter().map(|byte| byte.count_ones()).sum();
+            marked += marks;
+            let line = format!("filled {} marked {marks}\n", filled.table.len());
+            (line, Some(&filled.table[..]))
+        });
+        let set = format!("{symbol}={number}");
+        let arguments = ["fill", TREE, "--set", &set, "-o", OUT, "--marks", MARKS];
+        answers.compare(&folder, &arguments, said.map_err(|&refusal| refusal));
+        let marks = filled.ok().map(|filled| filled.marks.to_vec());
+        assert!(folder.read(MARKS) == marks, "other marks");
+    }
+    answers.assert_reached(&[0, 1, 2, 3, 4, 5, 6, 7, 15]);
+    assert!(marked > 50, "{marked}");
+}
+
+/// Of filled tables with their own marks, with some bits turned, and with others; and of tables that were never filled.
+#[test]
+fn open_writes_what_the_call_writes() {
+    let mut rng = Rng::new(907);
+    let mut answers = Answers::default();
+    let mut returned = 0;
+    for _ in 0..400 {
+        let folder = folder();
+        let lent = random::table(&mut rng);
+        let (symbol, number) = symbol_and_number(&mut rng, &lent);
+        let filled = volefleece::fill(&lent, symbol, number);
+        let (mut table, mut marks) = match &filled {
+            Ok(filled) => (filled.table.clone(), filled.marks.to_vec()),
+            Err(_) => (lent.clone(), vec![0; 128]),
+        };
+        match rng.index(8) {
+            0 => marks[rng.index(128)] ^= 1 << rng.index(8),
+            1 => marks[rng.index(4)] ^= 1 << rng.index(8),
+            2 => marks.resize(rng.pick(&[0, 64, 127, 129, 256]), 0),
+            3 => table.clone_from(&lent),
+            _ => {}
+        }
+        folder.write(TREE, &table);
+        folder.write(MARKS, &marks);
+        let opened = volefleece::open(&table, &marks, symbol, number);
+        returned += u64::from(opened.as_ref() == Ok(&lent) && table != lent);
+        let said = opened.as_ref().map(|opened| {
+            let marks: u32 = marks.iter().map(|byte| byte.count_ones()).sum();
+            let line = format!("opened {} marked {marks}\n", opened.len());
+            (line, Some(&opened[..]))
+        });
+        let set = format!("{symbol}={number}");
+        let arguments = ["open", TREE, "--marks", MARKS, "--set", &set, "-o", OUT];
+        answers.compare(&folder, &arguments, said.map_err(|&refusal| refusal));
+    }
+    answers.assert_reached(&[0, 1, 2, 3, 4, 5, 6, 7, 15, 16]);
+    assert!(returned > 10, "{returned}");
 }

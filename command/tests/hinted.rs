@@ -106,6 +106,15 @@ fn graft<'a>(host: &'a str, sent: &'a str) -> [&'a str; 7] {
     ["graft", host, sent, "--symbol", "16", "-o", OUT]
 }
 
+/// A refused tree is told before a symbol that cannot be filled and marks that are none.
+fn fill(tree: &str) -> [&str; 8] {
+    ["fill", tree, "--set", "24=4", "--marks", "marks", "-o", OUT]
+}
+
+fn open(tree: &str) -> [&str; 8] {
+    ["open", tree, "--set", "24=4", "--marks", GOOD, "-o", OUT]
+}
+
 #[test]
 fn of_a_table_its_record_and_byte() {
     let mut rng = Rng::new(1);
@@ -121,6 +130,8 @@ fn of_a_table_its_record_and_byte() {
         says(&folder, &["simplify", BAD, "-o", OUT], &said);
         says(&folder, &graft(BAD, GOOD), &said);
         says(&folder, &graft(GOOD, BAD), &said);
+        says(&folder, &fill(BAD), &said);
+        says(&folder, &open(BAD), &said);
         for command in ["quote", "list", "contract"] {
             says(&folder, &[command, "."], &refused.said("./tree.tab"));
         }
@@ -217,6 +228,8 @@ fn of_a_text_its_line() {
         says(&folder, &["simplify", BAD_TEXT, "-o", OUT], &said);
         says(&folder, &graft(BAD_TEXT, GOOD), &said);
         says(&folder, &graft(GOOD, BAD_TEXT), &said);
+        says(&folder, &fill(BAD_TEXT), &said);
+        says(&folder, &open(BAD_TEXT), &said);
         let of_house = refused.said_at(&format!("./{TREE_TEXT}:{line}"));
         says(&folder, &["quote", "."], &of_house);
         shows(&folder, BAD_TEXT, &said, refused.table.len() / RECORD_BYTES);

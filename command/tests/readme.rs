@@ -1,6 +1,10 @@
 //! The examples on README.md's first pages are what the command prints, and its version is the library's.
 
+use std::path::Path;
+use std::{env, fs, process};
+
 use assert_cmd::Command;
+use volefleece_tests::programs::{project, Folder};
 
 const README: &str = include_str!("../../README.md");
 
@@ -56,6 +60,41 @@ fn first_and_later() {
 #[test]
 fn a_block_by_its_address() {
     printed("volefleece find samples/workshop 0x8000474");
+}
+
+/// The calls on the page that fill, quote and open, each in a block before what it prints, in a copy of the samples.
+#[test]
+fn a_chain() {
+    let blocks = blocks();
+    let start = blocks
+        .iter()
+        .position(|block| block.starts_with("mkdir target/chain\n"));
+    let chain = &blocks[start.expect("the first call")..][..6];
+    let command = Path::new(env!("CARGO_BIN_EXE_volefleece"));
+    let folder = Folder::of(command.into());
+    folder.put_folder("target");
+    let mut copy = process::Command::new("cp");
+    copy.arg("-r")
+        .arg(project().join("samples"))
+        .arg(folder.path(""));
+    assert!(copy.status().expect("it runs").success());
+    let mut paths = vec![command.parent().expect("a folder").to_path_buf()];
+    paths.extend(env::split_paths(&env::var_os("PATH").expect("a path")));
+    for called in chain.chunks(2) {
+        let mut shell = Command::new("sh");
+        shell.args(["-ec", &called[0]]).current_dir(folder.path(""));
+        shell.env("PATH", env::join_paths(&paths).expect("paths"));
+        shell
+            .assert()
+            .success()
+            .stdout(called[1].clone())
+            .stderr("");
+    }
+    let read = |name| fs::read(folder.path(name)).expect("a file");
+    assert_eq!(
+        read("target/chain/open.tab"),
+        read("samples/house/tree.tab")
+    );
 }
 
 #[test]

@@ -15,8 +15,8 @@ use volefleece_tests::tables::*;
 const OUT: &str = "out";
 const OLD: &[u8] = b"old";
 
-/// Every way to write a file, without the file's name.
-const WAYS: [&[&str]; 7] = [
+/// Every way to write a file, without the file's name. What filling writes to two files two_files.rs has.
+const WAYS: [&[&str]; 10] = [
     &["make", "tree.txt", "-o"],
     &["values", "make", "values.txt", "-o"],
     &["simplify", "tree.tab", "-o"],
@@ -25,6 +25,33 @@ const WAYS: [&[&str]; 7] = [
     &["draw", "tree.tab", "-o"],
     // A house: its files, its names and its counts.
     &["draw", ".", "--set", "cards=4", "--set", "radio=9", "-o"],
+    &[
+        "open",
+        "filled.tab",
+        "--marks",
+        "marks",
+        "--set",
+        "0=4",
+        "-o",
+    ],
+    &[
+        "fill",
+        "tree.tab",
+        "--set",
+        "0=4",
+        "--marks",
+        "/dev/null",
+        "-o",
+    ],
+    &[
+        "fill",
+        "tree.tab",
+        "--set",
+        "0=4",
+        "-o",
+        "/dev/null",
+        "--marks",
+    ],
 ];
 
 /// The calls on the way to a new file, each with an error and its words.
@@ -38,8 +65,10 @@ const CALLS: [(&str, i32, &str); 6] = [
 ];
 const NO_SPACE: &str = "No space left on device";
 
-const READ: [&str; 6] = [
+const READ: [&str; 8] = [
+    "filled.tab",
     "former.tab",
+    "marks",
     NAMES,
     "sent.tab",
     TREE,
@@ -61,6 +90,9 @@ fn with_files(old: Option<&[u8]>) -> Folder {
     folder.write(NAMES, &sample("workshop", NAMES));
     folder.write("sent.tab", &block(7));
     folder.write("former.tab", &FORMER_BLOCK);
+    let filled = volefleece::fill(&table(), 0, 4).expect("a filled table");
+    folder.write("filled.tab", &filled.table);
+    folder.write("marks", &filled.marks);
     folder.write(TREE_TEXT, TEXT.as_bytes());
     folder.write(VALUES_TEXT, b"cards 40\nretries 3\n");
     if let Some(old) = old {
@@ -311,6 +343,7 @@ fn a_kill_leaves_a_whole_file() {
                     .args(way)
                     .arg(OUT)
                     .stdout(Stdio::null())
+                    .stderr(Stdio::null())
                     .status()
                     .expect("it runs");
                 if status.success() {
@@ -365,7 +398,7 @@ fn a_line_that_cannot_be_written_leaves_the_new_file() {
 fn nothing_is_written_without_an_answer() {
     for way in WAYS {
         let folder = with_files(Some(OLD));
-        for file in [TREE, TREE_TEXT, VALUES_TEXT, "former.tab"] {
+        for file in [TREE, TREE_TEXT, VALUES_TEXT, "former.tab", "filled.tab"] {
             folder.write(file, b"loop\n");
         }
         let output = folder

@@ -372,6 +372,45 @@ fn a_text_of_a_random_graft_makes_its_table() {
     }
 }
 
+/// The names are those of the open tree: nothing moves, and what opens the tree again finds the symbol by its name.
+#[test]
+fn a_text_of_a_filled_tree_makes_its_table_and_has_the_names() {
+    let folder = folder();
+    folder.write(
+        "in.tab",
+        &choice(&[
+            symbol_repeat(0, symbol_block(16), block(1)),
+            symbol_block(17),
+        ]),
+    );
+    let names = "house H\nsymbol 0 cards\nsymbol 16 radio\n";
+    let branches = "branch 1 by bolt\n";
+    folder.write(OTHER, format!("{names}{branches}").as_bytes());
+    let fill = |set| {
+        [
+            "fill", "in.tab", "--names", OTHER, "--set", set, "--marks", "marks",
+        ]
+    };
+    let nodes = |bound, bolt| {
+        format!(
+            "\nchoice\n  loop {bound}\n    body block radio\n    exit block 1\n  block {bolt}\n"
+        )
+    };
+    let filled = writes_both(&folder, &fill("cards=40"));
+    let header = format!("{names}symbol 17 time-17\n{branches}");
+    assert_eq!(filled, header.clone() + &nodes("40", "time-17"));
+    put(&folder, "filled/tree.txt", filled);
+    // By the name in the text itself, which is the only one here.
+    let open = ["open", "filled", "--set", "cards=40", "--marks", "marks"];
+    let opened = writes_both(&folder, &open);
+    assert_eq!(opened, header + &nodes("cards", "time-17"));
+    assert_eq!(folder.read(OUT), folder.read("in.tab"));
+    // A symbol without a name has its plain one, once it is used.
+    let filled = writes_both(&folder, &fill("17=9"));
+    let header = format!("{names}{branches}");
+    assert_eq!(filled, header + &nodes("cards", "9"));
+}
+
 // Numbers.
 
 #[test]

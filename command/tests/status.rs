@@ -7,11 +7,11 @@ use std::path::Path;
 use std::process::Command;
 
 use common::*;
-use volefleece_tests::programs::{project, values_file, Folder, TREE, VALUES};
+use volefleece_tests::programs::{project, sample, values_file, Folder, TREE, VALUES};
 use volefleece_tests::tables::*;
 
 /// Each subcommand, answered in a folder with all that is read.
-const ANSWERED: [&[&str]; 17] = [
+const ANSWERED: [&[&str]; 19] = [
     &["quote", "."],
     &["quote", ".", "--line"],
     &["quote", ".", "--json"],
@@ -27,6 +27,12 @@ const ANSWERED: [&[&str]; 17] = [
     &[
         "graft", "tree.tab", "sent.tab", "--symbol", "16", "-o", "out.tab",
     ],
+    &[
+        "fill", "tree.tab", "--set", "0=4", "--marks", "out.bits", "-o", "out.tab",
+    ],
+    &[
+        "open", "shut.tab", "--set", "0=4", "--marks", "in.bits", "-o", "out.tab",
+    ],
     &["find", "tree.tab", "0x0"],
     &["convert", "old.tab", "-o", "out.tab"],
     &["draw", ".", "-o", "out.svg"],
@@ -34,7 +40,7 @@ const ANSWERED: [&[&str]; 17] = [
 ];
 
 /// Those that read a tree, and say so where it is refused.
-const OF_A_TREE: [&[&str]; 8] = [
+const OF_A_TREE: [&[&str]; 10] = [
     &["quote", "."],
     &["contract", "."],
     &["list", "."],
@@ -45,6 +51,12 @@ const OF_A_TREE: [&[&str]; 8] = [
     ],
     &["draw", "tree.tab", "-o", "out.svg"],
     &["find", "tree.tab", "0x0"],
+    &[
+        "fill", "tree.tab", "--set", "0=4", "--marks", "out.bits", "-o", "out.tab",
+    ],
+    &[
+        "open", "tree.tab", "--set", "0=4", "--marks", "in.bits", "-o", "out.tab",
+    ],
 ];
 
 const OF_COUNTS: [&[&str]; 3] = [&["quote", "."], &["contract", "."], &["list", "."]];
@@ -55,6 +67,9 @@ fn with_files() -> Folder {
     folder.write("values.text", b"cards 4\n");
     folder.write("sent.tab", &block(7));
     folder.write("old.tab", &FORMER_BLOCK);
+    let filled = volefleece::fill(&sample("house", TREE), 0, 4).expect("a filled table");
+    folder.write("shut.tab", &filled.table);
+    folder.write("in.bits", &filled.marks);
     folder
 }
 
@@ -143,6 +158,42 @@ fn a_refused_graft_ends_with_1() {
     }
     folder.write("sent.tab", &in_sequences(31, block(1)));
     refuses(&folder, &graft("radio"), 12);
+}
+
+/// All of it comes after the questions to the tree, and the marks after the symbol and its number.
+#[test]
+fn a_refused_filling_ends_with_1() {
+    let fill = |set| {
+        [
+            "fill", TREE, "--set", set, "--marks", "out.bits", "-o", "out.tab",
+        ]
+    };
+    let open = |tree, marks, set| {
+        [
+            "open", tree, "--set", set, "--marks", marks, "-o", "out.tab",
+        ]
+    };
+    let folder = with_files();
+    let names = folder.names();
+    for set in [
+        "24=4",
+        "31=4",
+        "32=4",
+        "cards=1000001",
+        "radio=1000000000001",
+    ] {
+        refuses(&folder, &fill(set), 15);
+        refuses(&folder, &open("shut.tab", "in.bits", set), 15);
+        refuses(&folder, &open("shut.tab", "tree.text", set), 15);
+    }
+    for set in ["cards=5", "retries=5", "radio=4"] {
+        refuses(&folder, &open("shut.tab", "in.bits", set), 16);
+    }
+    refuses(&folder, &open(TREE, "in.bits", "cards=4"), 16);
+    refuses(&folder, &open("shut.tab", "tree.text", "cards=4"), 16);
+    assert_eq!(folder.names(), names);
+    folder.write(TREE, &triangular_limited(block(7), 0, 255));
+    refuses(&folder, &fill("cards=4"), 15);
 }
 
 /// What a text cannot say is no refusal: its lines are told instead.
@@ -234,7 +285,7 @@ fn wrong_use_ends_with_2() {
 fn a_file_that_cannot_be_read_ends_with_2() {
     for arguments in ANSWERED {
         for (at, file) in arguments.iter().enumerate() {
-            let is_read = file.contains('.') && arguments[at - 1] != "-o";
+            let is_read = file.contains('.') && arguments[at - 1] != "-o" && *file != "out.bits";
             if !is_read {
                 continue;
             }
@@ -248,7 +299,9 @@ fn a_file_that_cannot_be_read_ends_with_2() {
                 arguments[at] = file;
                 // A folder stands for the tree in it, which here is none.
                 match *file {
-                    "tree.tab" | "sent.tab" => drop(ends(folder.command().args(arguments), 1)),
+                    "tree.tab" | "sent.tab" | "shut.tab" => {
+                        drop(ends(folder.command().args(arguments), 1))
+                    }
                     _ => complains(&folder, &arguments, &[&format!("{file}: Is a directory")]),
                 }
             }
@@ -260,7 +313,7 @@ fn a_file_that_cannot_be_read_ends_with_2() {
 fn names_that_cannot_be_read_end_with_2() {
     for arguments in ANSWERED {
         if [
-            "check", "show", "make", "values", "simplify", "graft", "draw", "find",
+            "check", "show", "make", "values", "simplify", "graft", "fill", "open", "draw", "find",
         ]
         .contains(&arguments[0])
         {
@@ -330,7 +383,7 @@ fn a_closed_standard_error_changes_nothing() {
 
 // Help.
 
-const SUBCOMMANDS: [&[&str]; 14] = [
+const SUBCOMMANDS: [&[&str]; 16] = [
     &["quote"],
     &["quotes"],
     &["contract"],
@@ -345,6 +398,8 @@ const SUBCOMMANDS: [&[&str]; 14] = [
     &["draw"],
     &["simplify"],
     &["graft"],
+    &["fill"],
+    &["open"],
 ];
 
 fn help(arguments: &[&str]) -> String {
