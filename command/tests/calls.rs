@@ -35,7 +35,12 @@ impl Answers {
                 assert!(folder.read(OUT).as_deref() == file, "another file");
             }
             Err(refusal) => {
-                assert_eq!(said.lines().next(), Some(&refusal.to_string()[..]));
+                let mut lines = said.lines();
+                assert_eq!(lines.next(), Some(&refusal.to_string()[..]));
+                if matches!(refusal, Refusal::FilledSymbol | Refusal::Marks) {
+                    // Each of their clauses has a hint.
+                    assert!(lines.next().is_some_and(|line| line.starts_with("hint: ")));
+                }
                 assert_eq!(folder.read(OUT), None);
             }
         }

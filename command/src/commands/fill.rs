@@ -140,10 +140,8 @@ impl Asked {
         }
         let triangular = Some(Amount::Triangular(self.symbol));
         let nodes = table::nodes(&self.tree.table);
-        let limits = nodes
-            .iter()
-            .map(|node| node.limit.map(|limit| limit.amount));
-        if let Some(record) = limits.into_iter().position(|limit| limit == triangular) {
+        let limit = |node: &Node| node.limit.map(|limit| limit.amount);
+        if let Some(record) = nodes.iter().position(|node| limit(node) == triangular) {
             let place = self.tree.place(record);
             return Some(format!(
                 "{place}: its limit is triangular {name}, and a plain number is put"
@@ -188,10 +186,12 @@ impl Asked {
             let kind = kind_word(node.kind);
             return Some(format!("its {word} is marked, and this {kind} has none"));
         };
-        let is_time = place(self.symbol) >= FIRST_TIME;
+        // A block's time is the one field for times.
+        let is_for_time = matches!((field, node.kind), (Field::Value, Kind::Block(_)));
+        let symbol = place(self.symbol);
         let why = match amount {
-            _ if is_time != (word == TIME) => {
-                format!("{} is a {}", self.name(), class(place(self.symbol)))
+            _ if is_for_time != (symbol >= FIRST_TIME) => {
+                format!("{} is a {}", self.name(), class(symbol))
             }
             Amount::Plain(found) if found == self.number => return None,
             Amount::Plain(_) => format!("is not {}", self.number),
@@ -226,12 +226,10 @@ fn place(symbol: u64) -> usize {
     usize::try_from(symbol).unwrap_or(usize::MAX)
 }
 
-const TIME: &str = "time";
-
 /// What a kind's value is called.
 fn value_word(kind: Kind) -> &'static str {
     match kind {
-        Kind::Block(_) => TIME,
+        Kind::Block(_) => "time",
         Kind::Loop(_) => "bound",
         Kind::Sequence | Kind::Choice => "value",
     }
