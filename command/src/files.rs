@@ -2,6 +2,7 @@
 
 use std::fs::{self, File};
 use std::io::{self, Read, Write};
+use std::mem;
 use std::os::fd::AsFd;
 use std::os::unix::fs::{fchown, MetadataExt};
 use std::path::{Path, PathBuf};
@@ -124,7 +125,9 @@ pub fn replace_both([first, second]: [(&Path, &[u8]); 2], said: String) -> Outco
     }
     first.keep_old()?;
     first.put()?;
-    second.put().map_err(|failure| first.take_back(failure))?;
+    if let Err(failure) = second.put() {
+        return Err(first.take_back(failure));
+    }
     Ok(left_to_say(&[first, second], said))
 }
 
@@ -197,23 +200,29 @@ impl<'n> New<'n> {
     }
 
     /// Has what stood at the place come back after another file's failure, which is answered.
-    fn take_back(&self, failure: Failure) -> Failure {
-        let Way::Made { making, place } = &self.way else {
+    fn take_back(self, failure: Failure) -> Failure {
+        let Way::Made { making, place } = self.way else {
             return failure;
         };
         let old = making.path().join(OLD);
-        let back = if old.exists() {
-            rename(&old, place)
+        let was_there = old.exists();
+        let back = if was_there {
+            rename(&old, &place)
         } else {
-            fs::remove_file(place)
+            fs::remove_file(&place)
         };
-        match back {
-            Ok(()) => failure,
-            Err(error) => Failure::Problem(format!(
-                "{failure}\n{}: is written already, and cannot be taken back: {error}",
-                self.path.display()
-            )),
+        let Err(error) = back else {
+            return failure;
+        };
+        let path = self.path.display();
+        let mut told =
+            format!("{failure}\n{path}: is written already, and cannot be taken back: {error}");
+        if was_there {
+            told += &format!("; what it was is {}", old.display());
+            // So that the folder stays, with the old file in it.
+            mem::forget(making);
         }
+        Failure::Problem(told)
     }
 }
 

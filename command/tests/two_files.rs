@@ -208,6 +208,25 @@ fn marks_come_back() {
     }
 }
 
+/// It is told, and what stood there is kept.
+#[test]
+fn marks_that_cannot_come_back_are_told() {
+    for (old, call) in [(None, "unlink 1"), (Some(OLD[1]), "rename 2")] {
+        let folder = with_old([None, old]);
+        let mut command = folder.command_failing(&format!("{call} {}", libc::EIO));
+        let written = ends(command.args(fill("/dev/full", MARKS)), 2);
+        let lines: Vec<&str> = written.error.lines().collect();
+        let first = "volefleece: /dev/full: cannot be written: No space left on device";
+        assert!(lines[0].starts_with(first), "{}", written.error);
+        let second = "volefleece: marks: is written already, and cannot be taken back: Input/output error (os error 5)";
+        let kept = lines[1].strip_prefix(second).expect("a second line");
+        assert_eq!(folder.read(MARKS), Some(filled().marks.to_vec()));
+        let kept = kept.strip_prefix("; what it was is ");
+        let kept = kept.map(|kept| folder.read(kept).expect("the old marks"));
+        assert_eq!(kept.as_deref(), old);
+    }
+}
+
 // Failures and kills.
 
 /// Each of these calls fails in turn, for either file: then both stay as they were, and what fails later leaves both new.
