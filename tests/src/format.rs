@@ -45,6 +45,9 @@ pub const MOST_DEPTH: usize = 32;
 pub const MOST_LOOPS: usize = 8;
 pub const MOST_WEIGHT: u64 = 255;
 
+/// The bytes of a filling's marks: two bits for each record of the longest table.
+pub const MARK_BYTES: usize = 128;
+
 /// The branch of a figure whose root is no choice: no child has this number.
 pub const NO_BRANCH: u64 = 255;
 

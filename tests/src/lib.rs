@@ -7,6 +7,7 @@
 //! - `evaluator`: the second evaluator, questions 8 to 10, 13 and 14, and the branch, of former tables too.
 //! - `simplifier`: the second simplifier.
 //! - `grafter`: the second grafter, questions 11 and 12.
+//! - `filler`: the second filler and opener, questions 15 and 16.
 //! - `converter`: the second converter of former tables.
 //! - `fits`: where the rules of simplifying fit, for small tables.
 //! - `members`, `runs`: lists member by member with their branches, and the dearest run, both for small
@@ -20,6 +21,7 @@
 //! - `quotes`: one table with values, both evaluators.
 //! - `simplifications`: one table with an allowance and a buffer, both simplifiers.
 //! - `grafts`: two tables with a symbol and a buffer, both grafters.
+//! - `fills`: one table with a symbol, a number and buffers, both fillers and openers.
 //! - `programs`: the programs as processes, and their files.
 //! - `commands`: the repository's commands as processes, the real ones and copies beside stand-ins.
 //! - `timing`: medians of times, for the benchmarks.
@@ -33,6 +35,8 @@ pub mod damage;
 pub mod evaluator;
 pub mod faults;
 pub mod fenced;
+pub mod filler;
+pub mod fills;
 pub mod fits;
 pub mod format;
 pub mod grafter;
