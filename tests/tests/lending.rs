@@ -68,6 +68,51 @@ fn null_with_length_0_lends_nothing_to_write_to() {
     }
 }
 
+/// The same of filling, which writes to two buffers, and of opening, which reads what the second then holds.
+#[test]
+fn null_with_length_0_lends_no_marks() {
+    let no_table = (null(), 0);
+    let table = symbol_block(16);
+    let one = (table.as_ptr(), table.len());
+    let (mut buffer, mut marked) = ([5; 24], [5; 128]);
+    let nowhere = (null_mut(), 0);
+    let room = (buffer.as_mut_ptr(), buffer.len());
+    let marks = (marked.as_mut_ptr(), marked.len());
+
+    // SAFETY: as above.
+    unsafe {
+        for ((out, out_len), (marks, marks_len), refused) in [
+            (nowhere, nowhere, 8),
+            (nowhere, marks, 8),
+            (room, nowhere, 8),
+            (room, marks, 0),
+        ] {
+            let fill = |(table, len)| {
+                raw::vf_fill(table, len, 16, 7, out, out_len, marks, marks_len).refused
+            };
+            assert_eq!(fill(no_table), 1);
+            assert_eq!(fill(one), refused);
+        }
+        assert_eq!((buffer[8], marked[0]), (7, 1));
+
+        let filled = buffer;
+        let one = (filled.as_ptr(), filled.len());
+        for ((out, out_len), (marks, marks_len), refused) in [
+            (nowhere, (null(), 0), 8),
+            (nowhere, (marked.as_ptr(), 128), 8),
+            (room, (null(), 0), 16),
+            (room, (marked.as_ptr(), 128), 0),
+        ] {
+            let open = |(table, len)| {
+                raw::vf_open(table, len, marks, marks_len, 16, 7, out, out_len).refused
+            };
+            assert_eq!(open(no_table), 1);
+            assert_eq!(open(one), refused);
+        }
+        assert_eq!(buffer[..], table);
+    }
+}
+
 /// Eight threads read the same tables and values, each with a buffer of its own.
 #[test]
 fn threads_may_call_at_once() {
@@ -82,15 +127,19 @@ fn threads_may_call_at_once() {
     let call_all = || {
         let mut list = [0; 512];
         let (mut simple, mut whole, mut made) = ([0; 12_288], [0; 12_288], [0; 12_288]);
+        let (mut filled, mut opened, mut marks) = ([0; 12_288], [0; 12_288], [0; 128]);
         let answers = (
             raw::check(&tree),
             raw::figure(&tree, &numbers),
             raw::list(&tree, &numbers, &mut list),
             raw::simplify(&tree, u64::MAX, &mut simple),
             raw::graft(&tree, &sent, 16, &mut whole),
+            raw::fill(&tree, 0, 40, &mut filled, &mut marks),
+            raw::open(&filled[..tree.len()], &marks, 0, 40, &mut opened),
             raw::convert(&former, &mut made),
         );
-        (answers, list, simple, whole, made)
+        assert_eq!(opened[..tree.len()], tree);
+        (answers, list, simple, whole, filled, marks, made)
     };
     let alone = call_all();
     let quoted = alone.0 .1;

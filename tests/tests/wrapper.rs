@@ -237,6 +237,74 @@ fn graft() {
     assert_reached(&reached, &[&refused[..], &[(0, 1_000)]].concat());
 }
 
+/// A symbol and a number that are often in range, and a small number as a rule, which plain fields have too.
+fn symbol_and_number(rng: &mut Rng) -> (u64, u64) {
+    let symbol = match rng.index(8) {
+        0 => rng.pick(&[24, 31, 32, 256 + 16, u64::MAX]),
+        _ => rng.within(0..=23),
+    };
+    let number = match rng.index(8) {
+        0 => rng.pick(&[1_000_001, 1_000_000_000_001, u64::MAX]),
+        1 => rng.pick(&[1_000_000, 1_000_000_000_000]),
+        _ => rng.within(0..=9),
+    };
+    (symbol, number)
+}
+
+#[test]
+fn fill() {
+    let (mut rng, mut reached) = (Rng::new(7), Reached::new());
+    let mut marked = 0;
+    for _ in 0..6_000 {
+        let table = table(&mut rng);
+        let (symbol, number) = symbol_and_number(&mut rng);
+        let (mut room, mut marks) = (vec![0; table.len()], [0; volefleece::MARK_BYTES]);
+        let answer = raw::fill(&table, symbol, number, &mut room, &mut marks);
+        let raw = accepted(answer.refused, (room, marks));
+        let safe =
+            volefleece::fill(&table, symbol, number).map(|filled| (filled.table, filled.marks));
+        if let Some((_, marks)) = agree(&mut reached, &table, safe, raw) {
+            assert_eq!(answer.length, table.len() as u64);
+            marked += u64::from(marks != [0; volefleece::MARK_BYTES]);
+        }
+    }
+    let refused = [1, 2, 3, 4, 5, 6, 7, 15].map(|number| (number, 50));
+    assert_reached(&reached, &[&refused[..], &[(0, 1_000)]].concat());
+    assert!(marked >= 300, "{marked}");
+}
+
+#[test]
+fn open() {
+    let (mut rng, mut reached) = (Rng::new(8), Reached::new());
+    let mut marked = 0;
+    for _ in 0..6_000 {
+        let mut table = table(&mut rng);
+        let (symbol, number) = symbol_and_number(&mut rng);
+        // What filling wrote, or any marks of the first records, or marks of any length.
+        let mut marks = vec![0; volefleece::MARK_BYTES];
+        match rng.index(8) {
+            0 => marks[0] = rng.byte() & rng.byte(),
+            1 => marks.resize(rng.size(0..=256), 0),
+            _ => {
+                if let Ok(filled) = volefleece::fill(&table, symbol, number) {
+                    (table, marks) = (filled.table, filled.marks.to_vec());
+                }
+            }
+        }
+        let mut room = vec![0; table.len()];
+        let answer = raw::open(&table, &marks, symbol, number, &mut room);
+        let raw = accepted(answer.refused, room);
+        let safe = volefleece::open(&table, &marks, symbol, number);
+        if agree(&mut reached, &table, safe, raw).is_some() {
+            assert_eq!(answer.length, table.len() as u64);
+            marked += u64::from(marks.iter().any(|&byte| byte != 0));
+        }
+    }
+    let refused = [1, 2, 3, 4, 5, 6, 7, 15, 16].map(|number| (number, 50));
+    assert_reached(&reached, &[&refused[..], &[(0, 1_000)]].concat());
+    assert!(marked >= 300, "{marked}");
+}
+
 #[test]
 fn convert() {
     let (mut rng, mut reached) = (Rng::new(6), Reached::new());
