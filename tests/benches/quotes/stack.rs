@@ -1,5 +1,5 @@
-//! The stack that the calls want on the deepest tables, and grafting and converting on the longest too.
-//! A child process makes them with less and less stack, until it no longer returns.
+//! The stack that the calls want on the deepest tables, and all but quoting and simplifying on the longest
+//! too. A child process makes them with less and less stack, until it no longer returns.
 
 use crate::quote::flat_tree;
 use std::env;
@@ -7,14 +7,14 @@ use std::hint::black_box;
 use std::process::{Command, Stdio};
 use volefleece::raw;
 use volefleece_tests::format::{
-    FORMER_RECORD_BYTES, LIST_ROOM, MOST_RECORDS, RECORD_BYTES, VALUES,
+    FORMER_RECORD_BYTES, LIST_ROOM, MARK_BYTES, MOST_RECORDS, RECORD_BYTES, VALUES,
 };
 use volefleece_tests::rng::Rng;
 use volefleece_tests::trees::{self, Amount, Amounts, Kind, Tree};
 
 const PROBE: &str = "--stack-probe";
 
-/// The symbol that is grafted.
+/// The symbol that is grafted, and filled.
 const SYMBOL: u64 = 16;
 
 pub fn measure() {
@@ -49,6 +49,7 @@ pub fn probe() {
     quote_and_simplify(&mut rng);
     graft_deepest(&mut rng);
     graft_longest(&mut rng);
+    fill_and_open(&mut rng);
     convert_longest();
 }
 
@@ -120,6 +121,24 @@ fn graft_longest(rng: &mut Rng) {
     assert_eq!(graft(&Tree::symbol_block(SYMBOL), &long), 0);
     assert_eq!(graft(&many, &Tree::block(7)), 0);
     assert_eq!(graft(&most, &longest), 12);
+}
+
+/// Fills and opens tables of depth 32 with every number of loops, and one of the most records, with the
+/// symbol in every block.
+fn fill_and_open(rng: &mut Rng) {
+    let deepest = (0..=8).map(|loops| spine(rng, 32, loops, 255));
+    let mut all: Vec<Tree> = deepest.collect();
+    all.push(flat_tree(rng, MOST_RECORDS));
+    for mut tree in all {
+        trees::put_symbol(rng, &mut tree, SYMBOL, MOST_RECORDS);
+        let table = tree.encode();
+        let (mut out, mut marks) = (vec![0; table.len()], [0; MARK_BYTES]);
+        let answer = raw::fill(black_box(&table), SYMBOL, 7, &mut out, &mut marks);
+        assert_eq!(answer.refused, 0);
+        let mut opened = vec![0; table.len()];
+        let answer = raw::open(black_box(&out), &marks, SYMBOL, 7, &mut opened);
+        assert_eq!((answer.refused, opened), (0, table));
+    }
 }
 
 fn convert_longest() {
