@@ -174,14 +174,14 @@ fn node_opens(node: Node, digit: u8, symbol: u64, number: u64) -> bool
     ((digit % 2 == 0) | value) & ((digit / 2 == 0) | most)
 }
 
-// In each of record i's? Past the last record there are no marks.
+// In each of record i's? Without a mark there, which is most often so, its node is not read; past the last record there may be none.
 fn digit_opens(table: &[u8], marks: &[u8], i: usize, symbol: u64, number: u64) -> bool
     requires { ⌜ i / 4 < length (now marks) ⌝ }
     ensures { λ r. ⌜ r ≡ digitOpens symbol number (now (table .entry)) (now (marks .entry)) i ⌝ }
 {
     let n = table.len() / RECORD_LENGTH;
     let digit = digit_at(marks, i);
-    if n <= i {
+    if (n <= i) | (digit == 0) {
         return digit == 0;
     }
     node_opens(table::node_at(table, i), digit, symbol, number)

@@ -1,15 +1,15 @@
 -- Question 16, record by record.
 use mathlib.Core.Path.{_≡_, refl, ap, sym, _∙_}
-use mathlib.Core.Bool.{Bool, true, false, not}
+use mathlib.Core.Bool.{Bool, true, false, not, _||_}
 use mathlib.Core.List.{List}
 use Prim.Native.Nat.{ℕ, zero, suc, _+_, _-_, _<_, _≤_}
 use native.Mathlib.Nat.{add-zero, sub-zero}
 use native.Mathlib.Omega.{arith}
-use lib.Dec.{T, eqb, eqb→eq, ltb}
+use lib.Dec.{T, eqb, eqb→eq, leb, leb→le, ltb}
 use lib.ListN.{length}
-use borrow.Author.Tests.{eq-eqb, le-ltb, lt-ltb, ltb-false, ltb-true, ne-eqb, not-false, not-true}
+use borrow.Author.Tests.{eq-eqb, le-ltb, leb-false, lt-ltb, ltb-false, ltb-true, ne-eqb, not-false, not-true}
 use Rattle.booleans.specs.Tests.{_and_}
-use Rattle.booleans.specs.Laws.{both, is-T, join-and}
+use Rattle.booleans.specs.Laws.{T-is, both, by-cond, either, is-T, join-and}
 use Rattle.table.specs.Numbers.{mostRecords}
 use Rattle.table.specs.Table.{recordCount}
 use Rattle.table.specs.Laws.Reading.{next-count}
@@ -58,6 +58,14 @@ module _ (p : ℕ → Bool) (n : ℕ) where
 
 -- ---- the marks
 
+-- record i of n has a mark that is looked at
+pub one-there : (n i d : ℕ) → (leb n i || eqb d 0) ≡ false → i < n
+one-there n i d h = go (leb n i) refl h
+  where
+    go : (r : Bool) → leb n i ≡ r → (r || eqb d 0) ≡ false → i < n
+    go true p q = absurd (is-T false (sym q))
+    go false p q = leb-false n i p
+
 module _ (s x : ℕ) (b m : List ℕ) where
   pub opens-here : (i : ℕ) → i < recordCount b → digitOpens s x b m i ≡ nodeOpens s x (digitAt m i) (nodeAt b i)
   unfolding digitOpens
@@ -68,8 +76,11 @@ module _ (s x : ℕ) (b m : List ℕ) where
   opens-past i l = rw (le-ltb i (recordCount b) l) refl
 
   module _ (i d : ℕ) (e : d ≡ digitAt m i) where
-    pub none-told : recordCount b ≤ i → eqb d 0 ≡ digitOpens s x b m i
-    none-told l = ap (λ k. eqb k 0) e ∙ sym (opens-past i l)
+    pub none-told : (leb (recordCount b) i || eqb d 0) ≡ true → eqb d 0 ≡ digitOpens s x b m i
+    none-told h = either (leb (recordCount b) i) (eqb d 0) (is-T _ h) (λ p. ap (λ k. eqb k 0) e ∙ sym (opens-past i (leb→le _ _ p))) (λ p. T-is _ p ∙ sym (unmarked (sym e ∙ eqb→eq d 0 p)))
+      where
+        unmarked : digitAt m i ≡ 0 → digitOpens s x b m i ≡ true
+        unmarked z = unfold digitOpens in by-cond (λ (r : Bool). r ≡ true) (ltb i (recordCount b)) _ _ (λ _. rw z refl) (λ _. rw z refl)
 
     pub node-told : (n : Node) (r : Bool) → i < recordCount b → n ≡ nodeAt b i → r ≡ nodeOpens s x d n → r ≡ digitOpens s x b m i
     node-told n r l q f = f ∙ rw (q, e) (sym (opens-here i l))
