@@ -108,10 +108,10 @@ impl Refusal {
             Refusal::TriangularNumber => "a value whose triangular number is a limit is above 1,000",
             Refusal::LaterValue => "a later value, 32 to 39, is above its symbol's first, 24 to 31",
             Refusal::FilledSymbol => {
-                "the symbol is not 0 to 23 or used under flag 4, or the number is above 1,000,000 (0 to 15) or 1,000,000,000,000 (16 to 23)"
+                "the symbol is none of 0 to 23, the table uses it under flag 4, or the number is above 1,000,000 (0 to 15) or 1,000,000,000,000 (16 to 23)"
             }
             Refusal::Marks => {
-                "the marks are not 128 bytes, or one is past the last record or on no plain field of that number where the symbol is allowed"
+                "the marks are not 128 bytes, one lies past the last record, or one is not on a plain field of that number in which the symbol is allowed"
             }
         }
     }
