@@ -242,7 +242,8 @@ pub fn fill(table: &[u8], symbol: u64, number: u64) -> Result<Filled, Refusal> {
     Ok(Filled { table: room, marks })
 }
 
-/// Puts questions 1 to 7, 15 and 16, and answers the table with the symbol in each marked field: what [`fill`] was lent, of what it answers.
+/// Puts questions 1 to 7, 15 and 16, and answers the table with the symbol in each marked field. Of a table and marks that [`fill`] answered
+/// it is the table that was filled.
 ///
 /// ```
 /// // A block of 90 cycles; record 0's value is marked.

@@ -19,7 +19,7 @@ use Rattle.fill.specs.declared.Filled.{Filled}
 
 -- ---- question 15
 
--- a symbol that may be filled: it stands for one number, and not for a pair
+-- 0 to 23: a symbol, and none that stands for a pair of numbers
 unfoldable pub fillable : ℕ → Bool
 fillable s = ltb s firstPairedSymbol
 

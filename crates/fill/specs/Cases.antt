@@ -1,9 +1,9 @@
 -- Examples of filling and opening, checked against the definitions: a bound and a limit that are symbol 3, filled with 4, and refusals.
 use mathlib.Core.Path.{_≡_, refl}
-use mathlib.Core.List.{List, _∷_}
+use mathlib.Core.List.{List, [], _∷_, _++_}
 use Prim.Native.Nat.{ℕ}
 use lib.ListN.{replicate}
-use Rattle.table.specs.Notation.{_/T_at_, block, symbol}
+use Rattle.table.specs.Notation.{_/T_at_, block, either, symbol}
 use Rattle.table.specs.Questions.{numberHas}
 use Rattle.table.specs.Table.{encode}
 use Rattle.table.specs.Trees.{Tree, nil, node, _▸_}
@@ -41,14 +41,17 @@ writes-hold = record { filled = refl; marked = refl; opened = refl }
 
 -- ---- filling refused, by the refusal's number: 0 for none
 
--- of a tree of one record, with buffers of so many bytes
+-- with buffers of so many bytes
 pub filling : (t : Tree) (s x room marks : ℕ) → ℕ
 filling t s x room marks = filledRefusal (fillAnswer (encode t) s x (replicate room 0) (replicate marks 0))
 
 pub record Fillings : Type 0 where
+  used : filling (example (Symbol 3) (Most.Symbol 3)) 3 4 144 128 ≡ 0
+  longer-buffers : filling (example (Symbol 3) (Most.Symbol 3)) 3 4 145 129 ≡ 0
   last-single : filling (block 7) 23 5 24 128 ≡ 0
   first-paired : filling (block 7) 24 5 24 128 ≡ 15
   no-symbol : filling (block 7) 32 5 24 128 ≡ 15
+  past-the-values : filling (block 7) 40 5 24 128 ≡ 15
   most-count : filling (block 7) 15 1000000 24 128 ≡ 0
   count-above : filling (block 7) 15 1000001 24 128 ≡ 15
   most-time : filling (block 7) 16 1000000000000 24 128 ≡ 0
@@ -61,11 +64,14 @@ pub record Fillings : Type 0 where
   three-first : filling (symbol 15) 24 5 23 128 ≡ 3
 
 fillings-hold : Fillings
-unfolding computed filling fillAnswer fillRefusal filledRefusal bothAsk question15 fillable notUnderFour
+unfolding example computed filling fillAnswer fillRefusal filledRefusal bothAsk question15 fillable notUnderFour
 fillings-hold = record {
+  used = refl;
+  longer-buffers = refl;
   last-single = refl;
   first-paired = refl;
   no-symbol = refl;
+  past-the-values = refl;
   most-count = refl;
   count-above = refl;
   most-time = refl;
@@ -80,9 +86,13 @@ fillings-hold = record {
 
 -- ---- opening refused
 
+-- with a buffer of so many bytes
+pub openingOf : (t : Tree) (marks : List ℕ) (s x room : ℕ) → ℕ
+openingOf t m s x room = filledRefusal (openAnswer (encode t) m s x (replicate room 0))
+
 -- of the example's six records, whose plain bound and limit are 4
 pub opening : (marks : List ℕ) (s x room : ℕ) → ℕ
-opening m s x room = filledRefusal (openAnswer (encode (example (Plain 4) (Most.Plain 4))) m s x (replicate room 0))
+opening m s x room = openingOf (example (Plain 4) (Most.Plain 4)) m s x room
 
 pub record Openings : Type 0 where
   marked : opening (marksFrom 64 2) 3 4 144 ≡ 0
@@ -98,14 +108,19 @@ pub record Openings : Type 0 where
   -- record 0 is a sequence without a limit
   no-value : opening (marksFrom 1 0) 3 0 144 ≡ 16
   no-limit : opening (marksFrom 2 0) 3 0 144 ≡ 16
+  choice-value : openingOf (either (block 7) (block 8)) (marksFrom 1 0) 3 0 72 ≡ 16
+  -- record 6, and the limit of record 511
   past-the-last : opening (marksFrom 0 16) 3 4 144 ≡ 16
+  past-all : opening (replicate 127 0 ++ (128 ∷ [])) 3 4 144 ≡ 16
   shorter : opening (replicate 127 0) 3 4 144 ≡ 16
   longer : opening (replicate 129 0) 3 4 144 ≡ 16
   eight-first : opening (replicate 129 0) 24 4 143 ≡ 8
   fifteen-first : opening (replicate 129 0) 24 4 144 ≡ 15
+  number-above : opening (replicate 128 0) 3 1000001 144 ≡ 15
+  under-four : openingOf (block 7 /T 3 at 255) (replicate 128 0) 3 0 24 ≡ 15
 
 openings-hold : Openings
-unfolding example marksFrom computed opening openAnswer openRefusal filledRefusal bothAsk question15 fillable notUnderFour question16 allFrom digitOpens kindOpens limitOpens numberIs mostIs digitOf
+unfolding example marksFrom computed opening openingOf openAnswer openRefusal filledRefusal bothAsk question15 fillable notUnderFour question16 allFrom digitOpens kindOpens limitOpens numberIs mostIs digitOf
 openings-hold = record {
   marked = refl;
   timed = refl;
@@ -117,9 +132,13 @@ openings-hold = record {
   no-plain-field = refl;
   no-value = refl;
   no-limit = refl;
+  choice-value = refl;
   past-the-last = refl;
+  past-all = refl;
   shorter = refl;
   longer = refl;
   eight-first = refl;
   fifteen-first = refl;
+  number-above = refl;
+  under-four = refl;
 }

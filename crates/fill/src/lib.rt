@@ -42,7 +42,7 @@ fn not_under_four(most: Most, symbol: u64) -> bool
     }
 }
 
-// Of the record at the front of `b`.
+// Is the limit of the record at the front of `b` not the symbol under flag 4?
 fn record_free(b: &[u8], symbol: u64) -> bool
     requires { ⌜ recordLength ≤ length (now b) ⌝ }
     ensures { λ r. ⌜ r ≡ recordFree symbol (now (b .entry)) ⌝ }
@@ -55,7 +55,7 @@ fn record_free(b: &[u8], symbol: u64) -> bool
 }
 
 // May the symbol be filled with this number, and is it not used under flag 4 in this table?
-fn number_allowed(table: &[u8], symbol: u64, number: u64) -> bool
+fn may_fill(table: &[u8], symbol: u64, number: u64) -> bool
     ensures { λ r. ⌜ r ≡ question15 (now (table .entry)) symbol number ⌝ }
 {
     let most = values::ceiling_of(symbol as usize);
@@ -85,7 +85,7 @@ fn both_refusal(table: &[u8], roomy: bool, symbol: u64, number: u64) -> u64
     if !roomy {
         return 8;
     }
-    if number_allowed(table, symbol, number) {
+    if may_fill(table, symbol, number) {
         0
     } else {
         15

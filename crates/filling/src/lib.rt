@@ -1,11 +1,10 @@
 // Document 02's CR 8: a table written with a number or a symbol put in its marked fields, in one pass over its records.
 ghost use mathlib.Core.Path.{_≡_};
-ghost use mathlib.Core.List.{_++_};
-ghost use Prim.Native.Nat.{_*_, _+_, _%_, _/_, _<_, _≤_};
+ghost use Prim.Native.Nat.{_*_, _%_, _/_, _<_, _≤_};
 ghost use lib.ListN.{drop, length};
 ghost use Rattle.table.specs.Numbers.{mostRecords, recordLength};
 ghost use Rattle.table.specs.Table.{recordCount};
-ghost use Rattle.writing.specs.Records.{front};
+ghost use Rattle.writing.specs.Records.{Appended, front};
 ghost use Rattle.marking.specs.Marks.{digitAt, markLength};
 ghost use Rattle.filling.specs.Fill.{onKind, onLimit, onNode, put};
 ghost use Rattle.filling.specs.Records.{putRecord, putRecords};
@@ -67,17 +66,17 @@ fn put_fields(node: Node, digit: u8, value: Number, most: Most) -> Node
 
 // ---- A table
 
-// Puts record i so at the buffer's record i; answers the record after it.
+// Puts record i, with these in the fields that its digit marks, at the buffer's record i; answers the record after it.
 fn put_next(table: &[u8], i: usize, digit: u8, value: Number, most: Most, out: &mut [u8]) -> usize
     requires { ⌜ (i < recordCount (now table)) × (recordLength * recordCount (now table) ≤ length (now out)) ⌝ }
-    ensures { λ r. ⌜ (r ≡ i + 1) × (front r (now (out .exit)) ≡ front i (now (out .entry)) ++ putRecord value most digit (drop (recordLength * i) (now (table .entry)))) ⌝ }
+    ensures { λ r. ⌜ Appended i (now (out .entry)) 1 (putRecord value most digit (drop (recordLength * i) (now (table .entry)))) r (now (out .exit)) ⌝ }
 {
     let count = table::children_at(table, i) as u8;
     let node = table::node_at(table, i);
     writing::put_node(out, i, put_fields(node, digit, value, most), count)
 }
 
-// Puts all records so, by the marks.
+// Puts all of the table's records, with these in the marked fields, at the buffer's front.
 pub fn put_marked(table: &[u8], marks: &[u8], value: Number, most: Most, out: &mut [u8])
     requires { ⌜ (recordLength * recordCount (now table) ≤ length (now out)) × (length (now marks) ≡ markLength) × (recordCount (now table) ≤ mostRecords) ⌝ }
     ensures { λ _. ⌜ front (recordCount (now (table .entry))) (now (out .exit)) ≡ putRecords value most (digitAt (now (marks .entry))) (recordCount (now (table .entry))) 0 (now (table .entry)) ⌝ }

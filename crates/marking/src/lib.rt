@@ -19,7 +19,7 @@ pub const MARK_LENGTH: usize = 128;
 
 // ---- Marks written
 
-// Has a limit's number?
+// Is a limit's number the symbol, and not its triangular number?
 fn most_has(most: Most, symbol: u64) -> bool
     ensures { λ r. ⌜ r ≡ mostHas symbol most ⌝ }
 {
@@ -30,6 +30,7 @@ fn most_has(most: Most, symbol: u64) -> bool
     }
 }
 
+// Has a node's limit the symbol?
 fn limit_has(limit: Limit, symbol: u64) -> bool
     ensures { λ r. ⌜ r ≡ mostHas symbol (limitNum limit) ⌝ }
 {
@@ -55,7 +56,7 @@ fn mark_node(node: Node, symbol: u64) -> u8
     value + 2 * bit_of(limit_has(limit, symbol))
 }
 
-// Record i's, 0 past the last record.
+// The two marks of record i: none past the last record.
 fn mark_digit(table: &[u8], i: usize, symbol: u64) -> u8
     requires { ⌜ i < mostRecords ⌝ }
     ensures { λ r. ⌜ (r ≡ markDigit symbol (now (table .entry)) i) × (r < 4) ⌝ }
@@ -127,7 +128,7 @@ fn number_is(value: Number, number: u64) -> bool
     }
 }
 
-// Is a limit's?
+// Is a limit's number this plain one?
 fn most_is(most: Most, number: u64) -> bool
     ensures { λ r. ⌜ r ≡ mostIs number most ⌝ }
 {
@@ -152,7 +153,7 @@ fn kind_opens(kind: Kind, symbol: u64, number: u64) -> bool
     }
 }
 
-// In its limit?
+// May it in a node's limit?
 fn limit_opens(limit: Limit, symbol: u64, number: u64) -> bool
     ensures { λ r. ⌜ r ≡ limitOpens symbol number limit ⌝ }
 {
@@ -163,7 +164,7 @@ fn limit_opens(limit: Limit, symbol: u64, number: u64) -> bool
     }
 }
 
-// In each of its fields that is marked?
+// May it in each field of a node that is marked?
 fn node_opens(node: Node, digit: u8, symbol: u64, number: u64) -> bool
     ensures { λ r. ⌜ r ≡ nodeOpens symbol number digit node ⌝ }
 {
@@ -174,7 +175,7 @@ fn node_opens(node: Node, digit: u8, symbol: u64, number: u64) -> bool
     ((digit % 2 == 0) | value) & ((digit / 2 == 0) | most)
 }
 
-// In each of record i's? Without a mark there, which is most often so, its node is not read; past the last record there may be none.
+// May it in each marked field of record i? Without a mark, as most records are, the node is not read; past the last record none may be.
 fn digit_opens(table: &[u8], marks: &[u8], i: usize, symbol: u64, number: u64) -> bool
     requires { ⌜ i / 4 < length (now marks) ⌝ }
     ensures { λ r. ⌜ r ≡ digitOpens symbol number (now (table .entry)) (now (marks .entry)) i ⌝ }

@@ -19,16 +19,16 @@ returns c = both-refused _ _ _ _ (c .before .refusal-of .ensures) (c .if1 .taken
 returns-2 : tie.Need-returns-2
 returns-2 c = both-short _ _ _ _ (accepted (c .before)) (c .if2 .taken)
 
-number-allowed-requires : tie.Need-number-allowed-requires
-number-allowed-requires c κs = search needs
+may-fill-requires : tie.Need-may-fill-requires
+may-fill-requires c κs = search needs
 
 returns-3 : tie.Need-returns-3
-returns-3 c = let else = c .before .before in both-fine _ _ _ _ (accepted (else .before)) _ (c .before .number-allowed .ensures) (else .if2 .left) (c .if3 .taken)
+returns-3 c = let else = c .before .before in both-fine _ _ _ _ (accepted (else .before)) _ (c .before .may-fill .ensures) (else .if2 .left) (c .if3 .taken)
 
 returns-4 : tie.Need-returns-4
-returns-4 c = let else = c .before .before in both-number _ _ _ _ (accepted (else .before)) _ (c .before .number-allowed .ensures) (else .if2 .left) (c .if3 .left)
+returns-4 c = let else = c .before .before in both-number _ _ _ _ (accepted (else .before)) _ (c .before .may-fill .ensures) (else .if2 .left) (c .if3 .left)
 
 pub both-refusal-spec : {M : Type 1} → statement M
 both-refusal-spec =
     tie.close
-    (tie.spec refusal-of-requires returns returns-2 number-allowed-requires returns-3 returns-4)
+    (tie.spec refusal-of-requires returns returns-2 may-fill-requires returns-3 returns-4)

@@ -170,31 +170,33 @@ module _ (s x : ℕ) where
 
   -- ---- opened numbers are in range
 
+  -- A kind by a mark that stands where it may: it is as it was, or has the symbol in place of the number, where question 3 allows that.
+  pub by-opened : (Q : Kind → Type 0) (a : ℕ) (k : Kind) → T (eqb a 0 || kindOpens s x k) → Q k
+      → ((t : Number) → k ≡ Block t → T (numberIs x t) → T (timeInRange (Symbol s)) → Q (Block (Symbol s)))
+      → ((n : Number) → k ≡ Loop n → T (numberIs x n) → T (countInRange (Symbol s)) → Q (Loop (Symbol s)))
+      → Q (onKind (put a (Symbol s)) k)
+  unfolding onKind put kindOpens
+  by-opened Q zero (Block t) o q f g = q
+  by-opened Q zero Sequence o q f g = q
+  by-opened Q zero Choice o q f g = q
+  by-opened Q zero (Loop n) o q f g = q
+  by-opened Q (suc a) (Block t) o q f g = let (i, r) = &&-both (numberIs x t) (timeInRange (Symbol s)) (marked a _ o) in f t refl i r
+  by-opened Q (suc a) Sequence o q f g = q
+  by-opened Q (suc a) Choice o q f g = q
+  by-opened Q (suc a) (Loop n) o q f g = let (i, r) = &&-both (numberIs x n) (countInRange (Symbol s)) (marked a _ o) in g n refl i r
+
   pub kind-opened : (a : ℕ) (k : Kind) → T (eqb a 0 || kindOpens s x k) → T (kindInRange k) → T (kindInRange (onKind (put a (Symbol s)) k))
-  unfolding kindInRange onKind put kindOpens
-  kind-opened zero (Block t) o r = r
-  kind-opened zero Sequence o r = tt
-  kind-opened zero Choice o r = tt
-  kind-opened zero (Loop n) o r = r
-  kind-opened (suc a) (Block t) o r = &&-both (numberIs x t) (timeInRange (Symbol s)) (marked a _ o) .1
-  kind-opened (suc a) Sequence o r = tt
-  kind-opened (suc a) Choice o r = tt
-  kind-opened (suc a) (Loop n) o r = &&-both (numberIs x n) (countInRange (Symbol s)) (marked a _ o) .1
+  kind-opened a k o r = by-opened (λ j. T (kindInRange j)) a k o r (λ t e i h. unfold kindInRange in h) (λ n e i h. unfold kindInRange in h)
 
   pub paired-opened : s < firstPairedSymbol → (a : ℕ) (k : Kind) → T (eqb a 0 || kindOpens s x k) → pairedBlock (onKind (put a (Symbol s)) k) ≡ pairedBlock k
-  unfolding pairedBlock onKind put kindOpens
-  paired-opened l zero (Block t) o = refl
-  paired-opened l zero Sequence o = refl
-  paired-opened l zero Choice o = refl
-  paired-opened l zero (Loop n) o = refl
-  paired-opened l (suc a) (Block t) o = low-alone s l ∙ sym (plain t (&&-both (numberIs x t) (timeInRange (Symbol s)) (marked a _ o) .0))
+  paired-opened l a k o =
+      by-opened (λ j. pairedBlock j ≡ pairedBlock k) a k o refl
+      (λ t e i h. unfold pairedBlock in low-alone s l ∙ sym (ap pairedBlock e ∙ plain t i))
+      (λ n e i h. unfold pairedBlock in sym (ap pairedBlock e))
     where
       plain : (m : Number) → T (numberIs x m) → paired m ≡ false
       plain (Plain n) h = unfold paired in refl
       plain (Symbol k) h = absurd (unfold numberIs in h)
-  paired-opened l (suc a) Sequence o = refl
-  paired-opened l (suc a) Choice o = refl
-  paired-opened l (suc a) (Loop n) o = refl
 
   pub limit-opened : (a : ℕ) (l : Limit) → T (eqb a 0 || limitOpens s x l) → T (limitInRange l) → T (limitInRange (onLimit (put a (Most.Symbol s)) l))
   unfolding limitInRange onLimit put limitOpens

@@ -1,5 +1,5 @@
 -- The list, the figure, the branch and questions 10 and 13 of a tree whose numbers come to the same.
-use mathlib.Core.Path.{_≡_, refl, ap, ap₂, sym, _∙_}
+use mathlib.Core.Path.{_≡_, refl, ap, ap₂, subst, sym, _∙_}
 use mathlib.Core.Bool.{Bool, true, false, cond, _||_}
 use Prim.Native.Nat.{ℕ, zero, suc, min, _+_, _<_}
 use native.Mathlib.Omega.{arith}
@@ -9,7 +9,7 @@ use Rattle.booleans.specs.Tests.{_and_}
 use Rattle.booleans.specs.Laws.{&&-both, T-is, by-cond}
 use Rattle.table.specs.Numbers.{firstPairedSymbol, mostTime}
 use Rattle.table.specs.Limits.{everyLimitIn, everyMost, limitHolds, mostHolds}
-use Rattle.table.specs.Questions.{countInRange, mostInRange, numberHas, timeInRange}
+use Rattle.table.specs.Questions.{mostInRange, numberHas}
 use Rattle.table.specs.Table.{limitNum, valueNum}
 use Rattle.table.specs.Trees.{Forest, Tree, everyNode, nil, node, records, rest, _▸_}
 use Rattle.triangular.specs.Triangular.{mostTriangular, triangular}
@@ -24,7 +24,7 @@ use Rattle.filling.specs.Fill.{fillMost, fillNumber, onForest, onKind, onLimit,
 use Rattle.filling.specs.Laws.Shape.{EachIn, EachNode, rest-on}
 use Rattle.fill.specs.Nodes.{AtMost, Block, Choice, Kind, Limit, Loop, Most, Node, Number, Plain, Sequence, Symbol, Unlimited}
 use Rattle.fill.specs.Answers.{notUnderFour}
-use Rattle.fill.specs.Laws.Fields.{marked}
+use Rattle.fill.specs.Laws.Fields.{by-opened, marked}
 
 -- ---- names
 
@@ -241,15 +241,10 @@ module _ (s x : ℕ) (v : Values) (e : v s ≡ x) (low : s < firstPairedSymbol) 
   open-most (Most.Triangular k) h = absurd h
 
   pub open-kind : (a : ℕ) (k : Kind) → T (eqb a 0 || kindOpens s x k) → SameKind v v (put a (Symbol s)) k
-  unfolding onKind put kindOpens valueNum
-  open-kind zero (Block t) o = (refl, refl)
-  open-kind zero Sequence o = (refl, refl)
-  open-kind zero Choice o = (refl, refl)
-  open-kind zero (Loop n) o = (refl, refl)
-  open-kind (suc a) (Block t) o = open-number t (&&-both (numberIs x t) (timeInRange (Symbol s)) (marked a _ o) .0)
-  open-kind (suc a) Sequence o = (refl, refl)
-  open-kind (suc a) Choice o = (refl, refl)
-  open-kind (suc a) (Loop n) o = open-number n (&&-both (numberIs x n) (countInRange (Symbol s)) (marked a _ o) .0)
+  open-kind a k o =
+      by-opened s x (λ j. SameNumber v v (valueNum j) (valueNum k)) a k o (refl, refl)
+      (λ t e i h. unfold valueNum in subst (SameNumber v v (Symbol s)) (sym (ap valueNum e)) (open-number t i))
+      (λ n e i h. unfold valueNum in subst (SameNumber v v (Symbol s)) (sym (ap valueNum e)) (open-number n i))
 
   pub open-limit : (a : ℕ) (l : Limit) → T (eqb a 0 || limitOpens s x l) → SameLimit v v (put a (Most.Symbol s)) l
   unfolding onLimit put limitOpens limitNum

@@ -8,7 +8,7 @@ use lib.ListN.{drop, length}
 use Rattle.table.specs.Numbers.{recordLength}
 use Rattle.table.specs.Table.{childByte, firstNode, recordBytes, recordCount}
 use Rattle.table.specs.Laws.Reading.{next-count, next-part, none-left}
-use Rattle.writing.specs.Records.{front}
+use Rattle.writing.specs.Records.{Appended, front}
 use Rattle.filling.specs.Nodes.{Most, Node, Number}
 use Rattle.filling.specs.Fill.{onNode, put}
 use Rattle.filling.specs.Records.{onRecord, onRecords, putRecord}
@@ -25,12 +25,12 @@ put-new zero new old z = absurd (z refl)
 put-new (suc mark) new old z = refl
 
 pub put-told : (g : Number → Number) (h : Most → Most) (b : List ℕ) (n k : Node) (c i z : ℕ) (out new : List ℕ) → c ≡ childByte b → n ≡ firstNode b → k ≡ onNode g h n
-    → (z ≡ i + 1) × (front z new ≡ front i out ++ recordBytes k c) → (z ≡ i + 1) × (front z new ≡ front i out ++ onRecord g h b)
+    → Appended i out 1 (recordBytes k c) z new → Appended i out 1 (onRecord g h b) z new
 put-told g h b n k c i z out new e f p (x, y) = (x, y ∙ ap₂ (λ (m : Node) (d : ℕ). front i out ++ recordBytes m d) (p ∙ ap (onNode g h) f) e)
 
 -- by the digit as it was read
 pub digit-put : (v : Number) (m : Most) (digit : ℕ → ℕ) (i d z : ℕ) (b out new : List ℕ) → d ≡ digit i
-    → (z ≡ i + 1) × (front z new ≡ front i out ++ putRecord v m d b) → (z ≡ i + 1) × (front z new ≡ front i out ++ putRecord v m (digit i) b)
+    → Appended i out 1 (putRecord v m d b) z new → Appended i out 1 (putRecord v m (digit i) b) z new
 digit-put v m digit i d z b out new e (x, y) = (x, y ∙ ap (λ k. front i out ++ putRecord v m k b) e)
 
 -- ---- all records
@@ -50,7 +50,7 @@ module _ (g : ℕ → Number → Number) (h : ℕ → Most → Most) (b out₀ :
   records-one n i l = let k : i + 1 ≡ suc i = omega arith in rw (next-count n i l, ← next-part, k) refl
 
   module _ (i : ℕ) (out : List ℕ) (p : Put g h b out₀ i out) where
-    pub one-put : (z : ℕ) (new : List ℕ) → i < recordCount b → length new ≡ length out → (z ≡ i + 1) × (front z new ≡ front i out ++ onRecord (g i) (h i) (drop (recordLength * i) b)) → Put g h b out₀ z new
+    pub one-put : (z : ℕ) (new : List ℕ) → i < recordCount b → length new ≡ length out → Appended i out 1 (onRecord (g i) (h i) (drop (recordLength * i) b)) z new → Put g h b out₀ z new
     one-put z new l k (x, y) = record {
       within = omega arith;
       bytes = rw (y, append-assoc) (rw x (ap (λ (r : List ℕ). front i out ++ r) (sym (records-one (recordCount b) i l)) ∙ p .bytes));

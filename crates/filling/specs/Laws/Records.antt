@@ -79,27 +79,27 @@ module _ (P : ℕ → Node → Type 0) where
   mutual
     unfolding listed Writes encode records EachNode
 
-    each-at : (i : ℕ) (t : Tree) → T (listed t) → (z : List ℕ) → ((j : ℕ) → j < records t → P (i + j) (nodeAt (encode t ++ z) j)) → EachNode P i t
-    each-at i (node n f) l z w =
+    each-read : (i : ℕ) (t : Tree) → T (listed t) → (z : List ℕ) → ((j : ℕ) → j < records t → P (i + j) (nodeAt (encode t ++ z) j)) → EachNode P i t
+    each-read i (node n f) l z w =
         let (p, c) = both _ _ l in
         let s : recordBytes n (size f) ++ encodes f ++ z ≡ recordBytes n (size f) ++ (encodes f ++ z) = append-assoc (recordBytes n (size f)) (encodes f) z in (
           move (i + 0) i _ n (add-zero i) (ap firstNode s ∙ head-bytes n (size f) (encodes f ++ z) (tree-writes (node n f) l .0)) (w 0 (omega arith)),
-          eachIn-at (suc i) f c z (λ j q. move (i + suc j) (suc i + j) _ _ (omega arith) (ap (λ (x : List ℕ). nodeAt x (suc j)) s ∙ node-past (recordBytes n (size f)) (encodes f ++ z) 1 j (suc j) (length-bytes n (size f)) (omega arith)) (w (suc j) (omega arith))),
+          eachIn-read (suc i) f c z (λ j q. move (i + suc j) (suc i + j) _ _ (omega arith) (ap (λ (x : List ℕ). nodeAt x (suc j)) s ∙ node-past (recordBytes n (size f)) (encodes f ++ z) 1 j (suc j) (length-bytes n (size f)) (omega arith)) (w (suc j) (omega arith))),
         )
 
-    eachIn-at : (i : ℕ) (f : Forest) → T (listedIn f) → (z : List ℕ) → ((j : ℕ) → j < recordsIn f → P (i + j) (nodeAt (encodes f ++ z) j)) → EachIn P i f
-    eachIn-at i nil l z w = tt
-    eachIn-at i (t ▸ f) l z w =
+    eachIn-read : (i : ℕ) (f : Forest) → T (listedIn f) → (z : List ℕ) → ((j : ℕ) → j < recordsIn f → P (i + j) (nodeAt (encodes f ++ z) j)) → EachIn P i f
+    eachIn-read i nil l z w = tt
+    eachIn-read i (t ▸ f) l z w =
         let (a, b) = both _ _ l in
         let s : encode t ++ encodes f ++ z ≡ encode t ++ (encodes f ++ z) = append-assoc (encode t) (encodes f) z in (
-          each-at i t a (encodes f ++ z) (λ j q. move (i + j) (i + j) _ _ refl (ap (λ (x : List ℕ). nodeAt x j) s) (w j (omega arith))),
-          eachIn-at (i + records t) f b z (λ j q. move (i + (records t + j)) (i + records t + j) _ _ (omega arith) (ap (λ (x : List ℕ). nodeAt x (records t + j)) s ∙ node-past (encode t) (encodes f ++ z) (records t) j (records t + j) (length-encode t) refl) (w (records t + j) (omega arith))),
+          each-read i t a (encodes f ++ z) (λ j q. move (i + j) (i + j) _ _ refl (ap (λ (x : List ℕ). nodeAt x j) s) (w j (omega arith))),
+          eachIn-read (i + records t) f b z (λ j q. move (i + (records t + j)) (i + records t + j) _ _ (omega arith) (ap (λ (x : List ℕ). nodeAt x (records t + j)) s ∙ node-past (encode t) (encodes f ++ z) (records t) j (records t + j) (length-encode t) refl) (w (records t + j) (omega arith))),
         )
 
   -- what holds of each record's node holds of each of the tree's
   pub each-table : (b : List ℕ) → IsTable b → ((j : ℕ) → j < recordCount b → P j (nodeAt b j)) → EachNode P 0 (decode b)
   each-table b t w =
-      each-at 0 (decode b) (t .accepted .listed) [] (λ j q. move j (0 + j) _ _ (omega arith) (ap (λ (x : List ℕ). nodeAt x j) (sym (whole-table b t))) (w j (omega (arith, count-is b t))))
+      each-read 0 (decode b) (t .accepted .listed) [] (λ j q. move j (0 + j) _ _ (omega arith) (ap (λ (x : List ℕ). nodeAt x j) (sym (whole-table b t))) (w j (omega (arith, count-is b t))))
 
   split-lt : (j k : ℕ) (Q : Type 0) → (j < k → Q) → ((r : ℕ) → j ≡ k + r → Q) → Q
   split-lt j k Q f g = go (ltb j k) refl

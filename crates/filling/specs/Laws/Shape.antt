@@ -46,10 +46,10 @@ module _ (p : Number → Number) where
   arity-on (Loop n) c = refl
 
 module _ (p : Most → Most) where
-  name-on : (l : Limit) (d : ℕ) → nameOk (onLimit p l) d ≡ nameOk l d
+  nameOk-on : (l : Limit) (d : ℕ) → nameOk (onLimit p l) d ≡ nameOk l d
   unfolding nameOk onLimit
-  name-on Unlimited d = refl
-  name-on (AtMost k m) d = refl
+  nameOk-on Unlimited d = refl
+  nameOk-on (AtMost k m) d = refl
 
   share-on : (l : Limit) (d : ℕ) → share (onLimit p l) d ≡ share l d
   unfolding share onLimit
@@ -98,7 +98,7 @@ module _ (g : ℕ → Number → Number) (h : ℕ → Most → Most) where
     unfolding onTree named
 
     named-on : (i : ℕ) (t : Tree) (d : ℕ) → named (onTree g h i t) d ≡ named t d
-    named-on i (node n f) d = ap₂ _and_ (name-on (h i) (n .limit) d) (namedIn-on (g i) (suc i) (n .kind) f d)
+    named-on i (node n f) d = ap₂ _and_ (nameOk-on (h i) (n .limit) d) (namedIn-on (g i) (suc i) (n .kind) f d)
 
     namedIn-on : (p : Number → Number) (i : ℕ) (k : Kind) (f : Forest) (d : ℕ) → namedIn (onKind p k) (onForest g h i f) d ≡ namedIn k f d
     namedIn-on p i k nil d = refl

@@ -1,4 +1,4 @@
-use Rattle.marking.specs.Laws.Marking.{node-told}
+use Rattle.marking.specs.Laws.Marking.{marks-told}
 use borrow.Author.Needs.{needs}
 use Rattle.marking.proofs.mark_node.Statement.{statement}
 use Rattle.marking.proofs.mark_node.Tie as tie
@@ -28,7 +28,7 @@ returns : tie.Need-returns
 returns c =
     let value = c .before .before in
     let has = value .before in
-    node-told _ _ _ _ _ _ _ _ (has .before .value-of .ensures) (has .number-has .ensures) (value .bit-of .ensures) (c .before .limit-has .ensures) (c .bit-of2 .ensures)
+    marks-told _ _ _ _ _ _ _ _ (has .before .value-of .ensures) (has .number-has .ensures) (value .bit-of .ensures) (c .before .limit-has .ensures) (c .bit-of2 .ensures)
 
 pub mark-node-spec : {M : Type 1} → statement M
 mark-node-spec =

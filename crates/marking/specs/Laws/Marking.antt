@@ -34,9 +34,9 @@ node-low : (s : ℕ) (n : Node) → markNode s n < 4
 node-low s n = omega (arith, bit-low (numberHas s (valueNum (n .kind))), bit-low (mostHas s (limitNum (n .limit))))
 
 -- as the program finds it
-pub node-told : (s : ℕ) (k : Kind) (l : Limit) (v : Number) (p q : Bool) (a b : ℕ) → v ≡ valueNum k → p ≡ numberHas s v → (a ≡ bit p) × (a ≤ 1) → q ≡ mostHas s (limitNum l) → (b ≡ bit q) × (b ≤ 1)
+pub marks-told : (s : ℕ) (k : Kind) (l : Limit) (v : Number) (p q : Bool) (a b : ℕ) → v ≡ valueNum k → p ≡ numberHas s v → (a ≡ bit p) × (a ≤ 1) → q ≡ mostHas s (limitNum l) → (b ≡ bit q) × (b ≤ 1)
     → (a + 2 * b ≡ bit (numberHas s (valueNum k)) + 2 * bit (mostHas s (limitNum l))) × (a + 2 * b < 4)
-node-told s k l v p q a b e f (g, m) h (i, n) = (ap₂ (λ x y. x + 2 * y) (g ∙ ap bit (f ∙ ap (numberHas s) e)) (i ∙ ap bit h), omega arith)
+marks-told s k l v p q a b e f (g, m) h (i, n) = (ap₂ (λ x y. x + 2 * y) (g ∙ ap bit (f ∙ ap (numberHas s) e)) (i ∙ ap bit h), omega arith)
 
 digit-low : (s : ℕ) (b : List ℕ) (i : ℕ) → markDigit s b i < 4
 unfolding markDigit

@@ -5,8 +5,8 @@ use Rattle.table.specs.Laws.Reading.{Passed, none-passed, one-passed}
 use Rattle.fill.specs.Answers.{recordFree}
 use Rattle.fill.specs.Laws.Asking.{number-no, number-told, number-yes, numberAllowed, record-no, record-yes}
 use borrow.Author.Needs.{needs}
-use Rattle.fill.proofs.number_allowed.Statement.{statement}
-use Rattle.fill.proofs.number_allowed.Tie as tie
+use Rattle.fill.proofs.may_fill.Statement.{statement}
+use Rattle.fill.proofs.may_fill.Tie as tie
 
 abbrev Inv-loop : tie.InvT-loop
 Inv-loop table symbol number most n i₀ i = (numberAllowed symbol number ≡ true) × Passed (recordFree symbol) table i
@@ -62,8 +62,8 @@ loop-again c =
 returns-3 : tie.Need-returns-3 Inv-loop μ-loop
 returns-3 c = let inv = c .before .loop .inv in record-yes _ _ _ (inv .0) _ (inv .1) (c .loop-test .left)
 
-pub number-allowed-spec : {M : Type 1} → statement M
-number-allowed-spec =
+pub may-fill-spec : {M : Type 1} → statement M
+may-fill-spec =
     tie.close
     (tie.spec
     Inv-loop
