@@ -12,6 +12,24 @@ pub fn random_record(rng: &mut Rng, table: &[u8]) -> usize {
     rng.index(records(table))
 }
 
+/// One small edit of any kind, most of them harmful.
+pub fn any(rng: &mut Rng, table: &mut Vec<u8>) {
+    match rng.index(6) {
+        0 => {
+            let record = random_record(rng, table);
+            random_edit(rng).apply(table, record);
+        }
+        1 => flip_bits(rng, table, 1),
+        2 => swap_records(rng, table),
+        3 => duplicate_record(rng, table),
+        4 => remove_record(rng, table),
+        _ => {
+            let length = rng.size(0..=table.len() + 30);
+            table.resize(length, 0);
+        }
+    }
+}
+
 /// One field of a record set to a number.
 #[derive(Clone, Copy, Debug)]
 pub enum Edit {

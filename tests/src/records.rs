@@ -29,3 +29,21 @@ pub fn table(records: &[Record]) -> Vec<u8> {
     }
     table
 }
+
+// A record's bytes.
+
+/// A block of symbol 16.
+pub const X: [u8; 24] = record([0, 1, 0, 0, 0, 0, 0, 0, 16, 0, 0, 0, 0, 0, 0, 0]);
+pub const SEVEN: [u8; 24] = record([0, 0, 0, 0, 0, 0, 0, 0, 7, 0, 0, 0, 0, 0, 0, 0]);
+pub const ZERO: [u8; 24] = record([0; 16]);
+
+/// The record with these bytes at its front, at address 0.
+pub const fn record(fields: [u8; 16]) -> [u8; 24] {
+    let mut record = [255; 24];
+    let mut at = 0;
+    while at < 20 {
+        record[at] = if at < 16 { fields[at] } else { 0 };
+        at += 1;
+    }
+    record
+}

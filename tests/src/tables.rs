@@ -10,6 +10,16 @@ pub fn symbol_block(symbol: u64) -> Vec<u8> {
     record(0, 1, 0, symbol)
 }
 
+/// Symbol 16, the one that is replaced, filled or set in most tables by hand.
+pub fn x() -> Vec<u8> {
+    symbol_block(16)
+}
+
+/// Symbol 17, another.
+pub fn y() -> Vec<u8> {
+    symbol_block(17)
+}
+
 pub fn sequence(children: &[Vec<u8>]) -> Vec<u8> {
     [record(1, 0, children.len(), 0), children.concat()].concat()
 }

@@ -21,14 +21,6 @@ fn at(address: u32, tree: Vec<u8>) -> Vec<u8> {
     addressed(tree, address)
 }
 
-fn x() -> Vec<u8> {
-    symbol_block(16)
-}
-
-fn y() -> Vec<u8> {
-    symbol_block(17)
-}
-
 // Records.
 
 /// A table with every kind of node, in 9 records.

@@ -40,14 +40,6 @@ fn most(limit: u32, tree: Vec<u8>) -> Vec<u8> {
     limited(tree, limit, 255)
 }
 
-fn x() -> Vec<u8> {
-    symbol_block(16)
-}
-
-fn y() -> Vec<u8> {
-    symbol_block(17)
-}
-
 // The largest child, and ties.
 
 #[test]

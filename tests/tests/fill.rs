@@ -7,6 +7,7 @@ use volefleece_tests::evaluator::Quoted;
 use volefleece_tests::filler;
 use volefleece_tests::fills::Fills;
 use volefleece_tests::quotes;
+use volefleece_tests::records::{record, SEVEN, X, ZERO};
 use volefleece_tests::tables::*;
 
 const MILLION: u64 = 1_000_000;
@@ -66,30 +67,7 @@ fn refuses_to_open(question: u64, table: &[u8], marks: &[u8], symbol: u64, numbe
     assert_eq!(open(table, marks, symbol, number), Err(question));
 }
 
-fn x() -> Vec<u8> {
-    symbol_block(16)
-}
-
-fn y() -> Vec<u8> {
-    symbol_block(17)
-}
-
 // Byte by byte.
-
-const X: [u8; 24] = record([0, 1, 0, 0, 0, 0, 0, 0, 16, 0, 0, 0, 0, 0, 0, 0]);
-const SEVEN: [u8; 24] = record([0, 0, 0, 0, 0, 0, 0, 0, 7, 0, 0, 0, 0, 0, 0, 0]);
-const ZERO: [u8; 24] = record([0; 16]);
-
-/// The record with these bytes at its front, at address 0.
-const fn record(fields: [u8; 16]) -> [u8; 24] {
-    let mut record = [255; 24];
-    let mut at = 0;
-    while at < 20 {
-        record[at] = if at < 16 { fields[at] } else { 0 };
-        at += 1;
-    }
-    record
-}
 
 #[test]
 fn a_time_is_filled() {

@@ -648,7 +648,7 @@ fn damaged_tables() {
     let (mut rng, mut fills) = start(610);
     for _ in 0..40_000 {
         let mut table = tree(&mut rng).encode();
-        damage(&mut rng, &mut table);
+        damage::any(&mut rng, &mut table);
         fill_and_open(&mut rng, &mut fills, &table);
     }
     let answers = [
@@ -664,24 +664,6 @@ fn damaged_tables() {
     fills.assert_opened(&answers);
     fills.assert_filled_marks(500);
     fills.assert_opened(&[(15, 500), (16, 500)]);
-}
-
-/// One small edit, most of them harmful.
-fn damage(rng: &mut Rng, table: &mut Vec<u8>) {
-    match rng.index(6) {
-        0 => {
-            let record = damage::random_record(rng, table);
-            damage::random_edit(rng).apply(table, record);
-        }
-        1 => damage::flip_bits(rng, table, 1),
-        2 => damage::swap_records(rng, table),
-        3 => damage::duplicate_record(rng, table),
-        4 => damage::remove_record(rng, table),
-        _ => {
-            let length = rng.size(0..=table.len() + 30);
-            table.resize(length, 0);
-        }
-    }
 }
 
 /// Fills any bytes, and opens them by any marks, of the fields that there are or not.

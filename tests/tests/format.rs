@@ -61,9 +61,7 @@ fn without_remark(line: &str) -> String {
 // Examples.
 
 /// What an example may lend, by the names that it may have.
-const LENT: [&str; 8] = [
-    "table", "host", TREE, "sent", VALUES, SIMPLE, FORMER, MARKS,
-];
+const LENT: [&str; 8] = ["table", "host", TREE, "sent", VALUES, SIMPLE, FORMER, MARKS];
 
 #[derive(Default)]
 struct Lent {

@@ -8,6 +8,7 @@ use volefleece_tests::evaluator::Quoted;
 use volefleece_tests::grafter;
 use volefleece_tests::grafts::{writes, Grafts};
 use volefleece_tests::quotes;
+use volefleece_tests::records::{record, SEVEN, X, ZERO};
 use volefleece_tests::tables::*;
 
 const CEILING: u64 = 1_000_000_000_000;
@@ -36,14 +37,6 @@ fn refuses(question: u64, host: &[u8], sent: &[u8]) {
     assert_eq!(graft(host, sent), Err(question));
 }
 
-fn x() -> Vec<u8> {
-    symbol_block(16)
-}
-
-fn y() -> Vec<u8> {
-    symbol_block(17)
-}
-
 /// The tree with a limit of 1 on its top.
 fn once(tree: Vec<u8>, names: u8) -> Vec<u8> {
     limited(tree, 1, names)
@@ -55,21 +48,6 @@ fn put(tree: Vec<u8>) -> Vec<u8> {
 }
 
 // Byte by byte.
-
-const X: [u8; 24] = record([0, 1, 0, 0, 0, 0, 0, 0, 16, 0, 0, 0, 0, 0, 0, 0]);
-const SEVEN: [u8; 24] = record([0, 0, 0, 0, 0, 0, 0, 0, 7, 0, 0, 0, 0, 0, 0, 0]);
-const ZERO: [u8; 24] = record([0; 16]);
-
-/// The record with these bytes at its front, at address 0.
-const fn record(fields: [u8; 16]) -> [u8; 24] {
-    let mut record = [255; 24];
-    let mut at = 0;
-    while at < 20 {
-        record[at] = if at < 16 { fields[at] } else { 0 };
-        at += 1;
-    }
-    record
-}
 
 #[test]
 fn a_block_becomes_a_loop() {

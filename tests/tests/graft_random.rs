@@ -601,7 +601,7 @@ fn damaged_tables_on_either_side() {
         let mut tables = [host.encode(), sent.encode()];
         for (at, table) in tables.iter_mut().enumerate() {
             if !is_spared(at, round) {
-                damage(&mut rng, table);
+                damage::any(&mut rng, table);
             }
         }
         grafts.compare(&tables[0], &tables[1], symbol, ROOM);
@@ -615,24 +615,6 @@ fn damaged_tables_on_either_side() {
 /// On some rounds table 0, the host, on others table 1, and on the rest neither.
 fn is_spared(table: usize, round: usize) -> bool {
     round % 3 == table
-}
-
-/// One small edit, most of them harmful.
-fn damage(rng: &mut Rng, table: &mut Vec<u8>) {
-    match rng.index(6) {
-        0 => {
-            let record = damage::random_record(rng, table);
-            damage::random_edit(rng).apply(table, record);
-        }
-        1 => damage::flip_bits(rng, table, 1),
-        2 => damage::swap_records(rng, table),
-        3 => damage::duplicate_record(rng, table),
-        4 => damage::remove_record(rng, table),
-        _ => {
-            let length = rng.size(0..=table.len() + 30);
-            table.resize(length, 0);
-        }
-    }
 }
 
 #[test]

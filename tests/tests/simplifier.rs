@@ -11,14 +11,6 @@ use volefleece_tests::tables::*;
 
 const ZEROS: [u64; 40] = [0; 40];
 
-fn x() -> Vec<u8> {
-    symbol_block(16)
-}
-
-fn y() -> Vec<u8> {
-    symbol_block(17)
-}
-
 fn z() -> Vec<u8> {
     symbol_block(18)
 }
