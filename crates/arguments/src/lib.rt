@@ -1,9 +1,11 @@
 // What the programs read from their arguments.
+#![tactic(auto)]
+
 ghost use Rattle.std.specs.Prelude.{◌≡◌, ◌+◌, ◌*◌, ◌-◌, ◌≤◌, leb};
 ghost use Rattle.arguments.specs.Allowances.{allowance_answer, is_digit, most_steps, nine_digit, zero_digit};
 
 // How many steps may be taken, or that the argument is no number of steps.
-#[derive(Drop)]
+#[derive(Clone, Copy)]
 pub enum Allowance {
     Steps(u64),
     NoNumber,

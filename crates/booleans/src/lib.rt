@@ -1,1 +1,2 @@
 // booleans
+#![tactic(auto)]

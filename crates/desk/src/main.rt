@@ -1,4 +1,6 @@
 // The desk program: quotes tree.tab with values.tab, both in the folder that it runs in, on one line.
+#![tactic(auto)]
+
 use deskfiles::VALUE_LENGTH;
 use quoting::Quote;
 use table::{HOW_MANY_VALUES, MOST_RECORDS, RECORD_LENGTH};

@@ -1,4 +1,6 @@
 // What the desk program decides from the bytes of its two files.
+#![tactic(auto)]
+
 ghost use Rattle.std.specs.Prelude.{◌≡◌, ◌<◌, ◌%◌, ◌*◌, drop, length};
 ghost use Rattle.table.specs.Numbers.{how_many_values};
 ghost use Rattle.deskfiles.specs.Files.{FilesPromise, file_value, file_values, files_answer, symbol_value, value_length, value_or, values_whole};

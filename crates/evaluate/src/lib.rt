@@ -1,4 +1,6 @@
 // The evaluator's steps (document 01, "Evaluation"), with lists as pairs in lent arrays.
+#![tactic(auto)]
+
 ghost use Rattle.std.specs.Prelude.{◌≡◌, true, ◌≤◌, min, get_or};
 ghost use Rattle.table.specs.Numbers.{whole_run};
 ghost use Rattle.table.specs.Trees.{rest};
@@ -22,7 +24,7 @@ pub type Pairs = [u64; 2 * MOST_PAIRS];
 
 // What evaluating finds of a tree, or of a node's children so far: how many pairs its list has, which stands in a lent array, the loop that it names,
 // how many records, and which child of a choice holds the largest first member. Where question 10 says no, `fits` is false and nothing else is found.
-#[derive(Drop)]
+#[derive(Clone, Copy)]
 pub struct Valued {
     pub len: usize,
     pub named: u8,

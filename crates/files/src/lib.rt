@@ -1,4 +1,6 @@
 // Whole files read into lent buffers, written from them, and removed, for the programs. What fails is said on standard error, by the file's name.
+#![tactic(auto)]
+
 ghost use Rattle.std.specs.Prelude.{◌+◌, ◌≤◌, length};
 ghost use Rattle.io.specs.Counts.{IsPrefixLen};
 ghost use Rattle.text.specs.Texts.{most_digits};
@@ -6,7 +8,7 @@ ghost use Rattle.text.specs.Texts.{most_digits};
 use text::MOST_DIGITS;
 
 // How much of a buffer a file fills, and whether it could be read.
-#[derive(Drop)]
+#[derive(Clone, Copy)]
 pub struct Loaded {
     pub len: usize,
     pub readable: bool,

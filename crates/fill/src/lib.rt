@@ -1,4 +1,6 @@
 // Filling one symbol of a table, and opening it again: document 02's CR 8.
+#![tactic(auto)]
+
 ghost use Rattle.std.specs.Prelude.{◌≡◌, ◌≤◌, length};
 ghost use Rattle.table.specs.Numbers.{record_length};
 ghost use Rattle.table.specs.Asking.{first_no};
@@ -12,7 +14,7 @@ use marking::MARK_LENGTH;
 use table::{FIRST_PAIRED_SYMBOL, Limit, Most, Number, RECORD_LENGTH};
 
 // The length of the table that was written, or the number of the question that says no.
-#[derive(Drop)]
+#[derive(Clone, Copy)]
 pub enum Filled {
     Written(usize),
     Refused(u64),

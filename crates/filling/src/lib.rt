@@ -1,4 +1,6 @@
 // Document 02's CR 8: a table written with a number or a symbol put in its marked fields, in one pass over its records.
+#![tactic(auto)]
+
 ghost use Rattle.std.specs.Prelude.{◌≡◌, ◌*◌, ◌%◌, ◌/◌, ◌<◌, ◌≤◌, drop, length};
 ghost use Rattle.table.specs.Numbers.{most_records, record_length};
 ghost use Rattle.table.specs.Table.{record_count};

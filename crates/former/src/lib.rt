@@ -1,4 +1,6 @@
 // Tables as they were before firmware addresses, of records of 16 bytes, made into tables with address 0 (document 02, CR 6).
+#![tactic(auto)]
+
 ghost use Rattle.std.specs.Prelude.{◌≡◌, ◌++◌, ◌*◌, ◌+◌, ◌≤◌, drop, length, take};
 ghost use Rattle.table.specs.Numbers.{record_length};
 ghost use Rattle.writing.specs.Over.{over};
@@ -12,7 +14,7 @@ use table::{FILL, MOST_RECORDS, RECORD_LENGTH};
 pub const FORMER_LENGTH: usize = 16;
 
 // How long the table is that was written, or the number of the question that says no: 1 or 8.
-#[derive(Drop)]
+#[derive(Clone, Copy)]
 pub enum Conversion {
     Written(usize),
     Refused(u64),

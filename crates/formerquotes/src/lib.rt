@@ -1,1 +1,2 @@
 // formerquotes
+#![tactic(auto)]

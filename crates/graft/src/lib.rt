@@ -1,4 +1,6 @@
 // Grafting, document 02's CR 1: the table of a sent tree put in place of a time symbol of the host's.
+#![tactic(auto)]
+
 ghost use Rattle.std.specs.Prelude.{◌≡◌, ◌*◌, length};
 ghost use Rattle.table.specs.Numbers.{most_records, record_length};
 ghost use Rattle.table.specs.Checking.{IsTable};
@@ -10,7 +12,7 @@ ghost use Rattle.graft.specs.Making.{Allowed, GraftMade};
 use table::{FIRST_PAIRED_SYMBOL, FIRST_TIME_SYMBOL, MOST_RECORDS, RECORD_LENGTH};
 
 // The length of the table that was written, or the number of the question that says no.
-#[derive(Drop)]
+#[derive(Clone, Copy)]
 pub enum Grafted {
     Written(usize),
     Refused(u64),

@@ -1,4 +1,6 @@
 // Loop (document 01, "Evaluation"): a list cut into groups, each summed, run by run.
+#![tactic(auto)]
+
 ghost use Rattle.std.specs.Prelude.{◌≡◌, ◌*◌, ◌<◌, length};
 ghost use Rattle.lists.specs.Operations.{group_from, group_pairs, turn_of};
 ghost use Rattle.lists.specs.Reading.{Groupable, Is, list_in, most_pairs, pairs_of};

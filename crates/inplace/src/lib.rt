@@ -1,4 +1,6 @@
 // Sequence and choice in place (document 01, "Evaluation"): the other list is most often short, and then the list so far is changed where it stands.
+#![tactic(auto)]
+
 ghost use Rattle.std.specs.Prelude.{◌≡◌, ◌*◌, ◌+◌, ◌-◌, ◌<◌, ◌^◌, ◌≤◌, length};
 ghost use Rattle.lists.specs.Pairs.{ever, places, run, top};
 ghost use Rattle.lists.specs.Operations.{add_pairs, merge_pairs};

@@ -1,4 +1,6 @@
 // The endless list that never rises (document 01, "Evaluation"), as pairs of value and count, and its operations in lent arrays.
+#![tactic(auto)]
+
 ghost use Rattle.std.specs.Prelude.{◌≡◌, ◌*◌, ◌+◌, ◌<◌, ◌^◌, ◌≤◌, suc, length};
 ghost use Rattle.lists.specs.Pairs.{ever, in_front};
 ghost use Rattle.lists.specs.Operations.{add_pairs, cap_pairs, first, joined, merge_pairs, shorter, some};
@@ -27,21 +29,21 @@ pub const MOST_PAIRS: usize = 256;
 // Pair k is at 2 * k, a value, and 2 * k + 1, how often it comes. Values fall strictly, and the last count is 0, for ever.
 pub type Numbers = [u64; 2 * MOST_PAIRS];
 
-#[derive(Drop)]
+#[derive(Clone, Copy)]
 pub struct List {
     pub pairs: Numbers,
     pub len: usize,
 }
 
 // A place in a list: a pair, and how much of its count is left.
-#[derive(Drop)]
+#[derive(Clone, Copy)]
 pub struct Place {
     pub at: usize,
     pub left: u64,
 }
 
 // The first pair of a union, and how many pairs of each list it uses up.
-#[derive(Drop)]
+#[derive(Clone, Copy)]
 pub struct Head {
     pub value: u64,
     pub count: u64,
@@ -50,7 +52,7 @@ pub struct Head {
 }
 
 // What a run comes to in groups, of which `turn_of` speaks: the sum of the group that was begun, whether that ends, how many whole groups, and the group begun then.
-#[derive(Drop)]
+#[derive(Clone, Copy)]
 pub struct Turn {
     pub mixed: u64,
     pub ends: usize,

@@ -1,4 +1,6 @@
 // Document 02's CR 8: the marks of the fields that have a symbol, and whether marks stand where the symbol may be put back.
+#![tactic(auto)]
+
 ghost use Rattle.std.specs.Prelude.{◌≡◌, ◌/◌, ◌<◌, ◌≤◌, length};
 ghost use Rattle.table.specs.Numbers.{most_records};
 ghost use Rattle.table.specs.Table.{limit_num};

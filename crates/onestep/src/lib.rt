@@ -1,4 +1,6 @@
 // One step of document 01's simplification on a table's bytes: found, then made.
+#![tactic(auto)]
+
 ghost use Rattle.std.specs.Prelude.{◌≡◌, ◌+◌, ◌*◌, ◌<◌, ◌≤◌, get_or, length, take};
 ghost use Rattle.table.specs.Checking.{IsTable};
 ghost use Rattle.table.specs.Numbers.{record_length};

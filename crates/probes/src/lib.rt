@@ -1,10 +1,12 @@
 // Inner functions for the tests and the benchmark to call: exports that are no part of the library.
+#![tactic(auto)]
+
 ghost use Rattle.probes.specs.Probes.{Probed, ProbedBytes};
 
 use words::Comparison;
 
 #[repr(C)]
-#[derive(Drop)]
+#[derive(Clone, Copy)]
 pub struct ProbeComparison {
     pub verdict: u64,
     pub word: u64,
@@ -39,7 +41,7 @@ pub extern "C" fn probe_compare(a: &[u8], b: &[u8]) -> ProbeComparison
 }
 
 #[repr(C)]
-#[derive(Drop)]
+#[derive(Clone, Copy)]
 pub struct ProbeByteComparison {
     pub verdict: u64,
     pub byte: u64,

@@ -1,4 +1,6 @@
 // Checking, the figure and the list. Each answers with an enum: one case with what was asked for, one with the number of the question that says no.
+#![tactic(auto)]
+
 ghost use Rattle.std.specs.Prelude.{◌≡◌, ◌*◌, ◌≤◌, length, take};
 ghost use Rattle.table.specs.Checking.{refusal};
 ghost use Rattle.table.specs.Numbers.{how_many_values, list_room, most_records, record_length};
@@ -20,21 +22,21 @@ const HOW_MANY_NUMBERS: usize = 2 * HOW_MANY_VALUES;
 pub const LIST_ROOM: usize = 512;
 
 // Checking: how many records the accepted table has.
-#[derive(Drop)]
+#[derive(Clone, Copy)]
 pub enum Checked {
     Accepted(usize),
     Refused(u64),
 }
 
 // The figure call: the figure, and which child of the root sets it.
-#[derive(Drop)]
+#[derive(Clone, Copy)]
 pub enum Quote {
     Figure(u64, u64),
     Refused(u64),
 }
 
 // The list call: how many pairs were written.
-#[derive(Drop)]
+#[derive(Clone, Copy)]
 pub enum Listed {
     Pairs(usize),
     Refused(u64),

@@ -1,5 +1,7 @@
 // Turns old.tab, a table of records of 16 bytes, into tree.tab, the same table with address 0 at every record; both are in the folder that it runs in. Where
 // old.tab's length is not one that such a table had, nothing is written, and a tree.tab that is there stays as it is. It prints nothing.
+#![tactic(auto)]
+
 ghost use Rattle.io.specs.Counts.{IsPrefixLen};
 
 use former::{Conversion, FORMER_LENGTH};

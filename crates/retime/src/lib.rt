@@ -1,4 +1,6 @@
 // Retiming, document 02's CR 9: the time of one block of a table, previewed and committed.
+#![tactic(auto)]
+
 ghost use Rattle.std.specs.Prelude.{◌≡◌, ◌+◌, ◌*◌, ◌≤◌, length};
 ghost use Rattle.table.specs.Checking.{refusal};
 ghost use Rattle.table.specs.Numbers.{most_records, record_length};
@@ -12,14 +14,14 @@ use quoting::Quote;
 use table::{Kind, MOST_RECORDS, MOST_TIME, RECORD_LENGTH};
 
 // Figure and branch of the table, then of the one that commit would leave; or the number of the question that says no.
-#[derive(Drop)]
+#[derive(Clone, Copy)]
 pub enum Previewed {
     Figures(u64, u64, u64, u64),
     Refused(u64),
 }
 
 // The table's length, or the number of the question that says no.
-#[derive(Drop)]
+#[derive(Clone, Copy)]
 pub enum Committed {
     Written(usize),
     Refused(u64),

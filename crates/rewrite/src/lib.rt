@@ -1,4 +1,6 @@
 // What the rules of document 01's simplification share: tests of a node. What a rule writes of a table is defined in specs/Wrote.antt.
+#![tactic(auto)]
+
 ghost use Rattle.std.specs.Prelude.{◌≡◌, ◌<◌};
 ghost use Rattle.booleans.specs.Tests.{◌and◌};
 ghost use Rattle.table.specs.Checking.{IsTable};

@@ -1,5 +1,7 @@
 // Rules 2 to 7 of document 01's simplification, each as a rewrite of a table's bytes from a node's record on into a second buffer. Each answers how many
 // records it wrote there: 0 where the rule does not fit.
+#![tactic(auto)]
+
 ghost use Rattle.std.specs.Prelude.{◌≡◌, false, ◌*◌, ◌+◌, ◌<◌, ◌≤◌, max, suc, leb, length};
 ghost use Rattle.std.proofs.Math.Option.{some};
 ghost use Rattle.table.specs.Checking.{IsTable};
@@ -22,7 +24,7 @@ use table::{Kind, Limit, MOST_DEPTH, Node, Number, RECORD_LENGTH};
 // ---- Children
 
 // A child that is looked for.
-#[derive(Drop)]
+#[derive(Clone, Copy)]
 pub enum Wanted {
     GivesWay(Kind, usize),
     Zero,
@@ -299,7 +301,7 @@ pub fn rule5_at(table: &[u8], extents: &[usize], i: usize, out: &mut [u8]) -> us
 // ---- Rules 6 and 7
 
 // What a walk over a node's children finds of unlimited plain blocks: how many, the sum of their times and the largest.
-#[derive(Drop)]
+#[derive(Clone, Copy)]
 pub struct Bares {
     pub count: usize,
     pub total: u64,

@@ -1,5 +1,7 @@
 // Rules 8 and 9 of document 01's simplification, each as a rewrite of a table's bytes from a node's record on into a second buffer. Each answers how many
 // records it wrote there: 0 where the rule does not fit.
+#![tactic(auto)]
+
 ghost use Rattle.std.specs.Prelude.{◌≡◌, ◌*◌, ◌+◌, ◌<◌, ◌≤◌, length};
 ghost use Rattle.table.specs.Checking.{IsTable};
 ghost use Rattle.table.specs.Numbers.{record_length};

@@ -1,1 +1,2 @@
 // runs
+#![tactic(auto)]

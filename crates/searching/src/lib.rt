@@ -1,4 +1,6 @@
 // The search for a step of document 01's simplification: the earliest record where one of rules 2 to 9 fits, and there the lowest.
+#![tactic(auto)]
+
 ghost use Rattle.std.specs.Prelude.{◌<◌, ◌≤◌, length};
 ghost use Rattle.table.specs.Table.{record_count};
 ghost use Rattle.simplify.specs.Steps.{inside_in, rule};
@@ -11,7 +13,7 @@ ghost use Rattle.searching.specs.Rewritten.{Rewritten, later_rule};
 use table::RECORD_LENGTH;
 
 // What a step changes: the table from record `at` on, which becomes `len` records. There is no step where `len` is 0.
-#[derive(Drop)]
+#[derive(Clone, Copy)]
 pub struct Spot {
     pub at: usize,
     pub len: usize,

@@ -1,1 +1,2 @@
 // simplify
+#![tactic(auto)]

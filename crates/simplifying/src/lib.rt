@@ -1,4 +1,6 @@
 // Simplifying, and demand 3: one claim about checking, simplifying and the figure call together.
+#![tactic(auto)]
+
 ghost use Rattle.std.specs.Prelude.{◌≡◌, ◌≤◌, length};
 ghost use Rattle.table.specs.Table.{encode};
 ghost use Rattle.quoting.specs.Answers.{checked_refusal};
@@ -12,14 +14,14 @@ use subtrees::MARKS;
 use table::{MOST_RECORDS, RECORD_LENGTH};
 
 // No rule fits what was written, or the allowance is used and a rule fits.
-#[derive(Drop)]
+#[derive(Clone, Copy)]
 pub enum Ending {
     Finished,
     Spent,
 }
 
 // Simplifying: the length of the table that was written, and the steps taken.
-#[derive(Drop)]
+#[derive(Clone, Copy)]
 pub enum Simplified {
     Written(usize, u64, Ending),
     Refused(u64),
@@ -86,7 +88,7 @@ pub fn simplify(table: &[u8], allowance: u64, out: &mut [u8]) -> Simplified
 // ---- The calls together
 
 // What checking, simplifying and the figure call answer both desks.
-#[derive(Drop)]
+#[derive(Clone, Copy)]
 pub struct BothDesks {
     pub checked: Checked,
     pub simplified: Simplified,

@@ -1,4 +1,6 @@
 // Grafting's passes over records, document 02's CR 1: the sent table renamed, and put in place of the blocks with a time symbol.
+#![tactic(auto)]
+
 ghost use Rattle.std.specs.Prelude.{◌≡◌, ◌++◌, ◌*◌, ◌+◌, ◌-◌, ◌<◌, ◌≤◌, drop, length};
 ghost use Rattle.table.specs.Numbers.{most_loops, record_length};
 ghost use Rattle.table.specs.Table.{each, first_node, record_count};

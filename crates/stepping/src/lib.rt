@@ -1,4 +1,6 @@
 // Steps of document 01's simplification on a table's bytes, up to an allowance.
+#![tactic(auto)]
+
 ghost use Rattle.std.specs.Prelude.{◌*◌, ◌≤◌, length, take};
 ghost use Rattle.table.specs.Numbers.{record_length};
 ghost use Rattle.subtrees.specs.Facts.{marks_each};
@@ -6,7 +8,7 @@ ghost use Rattle.subtrees.specs.Parts.{Simplifiable};
 ghost use Rattle.stepping.specs.Steps.{Ends};
 
 // What an allowance of steps made: the table's length in bytes, how many steps, and whether no rule fits any more.
-#[derive(Drop)]
+#[derive(Clone, Copy)]
 pub struct Run {
     pub len: usize,
     pub steps: u64,

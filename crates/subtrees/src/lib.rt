@@ -1,4 +1,6 @@
 // Facts of a table's subtrees, each given by its record: one pass over the table finds those of all, and after a change another those that it outdated.
+#![tactic(auto)]
+
 ghost use Rattle.std.specs.Prelude.{◌≡◌, cond, false, ◌+◌, ◌*◌, ◌<◌, ◌≤◌, max, length};
 ghost use Rattle.table.specs.Numbers.{most_records};
 ghost use Rattle.table.specs.Table.{record_count};
@@ -21,7 +23,7 @@ pub const REACH_BELOW: usize = 3;
 
 // What a node's children come to: their records, whether they have a symbol (1 or 0), the innermost loop that a child's list names, and the outermost
 // that a limit in them names, both counted from the node.
-#[derive(Drop)]
+#[derive(Clone, Copy)]
 pub struct Below {
     pub records: usize,
     pub symbols: u8,

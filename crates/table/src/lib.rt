@@ -1,4 +1,6 @@
 // The reader of tree tables: the node of a record, and questions 1 to 7 of document 01.
+#![tactic(auto)]
+
 ghost use Rattle.std.specs.Prelude.{◌≡◌, ◌+◌, ◌*◌, ◌^◌, ◌<◌, ◌≤◌, drop, length};
 ghost use Rattle.table.specs.Numbers.{record_length, most_records};
 ghost use Rattle.table.specs.Table.{child_byte, field, first_node, flagless, kind_from, limit_from, loop_byte, most_from, num_from, record_count, without_four};
@@ -44,14 +46,14 @@ pub const MOST_DEPTH: usize = 32;
 // ---- The node: a record without its number of children
 
 // A time or bound: a plain number, or a symbol by its number.
-#[derive(Drop)]
+#[derive(Clone, Copy)]
 pub enum Number {
     Plain(u64),
     Symbol(u64),
 }
 
 // A limit's number: plain, a symbol's value, or the triangular number of a symbol's value.
-#[derive(Drop)]
+#[derive(Clone, Copy)]
 pub enum Most {
     Plain(u64),
     Symbol(u64),
@@ -59,14 +61,14 @@ pub enum Most {
 }
 
 // No limit, or the loop that it names (byte 3) and its number.
-#[derive(Drop)]
+#[derive(Clone, Copy)]
 pub enum Limit {
     Unlimited,
     AtMost(u8, Most),
 }
 
 // A block with its time, a sequence, a choice, a loop with its bound.
-#[derive(Drop)]
+#[derive(Clone, Copy)]
 pub enum Kind {
     Block(Number),
     Sequence,
@@ -74,7 +76,7 @@ pub enum Kind {
     Loop(Number),
 }
 
-#[derive(Drop)]
+#[derive(Clone, Copy)]
 pub struct Node {
     pub kind: Kind,
     pub limit: Limit,
@@ -443,7 +445,7 @@ pub fn one_tree(table: &[u8]) -> bool
 
 // What a walk finds of a tree, or of several in a row: how many records, whether they are as question 5 asks, whether question 6 says yes, and
 // question 7's sum. Of trees that are not as question 5 asks it finds nothing else.
-#[derive(Drop)]
+#[derive(Clone, Copy)]
 pub struct Survey {
     pub records: usize,
     pub fits: bool,

@@ -1,4 +1,6 @@
 // Text put together in a lent buffer, so that a program writes its line by one call, and the lines of programs that write at once stay whole.
+#![tactic(auto)]
+
 ghost use Rattle.std.specs.Prelude.{◌≡◌, ◌++◌, ◌+◌, ◌≤◌, length, take};
 ghost use Rattle.io.specs.Counts.{IsPrefixLen};
 ghost use Rattle.text.specs.Texts.{Line, Numbered, TwoNumbers, longest_line, most_digits};

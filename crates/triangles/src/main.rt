@@ -1,4 +1,6 @@
 // Prints the triangular numbers of 0 to 1,000, one a line, by the rule. It leans on no crate of the library, so what it prints is no copy of the library's table.
+#![tactic(auto)]
+
 ghost use Rattle.std.specs.Prelude.{◌≡◌, ◌+◌, ◌*◌, ◌/◌, ◌≤◌};
 
 use libc::STDOUT_FILENO;

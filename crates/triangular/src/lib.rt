@@ -1,4 +1,6 @@
 // Document 02's third request: the triangular numbers, as a constant table.
+#![tactic(auto)]
+
 ghost use Rattle.std.specs.Prelude.{◌≡◌, ◌*◌, min, length};
 ghost use Rattle.triangular.specs.Triangular.{most_triangular, triangular};
 ghost use Rattle.triangular.specs.Entries.{Triangles, entries};

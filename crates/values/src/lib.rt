@@ -1,4 +1,6 @@
 // The questions about a desk's values: questions 9 and 14, and 13, which looks at the table too.
+#![tactic(auto)]
+
 ghost use Rattle.std.specs.Prelude.{◌≡◌, ◌≤◌, length};
 ghost use Rattle.table.specs.Numbers.{record_length};
 ghost use Rattle.evaluate.specs.Evaluate.{values_of};

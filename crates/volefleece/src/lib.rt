@@ -1,4 +1,6 @@
 // The C interface: thin wrappers of the outside calls, whose answers become structs of numbers. include/volefleece.h declares them.
+#![tactic(auto)]
+
 ghost use Rattle.std.specs.Prelude.{◌≡◌, ◌%◌, length, take};
 ghost use Rattle.quoting.specs.Answers.{check_answer, figure_answer, list_answer, listed_refusal, listed_pairs, list_writes};
 ghost use Rattle.quoting.specs.Promises.{Listing};
@@ -28,7 +30,7 @@ use retime::{Committed, Previewed};
 use simplifying::{Ending, Simplified};
 
 #[repr(C)]
-#[derive(Drop)]
+#[derive(Clone, Copy)]
 pub struct VfChecked {
     pub refused: u64,
     pub records: u64,
@@ -52,7 +54,7 @@ pub extern "C" fn vf_check(table: &[u8]) -> VfChecked
 }
 
 #[repr(C)]
-#[derive(Drop)]
+#[derive(Clone, Copy)]
 pub struct VfFigureAnswer {
     pub refused: u64,
     pub figure: u64,
@@ -82,7 +84,7 @@ pub extern "C" fn vf_figure(table: &[u8], values: &[u64]) -> VfFigureAnswer
 }
 
 #[repr(C)]
-#[derive(Drop)]
+#[derive(Clone, Copy)]
 pub struct VfListAnswer {
     pub refused: u64,
     pub pairs: u64,
@@ -108,7 +110,7 @@ pub extern "C" fn vf_list(table: &[u8], values: &[u64], out: &mut [u64]) -> VfLi
 }
 
 #[repr(C)]
-#[derive(Drop)]
+#[derive(Clone, Copy)]
 pub struct VfSimplified {
     pub refused: u64,
     pub length: u64,
@@ -149,7 +151,7 @@ pub extern "C" fn vf_simplify(table: &[u8], allowance: u64, out: &mut [u8]) -> V
 }
 
 #[repr(C)]
-#[derive(Drop)]
+#[derive(Clone, Copy)]
 pub struct VfGrafted {
     pub refused: u64,
     pub length: u64,
@@ -175,7 +177,7 @@ pub extern "C" fn vf_graft(host: &[u8], sent: &[u8], symbol: u64, out: &mut [u8]
 }
 
 #[repr(C)]
-#[derive(Drop)]
+#[derive(Clone, Copy)]
 pub struct VfFilled {
     pub refused: u64,
     pub length: u64,
@@ -208,7 +210,7 @@ pub extern "C" fn vf_fill(
 }
 
 #[repr(C)]
-#[derive(Drop)]
+#[derive(Clone, Copy)]
 pub struct VfOpened {
     pub refused: u64,
     pub length: u64,
@@ -242,7 +244,7 @@ pub extern "C" fn vf_open(
 // ---- Retiming
 
 #[repr(C)]
-#[derive(Drop)]
+#[derive(Clone, Copy)]
 pub struct VfPreviewed {
     pub refused: u64,
     pub before: u64,
@@ -282,7 +284,7 @@ pub extern "C" fn vf_preview(
 }
 
 #[repr(C)]
-#[derive(Drop)]
+#[derive(Clone, Copy)]
 pub struct VfCommitted {
     pub refused: u64,
     pub length: u64,
@@ -310,7 +312,7 @@ pub extern "C" fn vf_commit(table: &mut [u8], place: u64, old: u64, new: u64) ->
 // ---- Former tables
 
 #[repr(C)]
-#[derive(Drop)]
+#[derive(Clone, Copy)]
 pub struct VfConverted {
     pub refused: u64,
     pub length: u64,
@@ -339,7 +341,7 @@ pub extern "C" fn vf_convert(old: &[u8], out: &mut [u8]) -> VfConverted
 // ---- The calls together
 
 // What checking, simplifying and the figure call answer both desks.
-#[derive(Drop)]
+#[derive(Clone, Copy)]
 pub struct VfBothDesks {
     pub checked: VfChecked,
     pub simplified: VfSimplified,

@@ -1,4 +1,6 @@
 // The evaluator's walk of a table's tree (document 01, "Evaluation").
+#![tactic(auto)]
+
 ghost use Rattle.std.specs.Prelude.{◌*◌, ◌≤◌, length};
 ghost use Rattle.table.specs.Numbers.{most_depth, most_records, record_length};
 ghost use Rattle.evaluate.specs.Evaluate.{values_of};

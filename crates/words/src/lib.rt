@@ -1,11 +1,13 @@
 // The comparison of two stretches of bytes, eight bytes at a time.
+#![tactic(auto)]
+
 ghost use Rattle.words.specs.Words.{Compared, SameWords};
 
 // The bytes of a word, as in specs/Words.antt.
 pub const WORD_LENGTH: usize = 8;
 
 // The first word in which two stretches differ, counted from 0, or that none does.
-#[derive(Drop)]
+#[derive(Clone, Copy)]
 pub enum Comparison {
     Differ(usize),
     Equal,

@@ -1,4 +1,6 @@
 // Records written to a buffer: copied from a table or from the buffer itself, or made of a node and its number of children.
+#![tactic(auto)]
+
 ghost use Rattle.std.specs.Prelude.{◌≡◌, ◌++◌, ◌*◌, ◌+◌, ◌-◌, ◌≤◌, drop, length, set, take};
 ghost use Rattle.table.specs.Numbers.{record_length};
 ghost use Rattle.table.specs.Table.{flag, kind_byte, limit_num, loop_byte, most_field, most_flags, raw, record_bytes, record_count, value_num};
