@@ -1,0 +1,11 @@
+-- The invariant: the records before i passed the test. The measure: the records left.
+use Prim.Native.Nat.{◌-◌}
+use Rattle.table.specs.Laws.Reading.{Passed}
+use Rattle.splice.specs.Splice.{sendable_first}
+use Rattle.splice.proofs.sendable.Given as goal
+
+abbrev pub invariant-loop-i : goal.invariant-loop-i
+invariant-loop-i l = Passed (sendable_first l.symbol) l.table l.i
+
+abbrev pub decreases-loop-i : goal.decreases-loop-i
+decreases-loop-i l = l.n - l.i
