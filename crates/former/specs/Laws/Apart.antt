@@ -4,7 +4,7 @@ use Rattle.std.specs.Prelude.{◌≡◌, ◌&&◌, List, ℕ, zero, suc, ◌<◌
 use Rattle.std.proofs.Common.{◌∙◌, arith, eqb→eq, leb→le, ltb→lt, get_or-drop}
 use Rattle.booleans.specs.Laws.{&&-both, both}
 use Rattle.table.specs.Checking.{fields_listed, flags_listed, kind_listed, limit_count, limit_listed, question1, question2, questions, record_in_range, record_listed, refusal}
-use Rattle.table.specs.Numbers.{fill, first_time_symbol, most_count, record_length}
+use Rattle.table.specs.Numbers.{first_time_symbol, most_count, record_length}
 use Rattle.table.specs.Questions.{most_in_range}
 use Rattle.table.specs.Table.{field, first_node, limit_from, most_from, record_count}
 use Rattle.table.specs.Laws.Asking.{Yes, all_yes, numbered}

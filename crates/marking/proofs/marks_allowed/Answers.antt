@@ -1,7 +1,6 @@
 use Rattle.std.specs.Prelude.{not}
 use Rattle.std.proofs.Math.Path.{ap}
 use Rattle.marking.specs.Laws.Opening.{asked-no, asked-yes, none-asked, one-asked, other_length}
-use Prim.Native.Nat.{◌-◌}
 use Rattle.marking.proofs.marks_allowed.Goals as goal
 
 pub returns-then-marks-ne-MARK_LENGTH : goal.returns-then-marks-ne-MARK_LENGTH

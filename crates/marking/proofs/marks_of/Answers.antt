@@ -3,7 +3,6 @@ use Rattle.marking.specs.Laws.Marking.{all-marked, one-marked}
 use native.Mathlib.Omega.{arith}
 use lib.ListN.{length-set}
 use native.Mathlib.Numerals.{add-one}
-use Prim.Native.Nat.{◌-◌}
 use mathlib.Core.Path.{refl}
 use Rattle.marking.proofs.marks_of.Goals as goal
 

@@ -1,4 +1,3 @@
-use Prim.Native.Nat.{◌-◌}
 use Rattle.splice.specs.Laws.Splicing.{all-counted, none-counted, one-counted}
 use Rattle.splice.proofs.count_occurrences.Goals as goal
 

@@ -1,4 +1,3 @@
-use Prim.Native.Nat.{◌-◌}
 use native.Mathlib.Omega.{arith}
 use Rattle.splice.specs.Laws.Splicing.{none_passed, one-passed, some_left}
 use Rattle.splice.proofs.next_place.Goals as goal

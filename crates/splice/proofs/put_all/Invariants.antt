@@ -1,5 +1,4 @@
 -- The invariant: the host's records before record i are put. The measure: the places left.
-use Prim.Native.Nat.{◌-◌}
 use Rattle.table.specs.Table.{record_count}
 use Rattle.splice.specs.Renaming.{renamed_table}
 use Rattle.splice.specs.Laws.Splicing.{Put}
