@@ -13,7 +13,7 @@ use borrow.Author.Count.{below_more}
 use borrow.Author.Tests.{eqb-false, eqb-true, leb-false, leb-true, lt-leb, ltb-false, ltb-true, ne_eqb}
 use Rattle.lists.specs.declared.List.{List as Listed}
 use Rattle.lists.specs.Pairs.{Canonical, Pairs, ever, places, run, top, width}
-use Rattle.lists.specs.Operations.{add_pairs, count, lead, merge_pairs, skip}
+use Rattle.lists.specs.Operations.{add_pairs, lead, merge_pairs, skip}
 use Rattle.lists.specs.Laws.Add.{add-facts, positive}
 use Rattle.lists.specs.Laws.Expand.{lead-run}
 use Rattle.inplace.specs.Laws.Short.{add-ever, add-evers, add-run, add-within, add-zeros, merge-ever, merge-first, merge-over, merge-run, merge-same, run-canonical}

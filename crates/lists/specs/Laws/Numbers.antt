@@ -1,9 +1,9 @@
 -- The numbers that stand in a program's list are those of its pairs.
-use Rattle.std.specs.Prelude.{◌≡◌, refl, List, [], ◌∷◌, ◌++◌, ℕ, zero, suc, ◌+◌, ◌*◌, ◌-◌, ◌≤◌, ◌<◌, length, get_or, take, drop}
-use Rattle.std.proofs.Common.{sym, ap, ap₂, ◌∙◌, arith, drop-cons, drop-drop}
+use Rattle.std.specs.Prelude.{◌≡◌, refl, List, ◌∷◌, ℕ, zero, suc, ◌+◌, ◌*◌, ◌-◌, ◌<◌, length, get_or, take, drop}
+use Rattle.std.proofs.Common.{sym, ap, ◌∙◌, arith, drop-cons}
 use Rattle.lists.specs.declared.List.{List as Listed}
-use Rattle.lists.specs.Pairs.{Pairs, ever, run, top, width, numbers}
-use Rattle.lists.specs.Reading.{most_pairs, value_at, count_at, runs_then, pairs_of, Proper, Is}
+use Rattle.lists.specs.Pairs.{Pairs, ever, top, width, numbers}
+use Rattle.lists.specs.Reading.{most_pairs, value_at, count_at, runs_then, pairs_of, Is}
 
 width_runs : (ps : List ℕ) (i n : ℕ) (r : Pairs) → width (runs_then ps i n r) ≡ n + width r
 unfolding runs_then width
