@@ -47,7 +47,7 @@ choice-after : (v : Values) (c i : ℕ) (a : Stream) (f : Forest) → holder_aft
 unfolding holder_after before start const rest next_holder turns join merge taken holder_in holder
 choice-after v c i a nil = rw (le-leb 0 (a 0) (omega arith)) refl
 choice-after v c i a (node n g ▸ f) =
-    choice-after v _ (suc i) (merge a (list v (node n g))) f ∙ next-holds (a 0) (list v (node n g) 0) (before v Choice f 0) c i (holder_in v f)
+    choice-after v (cond (leb (list v (node n g) 0) (a 0)) c i) (suc i) (merge a (list v (node n g))) f ∙ next-holds (a 0) (list v (node n g) 0) (before v Choice f 0) c i (holder_in v f)
 
 -- where every first member is 0, the first child holds it
 zero-holder : (v : Values) (f : Forest) → leb (before v Choice f 0) 0 ≡ true → holder_in v f ≡ 0
