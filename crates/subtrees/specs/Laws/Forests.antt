@@ -4,7 +4,7 @@ use Rattle.std.proofs.Common.{ap, ◌∙◌, append_assoc, append-nil, suc-add, 
 use Rattle.table.specs.Numbers.{most_depth, record_length}
 use Rattle.table.specs.Questions.{depth, depth_in}
 use Rattle.table.specs.Table.{encode, encodes, forest, forest_by}
-use Rattle.table.specs.Trees.{Forest, Tree, nil, node, ◌▸◌, ◌⧺◌, records, records_in}
+use Rattle.table.specs.Trees.{Forest, Tree, nil, node, ◌▸◌, ◌⧺◌, records, records_in, rest}
 use Rattle.table.specs.Laws.RoundTrip.{Writes, WritesAll, drop-bytes, forest-all}
 use Rattle.table.specs.Laws.NotRefused.{tree-writes}
 use Rattle.booleans.specs.Laws.{both, join-and}
@@ -43,7 +43,7 @@ sound-⧺ (t ▸ f) g p q = (p.0, sound-⧺ f g p.1 q)
 children-sound : (k : Kind) (f : Forest) (d : ℕ) → FairIn k f d → depth_in f ≤ most_depth → SoundIn f
 unfolding SoundIn depth
 children-sound k nil d a l = tt
-children-sound k (t ▸ f) d a l = (record { around = _; fair = fair-first k t f d a; deep = omega arith }, children-sound _ f d (fair-rest k t f d a) (omega arith))
+children-sound k (t ▸ f) d a l = (record { around = _; fair = fair-first k t f d a; deep = omega arith }, children-sound (rest k) f d (fair-rest k t f d a) (omega arith))
 
 pub below-sound : (n : Node) (f : Forest) → Sound (node n f) → SoundIn f
 unfolding depth

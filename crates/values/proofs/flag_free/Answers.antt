@@ -1,7 +1,6 @@
 use Rattle.std.specs.Prelude.{not}
 use Rattle.std.proofs.Math.Path.{ap}
 use mathlib.Core.Path.{sym}
-use Prim.Native.Nat.{◌-◌}
 use Rattle.table.specs.Table.{without_four}
 use Rattle.values.specs.Flags.{flag_free}
 use Rattle.table.specs.Laws.Reading.{none_passed, one-passed, one-failed, all-passed, part-long}

@@ -1,7 +1,6 @@
 use Rattle.std.specs.Prelude.{not}
 use Rattle.std.proofs.Math.Path.{ap}
 use mathlib.Core.Path.{sym, ◌∙◌}
-use Prim.Native.Nat.{◌-◌}
 use Rattle.values.specs.Values.{question13}
 use Rattle.table.specs.Laws.Reading.{none_passed, one-passed, one-failed, all-passed, part-long}
 use Rattle.values.specs.Laws.Values.{free-small}

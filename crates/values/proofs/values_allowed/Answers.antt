@@ -1,4 +1,3 @@
-use Prim.Native.Nat.{◌-◌}
 use native.Mathlib.Numerals.{add-one}
 use native.Mathlib.Omega.{arith}
 use Rattle.values.specs.Laws.Values.{none-asked, one-asked, one-over, all_asked, other_length}
