@@ -1,12 +1,12 @@
 -- The cases of the walk's definition, as the program meets them.
 use mathlib.Core.Path.{◌≡◌, refl}
 use mathlib.Core.Bool.{Bool, true, false, cond}
-use mathlib.Core.List.{List, [], ◌∷◌}
+use mathlib.Core.List.{List}
 use Prim.Native.Nat.{ℕ, zero, suc, ◌*◌, ◌-◌, ◌<◌, ◌≤◌}
 use native.Mathlib.Numerals.{sub-one}
 use native.Mathlib.Omega.{arith}
 use lib.ListN.{drop, length}
-use types.Run.{miss}
+use Rattle.table.specs.declared.Number.{Number}
 use borrow.Author.Tests.{le-leb, lt-leb}
 use Rattle.table.specs.Numbers.{record_length}
 use Rattle.table.specs.Table.{child_byte, first_node}
@@ -16,7 +16,6 @@ use Rattle.table.specs.declared.Kind.TheVariants.{Block, Sequence, Choice, Loop}
 use Rattle.evaluate.specs.Evaluate.{Values}
 use Rattle.evaluate.specs.Evaluator.{Found, and_then, evaluate_below, evaluate_more, evaluate_node, gone_round, joined, limited, none_yet, unfit}
 use Rattle.evaluate.specs.Shown.{with_next}
-use Rattle.evaluate.proofs.Others.{Among}
 
 pub node-deep : (v : Values) (h : ℕ) (b : List ℕ) → h ≡ 0 → evaluate_node v h b ≡ unfit
 unfolding evaluate_node
@@ -53,10 +52,10 @@ more-next v f k i zero b s p = absurd (omega arith)
 more-next v f k i (suc n) b s p = rw (sub-one (suc n)) (regrouped (f (drop (record_length * s.records) b)) (gone_round v k) (joined k i s) (evaluate_more v f (rest k) (suc i) n b))
 
 -- a node that is no block is what its children make it
-pub below_other : (v : Values) (f : List ℕ → Found) (k : Kind) (n : ℕ) (b : List ℕ) → Among (1 ∷ 2 ∷ 3 ∷ []) k
+pub below_other : (v : Values) (f : List ℕ → Found) (k : Kind) (n : ℕ) (b : List ℕ) → ((t : Number) → k ≡ Block t → ⊥)
     → evaluate_more v f k 0 n b none_yet ≡ evaluate_below v f k n b
 unfolding evaluate_below
-below_other v f (Block t) n b h = absurd (miss (1 ∷ 2 ∷ 3 ∷ []) 0 tt h)
+below_other v f (Block t) n b h = absurd (h t refl)
 below_other v f Sequence n b h = refl
 below_other v f Choice n b h = refl
 below_other v f (Loop m) n b h = refl

@@ -1,7 +1,7 @@
 -- What the walk keeps from child to child, and what a node makes of its children.
 use mathlib.Core.Path.{◌≡◌, refl, sym, ap, ◌∙◌, subst}
 use mathlib.Core.Bool.{true, false}
-use mathlib.Core.List.{List, [], ◌∷◌}
+use mathlib.Core.List.{List}
 use Prim.Native.Nat.{ℕ, suc, ◌*◌, ◌-◌, ◌<◌, ◌≤◌}
 use native.Mathlib.Omega.{arith}
 use lib.ListN.{drop, length, length-drop}
@@ -19,7 +19,6 @@ use Rattle.evaluate.specs.Evaluator.{Found, and_then, checked, evaluate_below, e
 use Rattle.evaluate.specs.Shown.{Limitable, Ready, Shows, evaluate_children, found_in, with_next}
 use Rattle.evaluate.specs.Laws.Sane.{Sane, sane, sane-is-below, sane-more, sane-next, sane-none, sane-where}
 use Rattle.evaluate.specs.Laws.Shown.{itself-shown, limitable-shown, ready-shown, sane-ready, shown-is, then-fits, then-shown}
-use Rattle.evaluate.proofs.Others.{Among}
 use Rattle.evaluate.proofs.Steps.{checked-low}
 use Rattle.walking.proofs.Steps.{below_other, more-done, more-next, node-read}
 
@@ -102,5 +101,5 @@ module _ (v : Values) (h : ℕ) (b : List ℕ) {k : Kind} {l : Limit} (its-kind 
   unfolding evaluate_below
   block-shown time i s = by-below (rw i s)
 
-  pub children-shown : (m : ℕ) → m ≡ child_byte b → Among (1 ∷ 2 ∷ 3 ∷ []) k → Shows r a (evaluate_children v (h - 1) k m (drop record_length b)) → Shows t c (evaluate_node v h b)
+  pub children-shown : (m : ℕ) → m ≡ child_byte b → ((time : Number) → k ≡ Block time → ⊥) → Shows r a (evaluate_children v (h - 1) k m (drop record_length b)) → Shows t c (evaluate_node v h b)
   children-shown m q o s = by-below (rw (← q, ← below_other v (evaluate_node v (h - 1)) k m (drop record_length b) o) s)
