@@ -1,7 +1,6 @@
 -- Definitions, in the order of reading.
-mod Nodes
+pub mod Nodes
 pub mod Answers
 pub mod Promises
--- An example, and what is proved of them.
+-- An example.
 pub mod Cases
-pub mod Laws

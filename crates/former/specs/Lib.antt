@@ -2,6 +2,4 @@
 pub mod Former
 pub mod Converted
 -- An example of them.
-mod Cases
--- What is proved of them.
-pub mod Laws
+pub mod Cases

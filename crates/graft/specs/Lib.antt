@@ -2,6 +2,5 @@
 pub mod Answers
 pub mod Promises
 pub mod Making
--- An example, and what is proved of them.
+-- An example.
 pub mod Cases
-pub mod Laws

@@ -7,5 +7,3 @@ pub mod Cases
 pub mod BranchCases
 pub mod Triangles
 pub mod PairedCases
--- What is proved of them.
-pub mod Laws

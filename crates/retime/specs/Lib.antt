@@ -1,8 +1,7 @@
 -- Definitions, in the order of reading.
-mod Nodes
+pub mod Nodes
 pub mod Answers
 pub mod Promises
 pub mod Previews
--- Examples, and what is proved of them.
+-- Examples.
 pub mod Cases
-pub mod Laws

@@ -5,7 +5,7 @@ use Rattle.table.specs.Numbers.{most_records}
 use Rattle.table.specs.Notation.{◌/◌at◌, all_hold, block, both, either, loop, sequence, symbol}
 use Rattle.table.specs.Table.{encode}
 use Rattle.table.specs.Trees.{Tree, nil, ◌▸◌}
-use Rattle.runs.specs.Cases.{case_c, case_e, case_h, case_i, limited_zero, term}
+use Rattle.runs.proofs.Cases.{case_c, case_e, case_h, case_i, limited_zero, term}
 use Rattle.simplify.specs.Cases.{computed_steps}
 use Rattle.lists.specs.Pairs.{ever, run}
 use Rattle.quoting.specs.Cases.{computed, lists, quotes}

@@ -1,6 +1,6 @@
 -- Definitions, in the order of reading.
 pub mod Numbers
-mod Nodes
+pub mod Nodes
 pub mod Trees
 pub mod Questions
 pub mod Limits
@@ -12,5 +12,3 @@ pub mod Survey
 -- Trees as examples write them.
 pub mod Notation
 pub mod Cases
--- What is proved of them.
-pub mod Laws

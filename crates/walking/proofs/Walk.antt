@@ -17,8 +17,8 @@ use Rattle.evaluate.specs.declared.Valued.{Valued}
 use Rattle.evaluate.specs.Evaluate.{Values, no_branch}
 use Rattle.evaluate.specs.Evaluator.{Found, and_then, checked, evaluate_below, evaluate_more, evaluate_node, gone_round, joined, limited, time_pairs, unfit}
 use Rattle.evaluate.specs.Shown.{Limitable, Ready, Shows, evaluate_children, found_in, with_next}
-use Rattle.evaluate.specs.Laws.Sane.{Sane, sane, sane-is-below, sane-more, sane-next, sane-none, sane-where}
-use Rattle.evaluate.specs.Laws.Shown.{itself-shown, limitable-shown, ready-shown, sane-ready, shown-is, then-fits, then-shown}
+use Rattle.evaluate.proofs.Laws.Sane.{Sane, sane, sane-is-below, sane-more, sane-next, sane-none, sane-where}
+use Rattle.evaluate.proofs.Laws.Shown.{itself-shown, limitable-shown, ready-shown, sane-ready, shown-is, then-fits, then-shown}
 use Rattle.evaluate.proofs.Steps.{checked-low}
 use Rattle.walking.proofs.Steps.{below_other, more-done, more-next, node-read}
 

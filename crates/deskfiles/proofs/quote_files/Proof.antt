@@ -1,7 +1,7 @@
 use mathlib.Core.Path.{sym, ap, ◌∙◌}
 use borrow.Author.Rules.{rules}
 use Rattle.quoting.specs.Answers.{figure_answer}
-use Rattle.deskfiles.specs.Laws.Files.{whole_length, files-kept, files-whole, files-refused, files-other}
+use Rattle.deskfiles.proofs.Laws.Files.{whole_length, files-kept, files-whole, files-refused, files-other}
 use Rattle.deskfiles.proofs.quote_files.Statement.{statement}
 use Rattle.deskfiles.proofs.quote_files.Tie as tie
 

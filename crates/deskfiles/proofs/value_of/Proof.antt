@@ -1,7 +1,7 @@
 -- A symbol's value, or a later one by its first.
 use mathlib.Core.Path.{sym, ◌∙◌}
 use borrow.Author.Rules.{rules}
-use Rattle.deskfiles.specs.Laws.Files.{value-first, value-later}
+use Rattle.deskfiles.proofs.Laws.Files.{value-first, value-later}
 use Rattle.deskfiles.proofs.value_of.Statement.{statement}
 use Rattle.deskfiles.proofs.value_of.Tie as tie
 

@@ -2,7 +2,7 @@ use mathlib.Core.Path.{◌∙◌}
 use native.Mathlib.Omega.{arith}
 use borrow.Author.Rules.{rules}
 use lib.ListN.{length-drop}
-use Rattle.deskfiles.specs.Laws.Files.{value_there, value-absent}
+use Rattle.deskfiles.proofs.Laws.Files.{value_there, value-absent}
 use Rattle.deskfiles.proofs.value_or.Statement.{statement}
 use Rattle.deskfiles.proofs.value_or.Tie as tie
 

@@ -6,7 +6,7 @@ use native.Mathlib.Omega.{arith}
 use borrow.Author.Rules.{rules}
 use lib.ListN.{length, length-set}
 use Rattle.table.specs.Numbers.{how_many_values}
-use Rattle.deskfiles.specs.Laws.Files.{Read, one-read, all_read}
+use Rattle.deskfiles.proofs.Laws.Files.{Read, one-read, all_read}
 use Rattle.deskfiles.proofs.values_of.Statement.{statement}
 use Rattle.deskfiles.proofs.values_of.Tie as tie
 

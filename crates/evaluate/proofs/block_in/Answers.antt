@@ -6,8 +6,8 @@ use native.Mathlib.Omega.{arith}
 use borrow.Author.Tests.{not-true}
 use Rattle.evaluate.specs.Evaluate.{values_of}
 use Rattle.evaluate.specs.Evaluator.{time_pairs}
-use Rattle.evaluate.specs.Laws.Children.{time-single}
-use Rattle.evaluate.specs.Laws.Times.{later-le}
+use Rattle.evaluate.proofs.Laws.Children.{time-single}
+use Rattle.evaluate.proofs.Laws.Times.{later-le}
 use Rattle.evaluate.proofs.block_in.Goals as goal
 
 pub returns-then-not-is_paired : goal.returns-then-not-is_paired

@@ -1,6 +1,6 @@
 -- The value in front is the list's first.
 use mathlib.Core.Path.{refl}
-use Rattle.evaluate.specs.Laws.Shown.{first-top, found-shown, unfit-shown}
+use Rattle.evaluate.proofs.Laws.Shown.{first-top, found-shown, unfit-shown}
 use Rattle.evaluate.proofs.Steps.{checked-high, checked-low}
 use Rattle.evaluate.proofs.check_top.Goals as goal
 

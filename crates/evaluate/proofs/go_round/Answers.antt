@@ -1,6 +1,6 @@
 -- A loop is told its constructor; the others are among those left.
 use Rattle.evaluate.specs.Evaluator.{gone_round}
-use Rattle.evaluate.specs.Laws.Shown.{itself-shown}
+use Rattle.evaluate.proofs.Laws.Shown.{itself-shown}
 use Rattle.evaluate.proofs.Others.{round-other}
 use Rattle.evaluate.proofs.go_round.Goals as goal
 

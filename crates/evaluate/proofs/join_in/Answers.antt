@@ -1,7 +1,7 @@
 -- By the room for both lists' pairs: nothing, or the joined list, checked.
 use native.Mathlib.Omega.{arith}
 use Rattle.evaluate.specs.Shown.{found_in}
-use Rattle.evaluate.specs.Laws.Shown.{first-top, len-width, unfit-shown}
+use Rattle.evaluate.proofs.Laws.Shown.{first-top, len-width, unfit-shown}
 use Rattle.evaluate.proofs.Steps.{joined-room, joined-wide}
 use Rattle.evaluate.proofs.join_in.Goals as goal
 

@@ -1,6 +1,6 @@
 -- By the symbol's number: below the paired ones, past them, or paired.
 use mathlib.Core.Path.{◌∙◌, sym}
-use Rattle.evaluate.specs.Laws.Times.{later-below, later-lower, later-past}
+use Rattle.evaluate.proofs.Laws.Times.{later-below, later-lower, later-past}
 use Rattle.evaluate.proofs.later_value.Goals as goal
 
 pub returns-then-symbol-lt-FIRST_PAIRED_SYMBOL : goal.returns-then-symbol-lt-FIRST_PAIRED_SYMBOL

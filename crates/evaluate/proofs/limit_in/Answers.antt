@@ -6,7 +6,7 @@ use borrow.Author.Tests.{not-false, not-true}
 use Rattle.evaluate.specs.Evaluate.{values_of}
 use Rattle.evaluate.specs.Evaluator.{limited}
 use Rattle.evaluate.specs.Shown.{Limitable, found_in}
-use Rattle.evaluate.specs.Laws.Shown.{found-shown, len-width, then-fits, unfit-shown}
+use Rattle.evaluate.proofs.Laws.Shown.{found-shown, len-width, then-fits, unfit-shown}
 use Rattle.evaluate.proofs.Steps.{limited-many, limited-room, limited-wide}
 use Rattle.evaluate.proofs.limit_in.Goals.{Else-not-below}
 use Rattle.evaluate.proofs.limit_in.Goals as goal

@@ -1,7 +1,7 @@
 -- By the definition's tests: nothing, the first sum, or the groups, copied and checked.
 use native.Mathlib.Omega.{arith}
 use Rattle.evaluate.specs.Shown.{found_in}
-use Rattle.evaluate.specs.Laws.Shown.{len-width, product-fits, unfit-shown}
+use Rattle.evaluate.proofs.Laws.Shown.{len-width, product-fits, unfit-shown}
 use Rattle.evaluate.proofs.Steps.{looped-many, looped-own, looped-room, looped-wide}
 use Rattle.evaluate.proofs.loop_in.Goals as goal
 

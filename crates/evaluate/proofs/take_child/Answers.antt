@@ -3,8 +3,8 @@ use native.Mathlib.Omega.{arith}
 use borrow.Author.Tests.{not-false, not-true}
 use Rattle.evaluate.specs.Evaluate.{values_of}
 use Rattle.evaluate.specs.Shown.{found_in}
-use Rattle.evaluate.specs.Laws.Sane.{sane-round}
-use Rattle.evaluate.specs.Laws.Shown.{longest, longest-is, next-joined, next-unfit, next-unfit-round, ready-shown, sane-ready, unfit-shown}
+use Rattle.evaluate.proofs.Laws.Sane.{sane-round}
+use Rattle.evaluate.proofs.Laws.Shown.{longest, longest-is, next-joined, next-unfit, next-unfit-round, ready-shown, sane-ready, unfit-shown}
 use Rattle.evaluate.proofs.take_child.Goals as goal
 
 pub returns-then-not-child : goal.returns-then-not-child

@@ -1,7 +1,7 @@
 -- Each question put in its order.
 use mathlib.Core.Path.{◌≡◌, sym, ◌∙◌}
 use Rattle.table.specs.Checking.{refusal}
-use Rattle.fill.specs.Laws.Asking.{both-fine, both-number, both-refused, both-short}
+use Rattle.fill.proofs.Laws.Asking.{both-fine, both-number, both-refused, both-short}
 use borrow.Author.Rules.{rules}
 use Rattle.fill.proofs.both_refusal.Statement.{statement}
 use Rattle.fill.proofs.both_refusal.Tie as tie

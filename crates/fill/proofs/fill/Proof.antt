@@ -1,9 +1,9 @@
 use mathlib.Core.Path.{sym, ◌∙◌}
 use native.Mathlib.Omega.{arith}
 use Rattle.table.specs.Bytes.{AreBytes}
-use Rattle.table.specs.Laws.Accepted.{is-table}
-use Rattle.fill.specs.Laws.Asking.{both_yes}
-use Rattle.fill.specs.Laws.Answering.{fill-all, fill-refused, fill-room, fill-written}
+use Rattle.table.proofs.Laws.Accepted.{is-table}
+use Rattle.fill.proofs.Laws.Asking.{both_yes}
+use Rattle.fill.proofs.Laws.Answering.{fill-all, fill-refused, fill-room, fill-written}
 use borrow.Author.Rules.{rules}
 use Rattle.fill.proofs.fill.Statement.{statement}
 use Rattle.fill.proofs.fill.Tie as tie

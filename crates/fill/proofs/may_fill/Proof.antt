@@ -1,9 +1,9 @@
 use mathlib.Core.Path.{◌≡◌}
 use mathlib.Core.Bool.{true}
 use Prim.Native.Nat.{◌-◌}
-use Rattle.table.specs.Laws.Reading.{Passed, none_passed, one-passed}
+use Rattle.table.proofs.Laws.Reading.{Passed, none_passed, one-passed}
 use Rattle.fill.specs.Answers.{record_free}
-use Rattle.fill.specs.Laws.Asking.{number-no, number-told, number-yes, number_allowed, record-no, record-yes}
+use Rattle.fill.proofs.Laws.Asking.{number-no, number-told, number-yes, number_allowed, record-no, record-yes}
 use borrow.Author.Rules.{rules}
 use Rattle.fill.proofs.may_fill.Statement.{statement}
 use Rattle.fill.proofs.may_fill.Tie as tie

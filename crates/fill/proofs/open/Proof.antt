@@ -1,13 +1,13 @@
 use mathlib.Core.Path.{sym, ◌∙◌}
 use native.Mathlib.Omega.{arith}
 use Rattle.table.specs.Bytes.{AreBytes}
-use Rattle.table.specs.Laws.Accepted.{is-table}
+use Rattle.table.proofs.Laws.Accepted.{is-table}
 use lib.Dec.{leb→le}
 use borrow.Author.Tests.{not-false, not-true}
 use Rattle.booleans.specs.Laws.{is_T}
 use Rattle.marking.specs.Laws.Opening.{marks-whole}
-use Rattle.fill.specs.Laws.Asking.{both_yes}
-use Rattle.fill.specs.Laws.Answering.{open-all, open-marks, open-refused, open-written}
+use Rattle.fill.proofs.Laws.Asking.{both_yes}
+use Rattle.fill.proofs.Laws.Answering.{open-all, open-marks, open-refused, open-written}
 use borrow.Author.Rules.{rules}
 use Rattle.fill.proofs.open.Statement.{statement}
 use Rattle.fill.proofs.open.Tie as tie

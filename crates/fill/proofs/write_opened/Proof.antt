@@ -1,5 +1,5 @@
-use Rattle.table.specs.Laws.Tables.{few-records}
-use Rattle.fill.specs.Laws.Writing.{opened-over, room}
+use Rattle.table.proofs.Laws.Tables.{few-records}
+use Rattle.fill.proofs.Laws.Writing.{opened-over, room}
 use borrow.Author.Rules.{rules}
 use Rattle.fill.proofs.write_opened.Statement.{statement}
 use Rattle.fill.proofs.write_opened.Tie as tie

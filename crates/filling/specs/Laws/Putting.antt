@@ -7,7 +7,7 @@ use Rattle.std.proofs.Math.Nat.{sub-zero}
 use native.Mathlib.Omega.{arith}
 use Rattle.table.specs.Numbers.{record_length}
 use Rattle.table.specs.Table.{child_byte, first_node, record_bytes, record_count}
-use Rattle.table.specs.Laws.Reading.{next-count, next-part, none_left}
+use Rattle.table.proofs.Laws.Reading.{next-count, next-part, none_left}
 use Rattle.writing.specs.Records.{Appended, front}
 use Rattle.filling.specs.Nodes.{Most, Node, Number}
 use Rattle.filling.specs.Fill.{on_node, put}

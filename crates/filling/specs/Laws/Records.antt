@@ -12,9 +12,9 @@ use Rattle.table.specs.Questions.{Accepted, kind_in_range, limit_in_range, liste
 use Rattle.table.specs.Table.{decode, encode, encodes, first_node, record_bytes, record_count}
 use Rattle.table.specs.Trees.{Forest, Tree, nil, node, records, records_in, size, ◌▸◌}
 use Rattle.table.specs.Checking.{IsTable}
-use Rattle.table.specs.Laws.NotRefused.{reads-back, tree-writes}
-use Rattle.table.specs.Laws.RoundTrip.{Writes, WritesNode, children-bytes, drop-bytes, head_bytes, length-bytes, length-encode}
-use Rattle.table.specs.Laws.Tables.{count-is, whole-table, written-table}
+use Rattle.table.proofs.Laws.NotRefused.{reads-back, tree-writes}
+use Rattle.table.proofs.Laws.RoundTrip.{Writes, WritesNode, children-bytes, drop-bytes, head_bytes, length-bytes, length-encode}
+use Rattle.table.proofs.Laws.Tables.{count-is, whole-table, written-table}
 use Rattle.filling.specs.Nodes.{Most, Node, Number}
 use Rattle.filling.specs.Fill.{on_forest, on_node, on_tree}
 use Rattle.marking.specs.Marks.{node_at}

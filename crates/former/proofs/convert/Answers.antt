@@ -5,7 +5,7 @@ use mathlib.Core.Path.{ap, ◌∙◌}
 use mathlib.Core.List.{List}
 use Prim.Native.Nat.{ℕ}
 use Rattle.writing.specs.Over.{over}
-use Rattle.former.specs.Laws.Converting.{made-whole, converts, too-odd, too_short}
+use Rattle.former.proofs.Laws.Converting.{made-whole, converts, too-odd, too_short}
 use Rattle.former.proofs.convert.Goals as goal
 
 pub returns-then-not-length_allowed : goal.returns-then-not-length_allowed

@@ -1,5 +1,5 @@
 -- The former bytes are copied, and then those that are added.
-use Rattle.former.specs.Laws.Converting.{record-put}
+use Rattle.former.proofs.Laws.Converting.{record-put}
 use Rattle.former.proofs.convert_record.Goals as goal
 
 pub returns : goal.returns

@@ -1,4 +1,4 @@
-use Rattle.former.specs.Laws.Converting.{all_made, none_made, one-made}
+use Rattle.former.proofs.Laws.Converting.{all_made, none_made, one-made}
 use Rattle.former.proofs.convert_records.Goals as goal
 
 pub loop-i-init : goal.loop-i-init

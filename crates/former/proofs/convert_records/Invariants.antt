@@ -1,6 +1,6 @@
 -- The invariant: the first i records are made (`Making`). The measure: how many are left.
 use Prim.Native.Nat.{◌-◌}
-use Rattle.former.specs.Laws.Converting.{Making}
+use Rattle.former.proofs.Laws.Converting.{Making}
 use Rattle.former.proofs.convert_records.Given as goal
 
 abbrev pub invariant-loop-i : goal.invariant-loop-i

@@ -6,8 +6,8 @@ use borrow.Author.Tests.{not-false, not-true}
 use Rattle.booleans.specs.Laws.{is_T}
 use Rattle.table.specs.Bytes.{AreBytes}
 use Rattle.table.specs.Checking.{refusal}
-use Rattle.table.specs.Laws.Accepted.{is-table}
-use Rattle.graft.specs.Laws.Answering.{host-refused, promised, sent-refused, symbol-refused}
+use Rattle.table.proofs.Laws.Accepted.{is-table}
+use Rattle.graft.proofs.Laws.Answering.{host-refused, promised, sent-refused, symbol-refused}
 use Rattle.graft.proofs.graft.Statement.{statement}
 use Rattle.graft.proofs.graft.Tie as tie
 

@@ -3,8 +3,8 @@ use native.Mathlib.Omega.{arith}
 use borrow.Author.Rules.{rules}
 use Rattle.table.specs.Numbers.{most_records}
 use Rattle.table.specs.Table.{record_count}
-use Rattle.graft.specs.Laws.Making.{made_all, made-long, made-room, product_small}
-use Rattle.table.specs.Laws.Tables.{few-records}
+use Rattle.graft.proofs.Laws.Making.{made_all, made-long, made-room, product_small}
+use Rattle.table.proofs.Laws.Tables.{few-records}
 use Rattle.graft.proofs.make_graft.Statement.{statement}
 use Rattle.graft.proofs.make_graft.Tie as tie
 

@@ -5,7 +5,7 @@ use lib.Seq.{length-take-le}
 use borrow.Author.Tests.{eq-eqb, ne_eqb}
 use borrow.Author.Rules.{rules}
 use Rattle.graft.specs.Answers.{graft_table, question12}
-use Rattle.graft.specs.Laws.Answering.{all-written, made-asked, made-length, result-refused, short-refused}
+use Rattle.graft.proofs.Laws.Answering.{all-written, made-asked, made-length, result-refused, short-refused}
 use Rattle.graft.proofs.put_graft.Statement.{statement}
 use Rattle.graft.proofs.put_graft.Tie as tie
 

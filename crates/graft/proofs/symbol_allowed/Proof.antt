@@ -1,4 +1,4 @@
-use Rattle.graft.specs.Laws.Making.{asked-11}
+use Rattle.graft.proofs.Laws.Making.{asked-11}
 use borrow.Author.Rules.{rules}
 use Rattle.graft.proofs.symbol_allowed.Statement.{statement}
 use Rattle.graft.proofs.symbol_allowed.Tie as tie

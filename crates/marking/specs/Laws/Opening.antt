@@ -12,7 +12,7 @@ use Rattle.booleans.specs.Tests.{◌and◌}
 use Rattle.booleans.specs.Laws.{T-is, both, by_cond, either, is_T, join-and}
 use Rattle.table.specs.Numbers.{most_records}
 use Rattle.table.specs.Table.{record_count}
-use Rattle.table.specs.Laws.Reading.{next-count}
+use Rattle.table.proofs.Laws.Reading.{next-count}
 use Rattle.marking.specs.Nodes.{Node}
 use Rattle.marking.specs.Marks.{digit_at, mark_length, node_at}
 use Rattle.marking.specs.Opening.{all_from, digit_opens, node_opens, question16}

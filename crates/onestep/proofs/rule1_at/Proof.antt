@@ -2,7 +2,7 @@
 use mathlib.Core.Path.{◌∙◌}
 use native.Mathlib.Omega.{arith}
 use Rattle.lists.specs.Reading.{value_at}
-use Rattle.table.specs.Laws.Tables.{length-is, not-long}
+use Rattle.table.proofs.Laws.Tables.{length-is, not-long}
 use Rattle.onestep.specs.Laws.Whole.{block_written, first-is, has-symbol, some-record, that-already}
 use borrow.Author.Rules.{rules}
 use Rattle.onestep.proofs.rule1_at.Statement.{statement}

@@ -10,10 +10,10 @@ use Rattle.table.specs.Checking.{IsTable}
 use Rattle.table.specs.Numbers.{record_length}
 use Rattle.table.specs.Table.{encode, encodes, forest, record_count, top}
 use Rattle.table.specs.Trees.{◌▸◌, records, records_in}
-use Rattle.table.specs.Laws.Reading.{part-to}
-use Rattle.table.specs.Laws.RoundTrip.{length-encode}
-use Rattle.table.specs.Laws.Tables.{length-is}
-use Rattle.table.specs.Laws.Trees.{some-records}
+use Rattle.table.proofs.Laws.Reading.{part-to}
+use Rattle.table.proofs.Laws.RoundTrip.{length-encode}
+use Rattle.table.proofs.Laws.Tables.{length-is}
+use Rattle.table.proofs.Laws.Trees.{some-records}
 use Rattle.subtrees.specs.Facts.{Outdated, Own, Surveyed}
 use Rattle.subtrees.specs.Parts.{subtree, trees_at}
 use Rattle.subtrees.specs.Laws.Forests.{SoundIn, row_back}

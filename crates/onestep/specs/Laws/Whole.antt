@@ -10,14 +10,14 @@ use Rattle.booleans.specs.Tests.{◌and◌}
 use Rattle.table.specs.Numbers.{most_depth, record_length}
 use Rattle.table.specs.Table.{decode, encode, encodes, record_bytes, record_count}
 use Rattle.table.specs.Trees.{Forest, Tree, nil, ◌▸◌, records, records_in, size}
-use Rattle.table.specs.Laws.Trees.{some-records}
+use Rattle.table.proofs.Laws.Trees.{some-records}
 use Rattle.evaluate.specs.Closed.{symbol_free}
 use Rattle.evaluate.specs.Evaluate.{figure, zeros}
 use Rattle.evaluate.specs.Evaluator.{evaluate_node}
 use Rattle.evaluate.specs.Shown.{Shows}
-use Rattle.evaluate.specs.Laws.Alike.{zeros-alike}
-use Rattle.evaluate.specs.Laws.Evaluator.{Evaluated, evaluated}
-use Rattle.evaluate.specs.Laws.Shown.{first-top}
+use Rattle.evaluate.proofs.Laws.Alike.{zeros-alike}
+use Rattle.evaluate.proofs.Laws.Evaluator.{Evaluated, evaluated}
+use Rattle.evaluate.proofs.Laws.Shown.{first-top}
 use Rattle.evaluate.specs.declared.Valued.{Valued}
 use Rattle.lists.specs.Pairs.{top as top_pair}
 use Rattle.simplify.specs.Rules.{bare, leaf, rule1, when}
@@ -25,7 +25,7 @@ use Rattle.simplify.specs.Steps.{also, inside, inside_in, or_else, step}
 use Rattle.subtrees.specs.Facts.{Extents, MarkedAt, symbols}
 use Rattle.subtrees.specs.Parts.{Simplifiable, subtree, trees_at}
 use Rattle.subtrees.specs.Laws.Facts.{free-is}
-use Rattle.table.specs.Laws.Tables.{count-is, length-is}
+use Rattle.table.proofs.Laws.Tables.{count-is, length-is}
 use Rattle.subtrees.specs.Laws.Parts.{root-at, top-at}
 use Rattle.writing.specs.Records.{front, node_of}
 use Rattle.rewrite.specs.Wrote.{Wrote}

@@ -2,12 +2,12 @@
 use Rattle.std.specs.Prelude.{◌≡◌, List, ◌++◌, ℕ, length, drop}
 use Rattle.std.proofs.Common.{subst, arith, length-append, length-take}
 use Rattle.io.specs.Counts.{IsPrefixLen}
-use Rattle.table.specs.Laws.Asking.{by-refusals}
+use Rattle.table.proofs.Laws.Asking.{by-refusals}
 use Rattle.writing.specs.Over.{over}
 use Rattle.former.specs.Former.{former_count}
 use Rattle.former.specs.Converted.{new_table, convert_answer, convert_refusal, convert_writes}
 use Rattle.former.specs.declared.Conversion.{Conversion}
-use Rattle.former.specs.Laws.Converted.{converted-long}
+use Rattle.former.proofs.Laws.Converted.{converted-long}
 use Rattle.readdress.specs.Buffers.{Within}
 
 pub within-counts : {r : Conversion} {n : ℕ} (x : List ℕ) → r ≡ Conversion.Written n → Within r x → IsPrefixLen n x

@@ -2,7 +2,7 @@ use mathlib.Core.Path.{◌≡◌, refl, sym, ◌∙◌}
 use native.Mathlib.Omega.{arith}
 use Rattle.table.specs.Bytes.{AreBytes}
 use Rattle.retime.specs.Answers.{commit_refusal}
-use Rattle.retime.specs.Laws.Answering.{commit-no, commit-yes, room}
+use Rattle.retime.proofs.Laws.Answering.{commit-no, commit-yes, room}
 use borrow.Author.Rules.{rules}
 use Rattle.retime.proofs.commit.Statement.{statement}
 use Rattle.retime.proofs.commit.Tie as tie

@@ -3,7 +3,7 @@ use native.Mathlib.Omega.{arith}
 use Rattle.table.specs.Bytes.{AreBytes}
 use Rattle.retime.specs.Answers.{commit_refusal}
 use Rattle.retime.specs.Previews.{figures}
-use Rattle.retime.specs.Laws.Answering.{left-accepted, preview-no, preview-yes, retimable, room, short}
+use Rattle.retime.proofs.Laws.Answering.{left-accepted, preview-no, preview-yes, retimable, room, short}
 use borrow.Author.Rules.{rules}
 use Rattle.retime.proofs.preview.Statement.{statement}
 use Rattle.retime.proofs.preview.Tie as tie

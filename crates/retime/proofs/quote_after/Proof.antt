@@ -2,7 +2,7 @@ use mathlib.Core.Path.{refl, ap, ◌∙◌}
 use Prim.Native.Nat.{◌-◌}
 use Rattle.table.specs.Checking.{refusal}
 use Rattle.quoting.specs.Answers.{figure_answer}
-use Rattle.retime.specs.Laws.Retimed.{copy-retimed}
+use Rattle.retime.proofs.Laws.Retimed.{copy-retimed}
 use borrow.Author.Rules.{rules}
 use Rattle.retime.proofs.quote_after.Statement.{statement}
 use Rattle.retime.proofs.quote_after.Tie as tie

@@ -1,7 +1,7 @@
 use mathlib.Core.Path.{◌≡◌, sym, ◌∙◌}
 use Rattle.table.specs.Asking.{first_no}
 use Rattle.table.specs.Checking.{refusal}
-use Rattle.retime.specs.Laws.Answering.{table-refused, time-asked}
+use Rattle.retime.proofs.Laws.Answering.{table-refused, time-asked}
 use borrow.Author.Rules.{rules}
 use Rattle.retime.proofs.retime_refusal.Statement.{statement}
 use Rattle.retime.proofs.retime_refusal.Tie as tie

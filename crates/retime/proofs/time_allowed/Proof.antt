@@ -1,5 +1,5 @@
 use native.Mathlib.Omega.{arith}
-use Rattle.retime.specs.Laws.Answering.{at-record, past-last}
+use Rattle.retime.proofs.Laws.Answering.{at-record, past-last}
 use borrow.Author.Rules.{rules}
 use Rattle.retime.proofs.time_allowed.Statement.{statement}
 use Rattle.retime.proofs.time_allowed.Tie as tie

@@ -3,7 +3,7 @@ use borrow.Author.Rules.{rules}
 use Prim.Native.Nat.{◌+◌, ◌-◌}
 use native.Mathlib.Omega.{arith}
 use lib.ListN.{get_or}
-use Rattle.table.specs.Laws.Tables.{few-records}
+use Rattle.table.proofs.Laws.Tables.{few-records}
 use Rattle.subtrees.specs.Laws.Parts.{past-inside}
 use Rattle.rules2to7.specs.Laws.Blocks.{Gathering, Turn, gather-end, gather-start, gather-turn, next-tree}
 use Rattle.rules2to7.proofs.bares_in.Statement.{statement}

@@ -3,7 +3,7 @@ use borrow.Author.Rules.{rules}
 use Prim.Native.Nat.{◌-◌}
 use native.Mathlib.Omega.{arith}
 use Rattle.subtrees.specs.Parts.{subtree, trees_at}
-use Rattle.table.specs.Laws.Tables.{few-records, length-is}
+use Rattle.table.proofs.Laws.Tables.{few-records, length-is}
 use Rattle.rules2to7.specs.Blocks.{spanning}
 use Rattle.rules2to7.specs.Laws.Blocks.{Copying, Turn, copy-end, copy-fits, copy_start, copy-turn, kept-few, next-tree}
 use Rattle.rules2to7.proofs.copy_others.Statement.{statement}

@@ -7,7 +7,7 @@ use lib.ListN.{get_or}
 use Rattle.table.specs.Trees.{records_in}
 use Rattle.simplify.specs.Rules.{others}
 use Rattle.subtrees.specs.Parts.{trees_at}
-use Rattle.table.specs.Laws.Tables.{few-records}
+use Rattle.table.proofs.Laws.Tables.{few-records}
 use Rattle.rules2to7.specs.Blocks.{spanning}
 use Rattle.rules2to7.specs.Laws.Blocks.{Places, merge-wrote, places, spans}
 use Rattle.rules2to7.proofs.merge_bares.Statement.{statement}

@@ -3,7 +3,7 @@ use mathlib.Core.Path.{ap, sym, ◌∙◌}
 use native.Mathlib.Omega.{arith}
 use borrow.Author.Tests.{not-false, not-true}
 use Rattle.simplify.specs.Rules.{is_block}
-use Rattle.table.specs.Laws.Tables.{few-records, length-is}
+use Rattle.table.proofs.Laws.Tables.{few-records, length-is}
 use Rattle.subtrees.specs.Laws.Parts.{extent-some, past-inside}
 use Rattle.rules2to7.specs.Laws.Settled.{is-node, no_node, not-settled, settled-written}
 use borrow.Author.Rules.{rules}

@@ -1,7 +1,7 @@
 -- Few enough times are summed.
 use borrow.Author.Rules.{rules}
 use native.Mathlib.Omega.{arith}
-use Rattle.table.specs.Laws.Tables.{few-records}
+use Rattle.table.proofs.Laws.Tables.{few-records}
 use Rattle.rules2to7.specs.Laws.Blocks.{child-bare, child-not}
 use Rattle.rules2to7.proofs.with_child.Statement.{statement}
 use Rattle.rules2to7.proofs.with_child.Tie as tie

@@ -9,16 +9,16 @@ use Rattle.booleans.specs.Tests.{◌and◌}
 use Rattle.table.specs.Numbers.{most_time, record_length}
 use Rattle.table.specs.Table.{child_byte, encode, encodes, first_node, record_bytes, record_count}
 use Rattle.table.specs.Trees.{Forest, Tree, nil, node, ◌▸◌, ◌⧺◌, records, records_in, size}
-use Rattle.table.specs.Laws.Trees.{some-records}
+use Rattle.table.proofs.Laws.Trees.{some-records}
 use Rattle.simplify.specs.Rules.{at_first, bare, bares, largest, leaf, others, rule6, rule7, time_of, total, when}
 use Rattle.simplify.specs.Same.{same_kind}
 use Rattle.simplify.specs.Steps.{also}
-use Rattle.simplify.specs.Laws.Forests.{size-⧺}
+use Rattle.simplify.proofs.Laws.Forests.{size-⧺}
 use Rattle.subtrees.specs.Facts.{Extents}
 use Rattle.table.specs.Checking.{IsTable}
 use Rattle.subtrees.specs.Parts.{subtree, trees_at}
 use Rattle.subtrees.specs.Laws.Forests.{encodes-⧺, records-⧺}
-use Rattle.table.specs.Laws.Tables.{length-is}
+use Rattle.table.proofs.Laws.Tables.{length-is}
 use Rattle.subtrees.specs.Laws.Parts.{Here, bytes-at, extent-some, here-at, here-is, next_row, node-extent, past-node, records-at, row_of, skip_at, tail_at}
 use Rattle.subtrees.specs.Laws.Records.{count_at, node_at}
 use Rattle.rules2to7.specs.Blocks.{Parted, Standing, bares_at, kept_records, merged, no_bares, spanning, with_child}

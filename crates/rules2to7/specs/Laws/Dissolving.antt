@@ -12,7 +12,7 @@ use Rattle.table.specs.Table.{child_byte, encodes, first_node, record_bytes, rec
 use Rattle.table.specs.Trees.{Forest, Tree, nil, node, ◌▸◌, ◌⧺◌, records, records_in, size}
 use Rattle.simplify.specs.Rules.{any_gives, any_zero, bare, children, give_way, gives, is_sum, is_zero, rule2, rule5, when, without}
 use Rattle.simplify.specs.Steps.{also}
-use Rattle.simplify.specs.Laws.Forests.{size-⧺}
+use Rattle.simplify.proofs.Laws.Forests.{size-⧺}
 use Rattle.table.specs.Checking.{IsTable}
 use Rattle.subtrees.specs.Parts.{trees_at}
 use Rattle.subtrees.specs.Laws.Forests.{below, encodes-⧺, records-⧺}

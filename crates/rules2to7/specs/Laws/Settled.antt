@@ -12,16 +12,16 @@ use Rattle.table.specs.Numbers.{most_depth, most_records, record_length}
 use Rattle.table.specs.Questions.{depth, listed}
 use Rattle.table.specs.Table.{child_byte, encode, encodes, first_node, record_bytes, record_count}
 use Rattle.table.specs.Trees.{Forest, node, ◌▸◌, records, records_in, size}
-use Rattle.table.specs.Laws.Reading.{part-from}
-use Rattle.table.specs.Laws.RoundTrip.{drop-bytes}
+use Rattle.table.proofs.Laws.Reading.{part-from}
+use Rattle.table.proofs.Laws.RoundTrip.{drop-bytes}
 use Rattle.lists.specs.Pairs.{top}
 use Rattle.lists.specs.Streams.{const}
 use Rattle.evaluate.specs.Closed.{closed_in, symbol_free}
 use Rattle.evaluate.specs.Evaluate.{fits, fits_in, start, zeros}
 use Rattle.evaluate.specs.Shown.{Shows, evaluate_children}
-use Rattle.evaluate.specs.Laws.Alike.{zeros-alike}
-use Rattle.evaluate.specs.Laws.Evaluator.{children-found}
-use Rattle.evaluate.specs.Laws.Shown.{first-top}
+use Rattle.evaluate.proofs.Laws.Alike.{zeros-alike}
+use Rattle.evaluate.proofs.Laws.Evaluator.{children-found}
+use Rattle.evaluate.proofs.Laws.Shown.{first-top}
 use Rattle.evaluate.specs.declared.Valued.{Valued}
 use Rattle.simplify.specs.Rules.{is_block, leaf, rule4, when}
 use Rattle.simplify.specs.Steps.{also}
@@ -29,7 +29,7 @@ use Rattle.subtrees.specs.Facts.{Surveyed, marks_each, reach_below, reach_in, sy
 use Rattle.subtrees.specs.Parts.{Simplifiable, trees_at}
 use Rattle.subtrees.specs.Laws.Facts.{closed_in-is, free-is}
 use Rattle.subtrees.specs.Laws.Forests.{Sound, encodes-⧺}
-use Rattle.table.specs.Laws.Tables.{few-records, length-is}
+use Rattle.table.proofs.Laws.Tables.{few-records, length-is}
 use Rattle.subtrees.specs.Laws.Parts.{Here, fits-at, here-at, past-node, records-at, tail_at, top-at}
 use Rattle.subtrees.specs.Laws.Records.{count_at, node_at}
 use Rattle.rules2to7.specs.Nodes.{Block, Choice, Kind, Loop, Node, Plain, Sequence}

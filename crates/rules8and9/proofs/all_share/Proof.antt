@@ -1,7 +1,7 @@
 -- The invariant: the children from record p on are left to be looked at (`Shared`). The measure: how many they are.
 use native.Mathlib.Omega.{arith}
 use borrow.Author.Rules.{rules}
-use Rattle.table.specs.Laws.Tables.{few-records}
+use Rattle.table.proofs.Laws.Tables.{few-records}
 use Rattle.subtrees.specs.Laws.Parts.{Next}
 use Rattle.rules8and9.specs.Laws.Sharing.{Shared, shared-all, shared-next, shared-not, shared_start, shared-turn}
 use Rattle.rules8and9.proofs.all_share.Statement.{statement}

@@ -1,7 +1,7 @@
 -- The invariant: what is written, and then the first children of the pairs that are left, come to all (`Copying`). The measure: the pairs left.
 use native.Mathlib.Omega.{arith}
 use borrow.Author.Rules.{rules}
-use Rattle.table.specs.Laws.Tables.{few-records}
+use Rattle.table.proofs.Laws.Tables.{few-records}
 use Rattle.rules8and9.specs.Laws.Sharing.{Copying, TurnAt, copying-all, copying-next, copying-none, copying-room, copying-turn}
 use Rattle.rules8and9.proofs.copy_firsts.Statement.{statement}
 use Rattle.rules8and9.proofs.copy_firsts.Tie as tie

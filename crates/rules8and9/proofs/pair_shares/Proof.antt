@@ -3,7 +3,7 @@ use mathlib.Core.Path.{sym, ◌∙◌}
 use native.Mathlib.Omega.{arith}
 use borrow.Author.Rules.{rules}
 use borrow.Author.Tests.{not-false}
-use Rattle.table.specs.Laws.Tables.{few-records}
+use Rattle.table.proofs.Laws.Tables.{few-records}
 use Rattle.rules8and9.specs.Laws.Sharing.{PairAt, no-pair, pair-at, pair_same}
 use Rattle.rules8and9.proofs.pair_shares.Statement.{statement}
 use Rattle.rules8and9.proofs.pair_shares.Tie as tie

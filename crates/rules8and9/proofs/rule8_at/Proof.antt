@@ -6,7 +6,7 @@ use lib.ListN.{get_or}
 use borrow.Author.Rules.{rules}
 use Rattle.simplify.specs.Rules.{firsts}
 use Rattle.table.specs.Trees.{records_in}
-use Rattle.table.specs.Laws.Tables.{few-records, length-is}
+use Rattle.table.proofs.Laws.Tables.{few-records, length-is}
 use Rattle.rules8and9.specs.Laws.Sharing.{FitsAt, fits-at, fits-firsts, fits-pairs, no_sharing, sharing-written}
 use Rattle.rules8and9.proofs.rule8_at.Statement.{statement}
 use Rattle.rules8and9.proofs.rule8_at.Tie as tie

@@ -3,7 +3,7 @@ use mathlib.Core.Path.{sym, ◌∙◌}
 use native.Mathlib.Omega.{arith}
 use borrow.Author.Rules.{rules}
 use borrow.Author.Tests.{not-false}
-use Rattle.table.specs.Laws.Tables.{few-records, length-is}
+use Rattle.table.proofs.Laws.Tables.{few-records, length-is}
 use Rattle.rules8and9.specs.Laws.Exit.{ExitAt, exit-at, exit-written, not-idle, other-named}
 use Rattle.rules8and9.proofs.rule9_at.Statement.{statement}
 use Rattle.rules8and9.proofs.rule9_at.Tie as tie

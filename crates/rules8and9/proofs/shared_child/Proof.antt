@@ -6,7 +6,7 @@ use native.Mathlib.Omega.{arith}
 use lib.Dec.{ltb}
 use borrow.Author.Rules.{rules}
 use borrow.Author.Tests.{not-false}
-use Rattle.table.specs.Laws.Tables.{few-records}
+use Rattle.table.proofs.Laws.Tables.{few-records}
 use Rattle.rules8and9.specs.Laws.Sharing.{ChoiceAt, PairAt, choice-at, first-no-pair, no-choice, other, other-read, pair-at, second-open, second-other, second-shared}
 use Rattle.rules8and9.proofs.shared_child.Statement.{statement}
 use Rattle.rules8and9.proofs.shared_child.Tie as tie

@@ -15,12 +15,12 @@ use Rattle.table.specs.Numbers.{fields_length, record_length}
 use Rattle.table.specs.Questions.{listed}
 use Rattle.table.specs.Table.{encode, encodes, no_address, record_bytes, record_count}
 use Rattle.table.specs.Trees.{Forest, Tree, nil, node, ◌▸◌, records, records_in, size, unaddressed, unaddressed_in}
-use Rattle.table.specs.Laws.Addresses.{records-unaddressed, size-unaddressed}
-use Rattle.table.specs.Laws.Reading.{next-count, next-part, none_left}
-use Rattle.table.specs.Laws.RoundTrip.{length-encode}
+use Rattle.table.proofs.Laws.Addresses.{records-unaddressed, size-unaddressed}
+use Rattle.table.proofs.Laws.Reading.{next-count, next-part, none_left}
+use Rattle.table.proofs.Laws.RoundTrip.{length-encode}
 use Rattle.table.specs.declared.Node.{Node}
 use Rattle.simplify.specs.Same.{same}
-use Rattle.simplify.specs.Laws.Same.{bytes_same, same-is}
+use Rattle.simplify.proofs.Laws.Same.{bytes_same, same-is}
 use Rattle.subtrees.specs.Facts.{Extents}
 use Rattle.subtrees.specs.Parts.{subtree}
 use Rattle.subtrees.specs.Laws.Parts.{back_at, here-at, past-inside, top-at}

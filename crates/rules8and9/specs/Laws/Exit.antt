@@ -11,7 +11,7 @@ use Rattle.evaluate.specs.Evaluate.{name}
 use Rattle.simplify.specs.Rules.{exit, rule9, when}
 use Rattle.simplify.specs.Same.{same_kind}
 use Rattle.simplify.specs.Steps.{also}
-use Rattle.simplify.specs.Laws.Same.{kind-is}
+use Rattle.simplify.proofs.Laws.Same.{kind-is}
 use Rattle.table.specs.Numbers.{record_length, whole_run}
 use Rattle.table.specs.Questions.{arity, listed}
 use Rattle.table.specs.Table.{first_node, record_count}

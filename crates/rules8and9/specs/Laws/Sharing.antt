@@ -16,12 +16,12 @@ use Rattle.simplify.specs.Steps.{also}
 use Rattle.table.specs.Numbers.{record_length}
 use Rattle.table.specs.Table.{child_byte, encode, encodes, first_node, record_bytes, record_count}
 use Rattle.table.specs.Trees.{Forest, Tree, nil, node, ◌▸◌, ◌⧺◌, records, records_in, size}
-use Rattle.table.specs.Laws.RoundTrip.{first-⧺}
+use Rattle.table.proofs.Laws.RoundTrip.{first-⧺}
 use Rattle.subtrees.specs.Facts.{Extents, Surveyed, marks_each, reach}
 use Rattle.table.specs.Checking.{IsTable}
 use Rattle.subtrees.specs.Parts.{subtree, trees_at}
 use Rattle.subtrees.specs.Laws.Facts.{closed_at}
-use Rattle.table.specs.Laws.Tables.{length-is}
+use Rattle.table.proofs.Laws.Tables.{length-is}
 use Rattle.subtrees.specs.Laws.Parts.{Here, Next, Row, here-at, kids-row, next_row, node-extent, past-inside, past-node, records-at, row-end, row_last, tail_at, top-at}
 use Rattle.subtrees.specs.Laws.Records.{count_at, node_at}
 use Rattle.table.specs.declared.Limit.{Limit}

@@ -3,7 +3,7 @@ use Rattle.std.specs.Prelude.{◌≡◌, List, ◌++◌, ℕ, length, drop}
 use Rattle.std.proofs.Common.{subst, arith, length-append, length-take}
 use Rattle.io.specs.Counts.{IsPrefixLen}
 use Rattle.table.specs.Table.{encode}
-use Rattle.table.specs.Laws.Asking.{by-refusals}
+use Rattle.table.proofs.Laws.Asking.{by-refusals}
 use Rattle.simplifying.specs.declared.Ending.{Ending}
 use Rattle.simplifying.specs.declared.Simplified.{Simplified}
 use Rattle.writing.specs.Over.{over}

@@ -5,7 +5,7 @@ use Rattle.std.proofs.Common.{◌∙◌, add-zero, add-one, arith, eqb-true}
 use Rattle.std.proofs.lemmas.Bool.{eqb-false}
 use Rattle.table.specs.Table.{encode, encodes, record_count}
 use Rattle.table.specs.Trees.{Forest, nil, node, ◌▸◌, ◌⧺◌, records, records_in}
-use Rattle.table.specs.Laws.Trees.{some-records}
+use Rattle.table.proofs.Laws.Trees.{some-records}
 use Rattle.table.specs.Checking.{IsTable}
 use Rattle.simplify.specs.Steps.{also, rule}
 use Rattle.subtrees.specs.Facts.{Extents}

@@ -6,12 +6,12 @@ use mathlib.Core.List.{List, ◌++◌, append_assoc}
 use Rattle.std.proofs.Math.Option.{Option, none, some}
 use Prim.Native.Nat.{ℕ, ◌+◌, ◌*◌, ◌<◌, ◌≤◌, suc}
 use Rattle.std.proofs.Math.ListN.{length}
-use Rattle.table.specs.Laws.RoundTrip.{length-bytes, length-encodes}
+use Rattle.table.proofs.Laws.RoundTrip.{length-bytes, length-encodes}
 use Rattle.table.specs.Numbers.{record_length}
 use Rattle.table.specs.Table.{encode, encodes, first_node, record_bytes, record_count}
 use Rattle.table.specs.Trees.{Forest, Tree, nil, node, ◌▸◌, ◌⧺◌, records_in, size}
 use Rattle.table.specs.Checking.{IsTable}
-use Rattle.table.specs.Laws.Trees.{some-records}
+use Rattle.table.proofs.Laws.Trees.{some-records}
 use Rattle.booleans.specs.Tests.{◌and◌}
 use Rattle.evaluate.specs.Closed.{closed_in, symbol_free}
 use Rattle.evaluate.specs.Evaluate.{before, zeros}
@@ -20,7 +20,7 @@ use Rattle.simplify.specs.Steps.{also, inside, inside_in, or_else, rule}
 use Rattle.simplify.specs.Same.{same_kind}
 use Rattle.subtrees.specs.Parts.{trees_at}
 use Rattle.subtrees.specs.Laws.Forests.{encodes-⧺}
-use Rattle.table.specs.Laws.Tables.{length-is}
+use Rattle.table.proofs.Laws.Tables.{length-is}
 use Rattle.subtrees.specs.Laws.Parts.{Here, here-at, records-at}
 use Rattle.subtrees.specs.Laws.Records.{node_at}
 use Rattle.writing.specs.Records.{front}

@@ -2,7 +2,7 @@
 use mathlib.Core.Path.{sym, subst}
 use native.Mathlib.Omega.{arith}
 use borrow.Author.Rules.{rules}
-use Rattle.table.specs.Laws.Tables.{not-long}
+use Rattle.table.proofs.Laws.Tables.{not-long}
 use Rattle.subtrees.specs.Parts.{Simplifiable}
 use Rattle.simplifying.specs.Laws.Simplifying.{copy_is, made-is}
 use Rattle.simplifying.proofs.make_steps.Statement.{statement}

@@ -4,7 +4,7 @@ use native.Mathlib.Omega.{arith}
 use borrow.Author.Rules.{rules}
 use Rattle.table.specs.Bytes.{AreBytes}
 use Rattle.table.specs.Checking.{refusal}
-use Rattle.table.specs.Laws.Refusal.{accepted-short}
+use Rattle.table.proofs.Laws.Refusal.{accepted-short}
 use Rattle.simplifying.specs.Laws.Simplifying.{simplify-able, simplify-large, simplify-made, simplify-refused, simplify-short}
 use Rattle.simplifying.proofs.simplify.Statement.{statement}
 use Rattle.simplifying.proofs.simplify.Tie as tie

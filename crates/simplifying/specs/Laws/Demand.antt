@@ -10,18 +10,18 @@ use Rattle.table.specs.Bytes.{AreBytes}
 use Rattle.table.specs.Table.{encode, decode, record_count}
 use Rattle.table.specs.Questions.{Accepted}
 use Rattle.table.specs.Checking.{IsTable, refusal}
-use Rattle.table.specs.Laws.Asking.{Yes, all_yes, by-refusals, numbered}
-use Rattle.table.specs.Laws.Reading.{part-to}
-use Rattle.table.specs.Laws.Refusal.{check-passes}
-use Rattle.table.specs.Laws.RoundTrip.{length-encode}
-use Rattle.table.specs.Laws.Accepted.{is-table}
-use Rattle.table.specs.Laws.NotRefused.{reads-back}
-use Rattle.table.specs.Laws.Tables.{accepted-table, written-table}
+use Rattle.table.proofs.Laws.Asking.{Yes, all_yes, by-refusals, numbered}
+use Rattle.table.proofs.Laws.Reading.{part-to}
+use Rattle.table.proofs.Laws.Refusal.{check-passes}
+use Rattle.table.proofs.Laws.RoundTrip.{length-encode}
+use Rattle.table.proofs.Laws.Accepted.{is-table}
+use Rattle.table.proofs.Laws.NotRefused.{reads-back}
+use Rattle.table.proofs.Laws.Tables.{accepted-table, written-table}
 use Rattle.evaluate.specs.Evaluate.{values_of, figure, fits, zeros}
-use Rattle.evaluate.specs.Laws.Monotone.{figure-mono, fits-zeros}
+use Rattle.evaluate.proofs.Laws.Monotone.{figure-mono, fits-zeros}
 use Rattle.simplify.specs.Steps.{Made, is_none, step, steps}
-use Rattle.simplify.specs.Laws.Keeps.{Kept}
-use Rattle.simplify.specs.Laws.Stepwise.{steps-kept, steps-made, steps-within, steps-spent, steps-finished}
+use Rattle.simplify.proofs.Laws.Keeps.{Kept}
+use Rattle.simplify.proofs.Laws.Stepwise.{steps-kept, steps-made, steps-within, steps-spent, steps-finished}
 use Rattle.quoting.specs.declared.Checked.{Checked}
 use Rattle.quoting.specs.declared.Quote.{Quote}
 use Rattle.simplifying.specs.declared.Simplified.{Simplified}
@@ -32,8 +32,8 @@ use Rattle.simplifying.specs.Answers.{ending_of, finished_number, made, made_ans
 use Rattle.quoting.specs.Promises.{Promises}
 use Rattle.simplifying.specs.Demand.{Asked, Demand3, FigureNumbers, SimplifyNumbers, Sold, quoted_numbers, simplified_numbers, sold_bytes}
 use Rattle.writing.specs.Laws.Over.{long-over, take-over}
-use Rattle.quoting.specs.Laws.Figures.{figure-is, figured}
-use Rattle.values.specs.Laws.Values.{values-carry}
+use Rattle.quoting.proofs.Laws.Figures.{figure-is, figured}
+use Rattle.values.proofs.Laws.Values.{values-carry}
 
 spent-not : (finished : Bool) → finished_number (ending_of finished) ≡ 0 → finished ≡ false
 unfolding ending_of finished_number

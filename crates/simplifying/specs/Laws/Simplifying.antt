@@ -10,19 +10,19 @@ use Rattle.table.specs.Bytes.{AreBytes}
 use Rattle.table.specs.Checking.{refusal}
 use Rattle.table.specs.Numbers.{most_depth}
 use Rattle.table.specs.Table.{decode, encode}
-use Rattle.table.specs.Laws.Accepted.{is-table}
-use Rattle.table.specs.Laws.Refusal.{check-passes, check-stops}
+use Rattle.table.proofs.Laws.Accepted.{is-table}
+use Rattle.table.proofs.Laws.Refusal.{check-passes, check-stops}
 use Rattle.evaluate.specs.Evaluate.{zeros}
 use Rattle.evaluate.specs.Evaluator.{evaluate_node}
-use Rattle.evaluate.specs.Laws.Alike.{zeros-alike}
-use Rattle.evaluate.specs.Laws.Evaluator.{Evaluated, evaluated-table}
+use Rattle.evaluate.proofs.Laws.Alike.{zeros-alike}
+use Rattle.evaluate.proofs.Laws.Evaluator.{Evaluated, evaluated-table}
 use Rattle.simplify.specs.Steps.{steps}
 use Rattle.subtrees.specs.Parts.{Simplifiable}
 use Rattle.stepping.specs.Steps.{Ends}
 use Rattle.writing.specs.Over.{over}
 use Rattle.simplifying.specs.Answers.{ending_of, made, made_answer, simplify_answer, simplify_refusal, simplify_writes}
 use Rattle.writing.specs.Laws.Over.{take-over}
-use Rattle.quoting.specs.Laws.Answers.{refuses, writes}
+use Rattle.quoting.proofs.Laws.Answers.{refuses, writes}
 use Rattle.simplifying.specs.declared.Ending.{Ending}
 use Rattle.simplifying.specs.declared.Simplified.{Simplified}
 

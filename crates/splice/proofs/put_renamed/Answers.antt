@@ -2,7 +2,7 @@ use mathlib.Core.Path.{refl, sym}
 use native.Mathlib.Omega.{arith}
 use borrow.Author.Rules.{rules}
 use Rattle.splice.specs.Laws.Renaming.{all_renamed, next-renamed, none-renamed, some-wanted}
-use Rattle.table.specs.Laws.Tables.{few-records}
+use Rattle.table.proofs.Laws.Tables.{few-records}
 use Rattle.splice.proofs.put_renamed.Goals as goal
 
 pub loop-i-init : goal.loop-i-init

@@ -1,7 +1,7 @@
 use Rattle.std.specs.Prelude.{not}
 use Rattle.std.proofs.Math.Path.{ap}
 use mathlib.Core.Path.{sym}
-use Rattle.table.specs.Laws.Reading.{none_passed, one-passed, one-failed, all-passed, part-long}
+use Rattle.table.proofs.Laws.Reading.{none_passed, one-passed, one-failed, all-passed, part-long}
 use Rattle.splice.specs.Splice.{sendable_first}
 use Rattle.splice.proofs.sendable.Goals as goal
 

@@ -1,6 +1,6 @@
 -- The invariant: the records before i passed the test. The measure: the records left.
 use Prim.Native.Nat.{◌-◌}
-use Rattle.table.specs.Laws.Reading.{Passed}
+use Rattle.table.proofs.Laws.Reading.{Passed}
 use Rattle.splice.specs.Splice.{sendable_first}
 use Rattle.splice.proofs.sendable.Given as goal
 

@@ -15,18 +15,18 @@ use Rattle.table.specs.Questions.{arity, listed, listed_in, loops, loops_in}
 use Rattle.table.specs.Bytes.{to_bytes}
 use Rattle.table.specs.Table.{child_byte, decode, encode, encodes, first_node, form_trees, limit_num, loop_byte, record_bytes, record_count}
 use Rattle.table.specs.Trees.{Forest, Tree, around, nil, node, records, records_in, rest, size, ◌▸◌}
-use Rattle.table.specs.Laws.RoundTrip.{WritesNode, Writes, children-bytes, drop-bytes, head_bytes}
+use Rattle.table.proofs.Laws.RoundTrip.{WritesNode, Writes, children-bytes, drop-bytes, head_bytes}
 use Rattle.table.specs.Checking.{IsTable}
-use Rattle.table.specs.Laws.NotRefused.{tree-writes, whole-form}
-use Rattle.table.specs.Laws.Reading.{Wanted, name-byte, next-count, next-part, part-from, wants-next, wants-none, wants-one}
-use Rattle.table.specs.Laws.Survey.{around-rest}
-use Rattle.table.specs.Laws.Trees.{some-loops}
+use Rattle.table.proofs.Laws.NotRefused.{tree-writes, whole-form}
+use Rattle.table.proofs.Laws.Reading.{Wanted, name-byte, next-count, next-part, part-from, wants-next, wants-none, wants-one}
+use Rattle.table.proofs.Laws.Survey.{around-rest}
+use Rattle.table.proofs.Laws.Trees.{some-loops}
 use Rattle.writing.specs.Records.{Appended, front, node_of, slice}
 use Rattle.splice.specs.Nodes.{AtMost, Block, Choice, Kind, Limit, Loop, Node, Sequence, Unlimited}
 use Rattle.splice.specs.Graft.{rename, rename_in, renamed_limit, renamed_name}
 use Rattle.splice.specs.Renaming.{entered, loop_room, renamed_record, renamed_records, renamed_table, still_around, stack}
 use Rattle.splice.specs.Laws.Sizes.{size-renamed}
-use Rattle.table.specs.Laws.Tables.{count-is, whole-table}
+use Rattle.table.proofs.Laws.Tables.{count-is, whole-table}
 
 -- ---- the loops around
 

@@ -12,10 +12,10 @@ use Rattle.table.specs.Questions.{arity, listed, listed_in, paired_block, single
 use Rattle.table.specs.Table.{decode, each, encode, encodes, first_node, record_bytes, record_count}
 use Rattle.table.specs.Trees.{Forest, Tree, every_node, every_node_in, nil, node, records, records_in, size, ◌▸◌}
 use Rattle.table.specs.Checking.{IsTable}
-use Rattle.table.specs.Laws.EveryNode.{table-nodes}
-use Rattle.table.specs.Laws.RoundTrip.{WritesNode, Writes, drop-bytes, head_bytes, length-bytes}
-use Rattle.table.specs.Laws.NotRefused.{tree-writes}
-use Rattle.table.specs.Laws.Tables.{count-is, whole-table}
+use Rattle.table.proofs.Laws.EveryNode.{table-nodes}
+use Rattle.table.proofs.Laws.RoundTrip.{WritesNode, Writes, drop-bytes, head_bytes, length-bytes}
+use Rattle.table.proofs.Laws.NotRefused.{tree-writes}
+use Rattle.table.proofs.Laws.Tables.{count-is, whole-table}
 use Rattle.splice.specs.Nodes.{Kind, Limit, Node}
 use Rattle.splice.specs.Graft.{graft, graft_in, in_place, is_symbol, rename, uses, uses_in}
 use Rattle.splice.specs.Splice.{occurs_first, occurrences, occurrences_in, occurrences_of, place_bytes, sendable_first, splice, splice_first, splice_records}

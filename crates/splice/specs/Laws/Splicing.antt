@@ -9,9 +9,9 @@ use native.Mathlib.Omega.{arith}
 use Rattle.table.specs.Numbers.{record_length}
 use Rattle.table.specs.Table.{decode, first_node, record_bytes, record_count}
 use Rattle.table.specs.Checking.{IsTable}
-use Rattle.table.specs.Laws.Reading.{next-count, next-part, none_left}
-use Rattle.table.specs.Laws.RoundTrip.{length-bytes, length-encode}
-use Rattle.table.specs.Laws.Tables.{count-is}
+use Rattle.table.proofs.Laws.Reading.{next-count, next-part, none_left}
+use Rattle.table.proofs.Laws.RoundTrip.{length-bytes, length-encode}
+use Rattle.table.proofs.Laws.Tables.{count-is}
 use Rattle.writing.specs.Records.{Appended, front, node_of, slice}
 use Rattle.splice.specs.Nodes.{Block, Limit, Loop, Node, Plain, Unlimited}
 use Rattle.splice.specs.Graft.{is_symbol, rename}

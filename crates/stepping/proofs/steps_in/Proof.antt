@@ -5,7 +5,7 @@ use native.Mathlib.Omega.{arith}
 use borrow.Author.Rules.{rules}
 use lib.ListN.{length, take}
 use lib.Seq.{length-take-le}
-use Rattle.table.specs.Laws.Reading.{part-to}
+use Rattle.table.proofs.Laws.Reading.{part-to}
 use Rattle.stepping.specs.Laws.Budget.{Stage, Turn, going-as, going_start, none-settled, stage-ends, stage-short, step-ready, survey-ready, turn-of}
 use Rattle.stepping.proofs.steps_in.Statement.{statement}
 use Rattle.stepping.proofs.steps_in.Tie as tie

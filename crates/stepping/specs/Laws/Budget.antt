@@ -9,13 +9,13 @@ use Rattle.table.specs.Numbers.{record_length}
 use Rattle.table.specs.Questions.{Accepted}
 use Rattle.table.specs.Table.{decode, encode, encodes, record_count}
 use Rattle.table.specs.Trees.{Tree, nil, ◌▸◌, records, records_in}
-use Rattle.table.specs.Laws.NotRefused.{reads-back}
-use Rattle.table.specs.Laws.Reading.{part-to}
-use Rattle.table.specs.Laws.RoundTrip.{length-encode}
+use Rattle.table.proofs.Laws.NotRefused.{reads-back}
+use Rattle.table.proofs.Laws.Reading.{part-to}
+use Rattle.table.proofs.Laws.RoundTrip.{length-encode}
 use Rattle.evaluate.specs.Evaluate.{fits, zeros}
 use Rattle.simplify.specs.Steps.{Made, also, is_none, onward, step, steps}
-use Rattle.simplify.specs.Laws.Keeps.{Kept}
-use Rattle.simplify.specs.Laws.Stepping.{Steps, ends, goes, last, step-steps}
+use Rattle.simplify.proofs.Laws.Keeps.{Kept}
+use Rattle.simplify.proofs.Laws.Stepping.{Steps, ends, goes, last, step-steps}
 use Rattle.subtrees.specs.Facts.{Extents, Surveyed, marks_each}
 use Rattle.subtrees.specs.Parts.{Simplifiable}
 use Rattle.subtrees.specs.Laws.Parts.{extent-some}

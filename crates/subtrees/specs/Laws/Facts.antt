@@ -10,10 +10,10 @@ use Rattle.table.specs.Numbers.{most_loops, whole_run}
 use Rattle.table.specs.Questions.{paired_block, depth, depth_in, limit_in_range, listed, listed_in}
 use Rattle.table.specs.Table.{loop_byte}
 use Rattle.table.specs.Trees.{Forest, Tree, nil, node, ◌▸◌, around, records, records_in, rest}
-use Rattle.table.specs.Laws.Trees.{some-depth}
+use Rattle.table.proofs.Laws.Trees.{some-depth}
 use Rattle.evaluate.specs.Closed.{closed, closed_in, stays, symbol_free, symbol_free_in}
 use Rattle.evaluate.specs.Evaluate.{name, name_in, outward, seen}
-use Rattle.evaluate.specs.Laws.Monotone.{name_in-le}
+use Rattle.evaluate.proofs.Laws.Monotone.{name_in-le}
 use Rattle.subtrees.specs.Nodes.{AtMost, Block, Choice, Kind, Limit, Loop, Sequence, Unlimited}
 use Rattle.subtrees.specs.Facts.{below_of, child_in, is_loop, no_child, outer, paired_reach, passed, reach, reach_in, symbols, symbols_in}
 use Rattle.subtrees.specs.declared.Below.{Below}

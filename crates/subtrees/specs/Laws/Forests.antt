@@ -5,11 +5,11 @@ use Rattle.table.specs.Numbers.{most_depth, record_length}
 use Rattle.table.specs.Questions.{depth, depth_in}
 use Rattle.table.specs.Table.{encode, encodes, forest, forest_by}
 use Rattle.table.specs.Trees.{Forest, Tree, nil, node, ◌▸◌, ◌⧺◌, records, records_in, rest}
-use Rattle.table.specs.Laws.RoundTrip.{Writes, WritesAll, drop-bytes, forest-all}
-use Rattle.table.specs.Laws.NotRefused.{tree-writes}
+use Rattle.table.proofs.Laws.RoundTrip.{Writes, WritesAll, drop-bytes, forest-all}
+use Rattle.table.proofs.Laws.NotRefused.{tree-writes}
 use Rattle.booleans.specs.Laws.{both, join-and}
 use Rattle.evaluate.specs.Evaluate.{Values, fits, fits_in}
-use Rattle.evaluate.specs.Laws.Evaluator.{Fair, FairIn, fair-below, fair-first, fair-rest}
+use Rattle.evaluate.proofs.Laws.Evaluator.{Fair, FairIn, fair-below, fair-first, fair-rest}
 use Rattle.subtrees.specs.Nodes.{Node, Kind}
 
 -- ---- one row after another

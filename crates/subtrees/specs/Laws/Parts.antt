@@ -10,9 +10,9 @@ use Rattle.booleans.specs.Laws.{join-and}
 use Rattle.table.specs.Numbers.{record_length}
 use Rattle.table.specs.Table.{decode, encode, encodes, record_bytes, record_count, top}
 use Rattle.table.specs.Trees.{Forest, Tree, nil, node, ◌▸◌, ◌⧺◌, records, records_in, size}
-use Rattle.table.specs.Laws.RoundTrip.{length-encodes}
-use Rattle.table.specs.Laws.Tables.{count-is, length-is}
-use Rattle.table.specs.Laws.Trees.{some-records}
+use Rattle.table.proofs.Laws.RoundTrip.{length-encodes}
+use Rattle.table.proofs.Laws.Tables.{count-is, length-is}
+use Rattle.table.proofs.Laws.Trees.{some-records}
 use Rattle.evaluate.specs.Evaluate.{fits, fits_in, zeros}
 use Rattle.subtrees.specs.Nodes.{Node}
 use Rattle.table.specs.Checking.{IsTable}

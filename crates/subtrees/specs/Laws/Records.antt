@@ -3,8 +3,8 @@ use Rattle.std.specs.Prelude.{◌≡◌, List, ℕ, ◌*◌, drop}
 use Rattle.table.specs.Numbers.{record_length}
 use Rattle.table.specs.Table.{child_byte, first_node}
 use Rattle.table.specs.Trees.{node, size}
-use Rattle.table.specs.Laws.NotRefused.{tree-writes}
-use Rattle.table.specs.Laws.RoundTrip.{Writes, WritesNode, children-bytes, head_bytes}
+use Rattle.table.proofs.Laws.NotRefused.{tree-writes}
+use Rattle.table.proofs.Laws.RoundTrip.{Writes, WritesNode, children-bytes, head_bytes}
 use Rattle.subtrees.specs.Laws.Parts.{Here}
 
 module _ (b : List ℕ) (i : ℕ) (h : Here b i) where

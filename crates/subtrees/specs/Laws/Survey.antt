@@ -21,7 +21,7 @@ use Rattle.table.specs.Checking.{IsTable}
 use Rattle.subtrees.specs.Parts.{subtree, trees_at}
 use Rattle.subtrees.specs.declared.Below.{Below}
 use Rattle.subtrees.specs.Laws.Facts.{all-children, limit-byte, more_children}
-use Rattle.table.specs.Laws.Tables.{few-records}
+use Rattle.table.proofs.Laws.Tables.{few-records}
 use Rattle.subtrees.specs.Laws.Parts.{First, Here, Row, first-row, here-at, kids-row, records-at, row-end, top-at}
 use Rattle.subtrees.specs.Laws.Records.{count_at, node_at}
 

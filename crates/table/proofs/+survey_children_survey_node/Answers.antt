@@ -3,8 +3,8 @@ use Rattle.std.proofs.Common.{◌∙◌, ◌*◌, arith}
 use borrow.Author.Tests.{not-true, not-false}
 use Rattle.table.specs.Numbers.{record_length}
 use Rattle.table.specs.Survey.{survey_node}
-use Rattle.table.specs.Laws.Reading.{part-from}
-use Rattle.table.specs.Laws.Survey.{node-deep, node-short, node-looped, node-read, more-done, more-unfit, more-fits, small-next}
+use Rattle.table.proofs.Laws.Reading.{part-from}
+use Rattle.table.proofs.Laws.Survey.{node-deep, node-short, node-looped, node-read, more-done, more-unfit, more-fits, small-next}
 use Rattle.table.proofs.+survey_children_survey_node.Goals as goal
 
 pub survey_children-returns-then-not-child-clause-value : goal.survey_children-returns-then-not-child-clause-value

@@ -2,7 +2,7 @@ use mathlib.Core.Path.{ap, ◌∙◌}
 use Prim.Native.Nat.{◌*◌}
 use Rattle.table.specs.Numbers.{record_length}
 use Rattle.table.specs.Table.{child_byte}
-use Rattle.table.specs.Laws.Reading.{part-from}
+use Rattle.table.proofs.Laws.Reading.{part-from}
 use Rattle.table.proofs.children_at.Goals as goal
 
 pub returns : goal.returns

@@ -2,7 +2,7 @@ use native.Mathlib.Omega.{arith}
 -- The arms of 0 to 2 compute; every other byte is a loop.
 use borrow.Author.Rules.{rules}
 use Rattle.table.specs.Table.{kind_from}
-use Rattle.table.specs.Laws.Reading.{is_loop}
+use Rattle.table.proofs.Laws.Reading.{is_loop}
 use Rattle.table.proofs.kind_from.Goals as goal
 
 pub returns-in-0 : goal.returns-in-0

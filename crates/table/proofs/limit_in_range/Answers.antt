@@ -1,5 +1,5 @@
 use mathlib.Core.Path.{sym}
-use Rattle.table.specs.Laws.Reading.{limit-count}
+use Rattle.table.proofs.Laws.Reading.{limit-count}
 use Rattle.table.proofs.limit_in_range.Goals as goal
 
 pub returns : goal.returns

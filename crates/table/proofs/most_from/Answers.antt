@@ -1,7 +1,7 @@
 use native.Mathlib.Omega.{arith}
 -- The arms of 0 and 1 compute; any other flags are a triangular number's.
 use Rattle.table.specs.Table.{most_from}
-use Rattle.table.specs.Laws.Reading.{is-triangular}
+use Rattle.table.proofs.Laws.Reading.{is-triangular}
 use Rattle.table.proofs.most_from.Goals as goal
 
 pub returns-in-0 : goal.returns-in-0

@@ -3,7 +3,7 @@ use Prim.Native.Nat.{◌*◌}
 use lib.ListN.{drop}
 use lib.Seq.{get_or-drop}
 use Rattle.table.specs.Numbers.{record_length}
-use Rattle.table.specs.Laws.Reading.{name-byte}
+use Rattle.table.proofs.Laws.Reading.{name-byte}
 use Rattle.table.proofs.name_at.Goals as goal
 
 pub returns : goal.returns

@@ -1,6 +1,6 @@
 -- 0 computes; every other flag is a symbol.
 use Rattle.table.specs.Table.{num_from}
-use Rattle.table.specs.Laws.Reading.{is-symbol}
+use Rattle.table.proofs.Laws.Reading.{is-symbol}
 use Rattle.table.proofs.number_from.Goals as goal
 
 pub returns-then-flag-eq0 : goal.returns-then-flag-eq0

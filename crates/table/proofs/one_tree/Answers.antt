@@ -1,6 +1,6 @@
 use mathlib.Core.Path.{sym}
 use Rattle.table.specs.Checking.{question4}
-use Rattle.table.specs.Laws.Reading.{wants-one, wants-next, wants-none, wants-end, part-long}
+use Rattle.table.proofs.Laws.Reading.{wants-one, wants-next, wants-none, wants-end, part-long}
 use Rattle.table.proofs.one_tree.Goals as goal
 
 pub loop-i-init : goal.loop-i-init

@@ -1,6 +1,6 @@
 -- The invariant: the records from i on are to form the wanted trees. The measure: the records left.
 use Prim.Native.Nat.{◌-◌}
-use Rattle.table.specs.Laws.Reading.{Wanted}
+use Rattle.table.proofs.Laws.Reading.{Wanted}
 use Rattle.table.proofs.one_tree.Given as goal
 
 abbrev pub invariant-loop-i : goal.invariant-loop-i

@@ -1,6 +1,6 @@
 -- 0 computes; every other byte is a limit, of the number that is read.
 use Rattle.table.specs.Table.{first_node, limit_from}
-use Rattle.table.specs.Laws.Reading.{is-limit}
+use Rattle.table.proofs.Laws.Reading.{is-limit}
 use Rattle.table.proofs.read_limit.Goals as goal
 
 pub returns-then-name-eq0 : goal.returns-then-name-eq0

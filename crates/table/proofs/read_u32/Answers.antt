@@ -1,5 +1,5 @@
 -- The four bytes that are read are the field.
-use Rattle.table.specs.Laws.Reading.{field-4}
+use Rattle.table.proofs.Laws.Reading.{field-4}
 use Rattle.table.proofs.read_u32.Goals as goal
 
 pub returns : goal.returns

@@ -1,6 +1,6 @@
 -- A field of eight bytes is two of four.
 use native.Mathlib.Omega.{arith}
-use Rattle.table.specs.Laws.Reading.{field-split}
+use Rattle.table.proofs.Laws.Reading.{field-split}
 use Rattle.table.proofs.read_u64.Goals as goal
 
 pub returns : goal.returns

@@ -2,7 +2,7 @@ use Rattle.std.specs.Prelude.{not}
 use Rattle.std.proofs.Math.Path.{ap}
 use mathlib.Core.Path.{sym}
 use Rattle.table.specs.Checking.{record_in_range, question3}
-use Rattle.table.specs.Laws.Reading.{none_passed, one-passed, one-failed, all-passed, part-long}
+use Rattle.table.proofs.Laws.Reading.{none_passed, one-passed, one-failed, all-passed, part-long}
 use Rattle.table.proofs.records_in_range.Goals as goal
 
 pub loop-i-init : goal.loop-i-init

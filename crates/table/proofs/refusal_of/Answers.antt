@@ -6,8 +6,8 @@ use native.Mathlib.Omega.{arith}
 use borrow.Author.Tests.{not-true, not-false}
 use Rattle.booleans.specs.Laws.{is_T}
 use Rattle.table.specs.Bytes.{AreBytes}
-use Rattle.table.specs.Laws.Survey.{Answers, answers}
-use Rattle.table.specs.Laws.Refusal.{short, no-1, no-2, no-3, no-4, surveyed}
+use Rattle.table.proofs.Laws.Survey.{Answers, answers}
+use Rattle.table.proofs.Laws.Refusal.{short, no-1, no-2, no-3, no-4, surveyed}
 use Rattle.table.proofs.refusal_of.Goals as goal
 
 pub returns-then-not-length_allowed : goal.returns-then-not-length_allowed

@@ -2,8 +2,8 @@
 use mathlib.Core.Path.{ap, ◌∙◌}
 use native.Mathlib.Omega.{arith}
 use lib.ListN.{get_or, length}
-use Rattle.triangular.specs.Laws.Entries.{entries-long, entry_of}
-use Rattle.triangular.specs.Laws.Rule.{triangular-most}
+use Rattle.triangular.proofs.Laws.Entries.{entries-long, entry_of}
+use Rattle.triangular.proofs.Laws.Rule.{triangular-most}
 use Rattle.triangular.proofs.look_up.Goals as goal
 
 pub bounds-table-place_of : goal.bounds-table-place_of

@@ -4,7 +4,7 @@ use native.Mathlib.Omega.{arith}
 use lib.ListN.{length-set}
 use Rattle.triangular.specs.Triangular.{rule}
 use Rattle.triangular.specs.Entries.{entries}
-use Rattle.triangular.specs.Laws.Entries.{all-filled, none_filled, one-filled}
+use Rattle.triangular.proofs.Laws.Entries.{all-filled, none_filled, one-filled}
 use Rattle.triangular.proofs.with_triangles.Goals as goal
 
 pub loop-i-init : goal.loop-i-init

@@ -3,7 +3,7 @@ use Rattle.std.proofs.Math.Path.{ap}
 use mathlib.Core.Path.{sym}
 use Rattle.table.specs.Table.{without_four}
 use Rattle.values.specs.Flags.{flag_free}
-use Rattle.table.specs.Laws.Reading.{none_passed, one-passed, one-failed, all-passed, part-long}
+use Rattle.table.proofs.Laws.Reading.{none_passed, one-passed, one-failed, all-passed, part-long}
 use Rattle.values.proofs.flag_free.Goals as goal
 
 pub loop-i-init : goal.loop-i-init

@@ -1,7 +1,7 @@
 -- The invariant: the records before i passed the test. The measure: the records left.
 use Prim.Native.Nat.{◌-◌}
 use Rattle.table.specs.Table.{without_four}
-use Rattle.table.specs.Laws.Reading.{Passed}
+use Rattle.table.proofs.Laws.Reading.{Passed}
 use Rattle.values.proofs.flag_free.Given as goal
 
 abbrev pub invariant-loop-i : goal.invariant-loop-i

@@ -1,7 +1,7 @@
 use mathlib.Core.Path.{refl}
 use native.Mathlib.Numerals.{add-one}
 use native.Mathlib.Omega.{arith}
-use Rattle.values.specs.Laws.Values.{all-ordered, one-exceeds, one-ordered}
+use Rattle.values.proofs.Laws.Values.{all-ordered, one-exceeds, one-ordered}
 use Rattle.values.proofs.laters_low.Goals as goal
 
 pub loop-s-init : goal.loop-s-init

@@ -2,7 +2,7 @@
 use Prim.Native.Nat.{◌-◌, ◌≤◌}
 use Rattle.table.specs.Numbers.{how_many_symbols}
 use Rattle.evaluate.specs.Evaluate.{values_of}
-use Rattle.values.specs.Laws.Values.{Ordered}
+use Rattle.values.proofs.Laws.Values.{Ordered}
 use Rattle.values.proofs.laters_low.Given as goal
 
 abbrev pub invariant-loop-s : goal.invariant-loop-s

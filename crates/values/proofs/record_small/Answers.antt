@@ -2,7 +2,7 @@
 use mathlib.Core.Path.{refl, sym, ◌∙◌}
 use Rattle.table.specs.Limits.{limit_holds}
 use Rattle.values.specs.Values.{record_small}
-use Rattle.values.specs.Laws.Values.{small-unflagged}
+use Rattle.values.proofs.Laws.Values.{small-unflagged}
 use Rattle.values.proofs.record_small.Goals as goal
 
 pub returns-then-without_four : goal.returns-then-without_four

@@ -2,8 +2,8 @@ use Rattle.std.specs.Prelude.{not}
 use Rattle.std.proofs.Math.Path.{ap}
 use mathlib.Core.Path.{sym, ◌∙◌}
 use Rattle.values.specs.Values.{question13}
-use Rattle.table.specs.Laws.Reading.{none_passed, one-passed, one-failed, all-passed, part-long}
-use Rattle.values.specs.Laws.Values.{free-small}
+use Rattle.table.proofs.Laws.Reading.{none_passed, one-passed, one-failed, all-passed, part-long}
+use Rattle.values.proofs.Laws.Values.{free-small}
 use Rattle.values.proofs.triangles_small.Goals as goal
 
 pub returns-then-free : goal.returns-then-free

@@ -2,7 +2,7 @@
 use Prim.Native.Nat.{◌-◌}
 use Rattle.evaluate.specs.Evaluate.{values_of}
 use Rattle.values.specs.Values.{record_small}
-use Rattle.table.specs.Laws.Reading.{Passed}
+use Rattle.table.proofs.Laws.Reading.{Passed}
 use Rattle.values.proofs.triangles_small.Given as goal
 
 abbrev pub invariant-loop-i : goal.invariant-loop-i

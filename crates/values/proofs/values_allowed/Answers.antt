@@ -1,6 +1,6 @@
 use native.Mathlib.Numerals.{add-one}
 use native.Mathlib.Omega.{arith}
-use Rattle.values.specs.Laws.Values.{none-asked, one-asked, one-over, all_asked, other_length}
+use Rattle.values.proofs.Laws.Values.{none-asked, one-asked, one-over, all_asked, other_length}
 use Rattle.values.proofs.values_allowed.Goals as goal
 
 pub returns-then-values-ne-HOW_MANY_VALUES : goal.returns-then-values-ne-HOW_MANY_VALUES

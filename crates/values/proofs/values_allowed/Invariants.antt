@@ -3,7 +3,7 @@ use mathlib.Core.Path.{◌≡◌}
 use Prim.Native.Nat.{◌-◌, ◌≤◌}
 use lib.ListN.{length}
 use Rattle.table.specs.Numbers.{how_many_values}
-use Rattle.values.specs.Laws.Values.{Asked}
+use Rattle.values.proofs.Laws.Values.{Asked}
 use Rattle.values.proofs.values_allowed.Given as goal
 
 abbrev pub invariant-loop-i : goal.invariant-loop-i

@@ -1,7 +1,7 @@
 use mathlib.Core.Path.{refl, sym, ◌∙◌}
 use borrow.Author.Rules.{rules}
 use Rattle.former.specs.Converted.{conversion_length, conversion_refusal}
-use Rattle.formerquotes.specs.Laws.Agreed.{agrees}
+use Rattle.formerquotes.proofs.Laws.Agreed.{agrees}
 use Rattle.volefleece.proofs.vf_convert.Statement.{statement}
 use Rattle.volefleece.proofs.vf_convert.Tie as tie
 

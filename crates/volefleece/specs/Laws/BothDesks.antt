@@ -2,7 +2,7 @@
 use Rattle.std.specs.Prelude.{List, ◌≡◌, refl, ℕ, ◌-◌, ◌≤◌, drop, length, take}
 use Rattle.std.proofs.Common.{subst, arith}
 use Rattle.table.specs.Bytes.{AreBytes}
-use Rattle.table.specs.Laws.Reading.{part-to}
+use Rattle.table.proofs.Laws.Reading.{part-to}
 use Rattle.quoting.specs.Answers.{check_answer, figure_answer}
 use Rattle.quoting.specs.declared.Quote.{Quote}
 use Rattle.simplifying.specs.Answers.{simplify_answer, simplify_writes}

@@ -2,9 +2,9 @@
 use Rattle.std.proofs.Common.{◌*◌, arith}
 use borrow.Author.Tests.{not-true, not-false}
 use Rattle.table.specs.Numbers.{record_length}
-use Rattle.table.specs.Laws.Reading.{part-from}
+use Rattle.table.proofs.Laws.Reading.{part-from}
 use Rattle.evaluate.specs.Evaluate.{values_of}
-use Rattle.evaluate.specs.Laws.Shown.{unfit-shown}
+use Rattle.evaluate.proofs.Laws.Shown.{unfit-shown}
 use Rattle.walking.proofs.Steps.{node-deep, node-short}
 use Rattle.walking.proofs.Walk.{all_done, block-shown, child-ready, children-limitable, children-shown, next-ends, next_fits, none_yet}
 use Rattle.walking.proofs.+evaluate_children_evaluate_node.Goals as goal

@@ -5,7 +5,7 @@ use Rattle.std.proofs.Common.{ap₂, ◌∙◌, arith, take-add, take-take}
 use Rattle.std.proofs.Math.Seq.{drop-append_seam, take_all}
 use Rattle.table.specs.Bytes.{AreBytes, from_bytes, to_bytes}
 use Rattle.table.specs.Table.{field}
-use Rattle.table.specs.Laws.Canonical.{field_back}
+use Rattle.table.proofs.Laws.Canonical.{field_back}
 use Rattle.words.specs.Words.{Compared, SameWords, word, word_length}
 use Rattle.words.specs.declared.Comparison.{Comparison}
 use Rattle.words.specs.declared.Comparison.TheVariants.{Differ, Equal}

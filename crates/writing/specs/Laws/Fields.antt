@@ -10,7 +10,7 @@ use Rattle.table.specs.Table.{flag, kind_byte, record_bytes, value_num}
 use Rattle.table.specs.declared.Kind.TheVariants.{Block}
 use Rattle.table.specs.declared.Node.{Node}
 use Rattle.table.specs.declared.Number.TheVariants.{Plain}
-use Rattle.table.specs.Laws.Bytes.{length_to}
+use Rattle.table.proofs.Laws.Bytes.{length_to}
 use Rattle.writing.specs.Fields.{with_field, with_value}
 
 -- ---- one byte after the other
