@@ -12,16 +12,20 @@ use Rattle.values.proofs.Laws.Values.{values-long}
 use Rattle.quoting.proofs.list.Goals as goal
 
 pub returns-then-number-ne0 : goal.returns-then-number-ne0
-returns-then-number-ne0 c = list-kept _ _ _ (list-refused _ _ _ c.refusal_of-number.ensures c.if-number-ne0.true)
+returns-then-number-ne0 c =
+    let k = list-kept c.args.table.now c.args.values.now c.args.out.now (list-refused _ _ _ c.refusal_of-number.ensures c.if-number-ne0.true) in
+    record { answer = k.0; written = k.1.0; promise = k.1.1 }
 
 pub returns-then-out-lt-LIST_ROOM : goal.returns-then-out-lt-LIST_ROOM
 returns-then-out-lt-LIST_ROOM c =
-    list-kept _ _ _ (list-short _ _ _ (sym c.refusal_of-number.ensures ∙ c.if-number-ne0.false) c.if-out-lt-LIST_ROOM.true)
+    let k = list-kept c.args.table.now c.args.values.now c.args.out.now (list-short _ _ _ (sym c.refusal_of-number.ensures ∙ c.if-number-ne0.false) c.if-out-lt-LIST_ROOM.true) in
+    record { answer = k.0; written = k.1.0; promise = k.1.1 }
 
 pub returns-then-question-ne0 : goal.returns-then-question-ne0
 returns-then-question-ne0 c =
-    list-kept _ _ _
-    (list-no _ _ _ (sym c.refusal_of-number.ensures ∙ c.if-number-ne0.false) c.if-out-lt-LIST_ROOM.false (quote-values _ _ c.values_refusal-question.ensures c.if-question-ne0.true) c.if-question-ne0.true)
+    let k = list-kept c.args.table.now c.args.values.now c.args.out.now
+    (list-no _ _ _ (sym c.refusal_of-number.ensures ∙ c.if-number-ne0.false) c.if-out-lt-LIST_ROOM.false (quote-values _ _ c.values_refusal-question.ensures c.if-question-ne0.true) c.if-question-ne0.true) in
+    record { answer = k.0; written = k.1.0; promise = k.1.1 }
 
 pub walk-found-requires : goal.walk-found-requires
 walk-found-requires c =
@@ -46,9 +50,10 @@ returns-then-found c =
     let walk = c.walk-found.ensures in
     let is = walk.shows.list c.if-found.true in
     let bytes : AreBytes c.args.table.now = λ i. omega (arith, c.type_inv.table i) in
-    list-kept _ _ _
+    let k = list-kept c.args.table.now c.args.values.now c.args.out.now
     (list-found _ _ _ (sym c.refusal_of-number.ensures ∙ c.if-number-ne0.false) c.if-out-lt-LIST_ROOM.false bytes (sym c.values_refusal-question.ensures ∙ c.if-question-ne0.false) _ walk.agree walk.same (sym walk.shows.fits ∙ c.if-found.true)
-    (list-width _ _ is) (list-numbers _ _ walk.shows.room is) c.write_front.ensures)
+    (list-width _ _ is) (list-numbers _ _ walk.shows.room is) c.write_front.ensures) in
+    record { answer = k.0; written = k.1.0; promise = k.1.1 }
 
 pub returns-else-found : goal.returns-else-found
 returns-else-found c =
@@ -56,4 +61,5 @@ returns-else-found c =
     let bytes : AreBytes c.args.table.now = λ i. omega (arith, c.type_inv.table i) in
     let no = sym c.refusal_of-number.ensures ∙ c.if-number-ne0.false in
     let large = quote-large _ _ no bytes (sym c.values_refusal-question.ensures ∙ c.if-question-ne0.false) _ walk.agree walk.same (sym walk.shows.fits ∙ c.if-found.false) in
-    list-kept _ _ _ (list-no _ _ _ no c.if-out-lt-LIST_ROOM.false large (λ z. omega (arith, z)))
+    let k = list-kept c.args.table.now c.args.values.now c.args.out.now (list-no _ _ _ no c.if-out-lt-LIST_ROOM.false large (λ z. omega (arith, z))) in
+    record { answer = k.0; written = k.1.0; promise = k.1.1 }
