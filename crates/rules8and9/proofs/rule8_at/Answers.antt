@@ -18,16 +18,9 @@ found c =
     let start = c in
     fits-at _ _ start.requires.fact_1.sizes _ _ start.requires.fact_2 c.shared_child-second.ensures c.if-second-eq0.false
 
--- and the record that each copy reaches
-firsts-end : (c : After-copy_firsts-firsts) → c.copy_firsts-firsts.result ≡ 2 + records_in (firsts (found c).kids)
-firsts-end c =
-    let tops = c in
-    let count = tops in
-    omega (arith, c.copy_firsts-firsts.ensures.0, tops.put_tops-tops.ensures.0, ap records_in (fits-firsts (found count) _ count.children_at-count.ensures.0))
-
-second-end : (c : After-copy_records-at) → let f = c in
-    c.copy_records-at.result ≡ 2 + records_in (firsts (found f).kids) + get_or f.args.extents.now f.shared_child-second.result 0
-second-end c = omega (arith, c.copy_records-at.ensures.0, firsts-end c)
+-- and the record that the copies of the firsts reach
+firsts-end : (c : After-copy_firsts-firsts) (x : FitsAt c.args.table.now c.args.extents.now c.args.i c.shared_child-second.result) → c.copy_firsts-firsts.result ≡ 2 + records_in (firsts x.kids)
+firsts-end c x = omega (arith, c.copy_firsts-firsts.ensures.0, c.put_tops-tops.ensures.0, ap records_in (fits-firsts x _ c.children_at-count.ensures.0))
 
 pub returns-then-second-eq0 : goal.returns-then-second-eq0
 returns-then-second-eq0 c =
@@ -63,7 +56,7 @@ bounds-extents-second c = (found (goal.at.bounds-extents-second c).Else-second-e
 pub copy_records-at-requires : goal.copy_records-at-requires
 copy_records-at-requires c =
     let x = found (goal.at.copy_records-at-requires c).Else-second-eq0 in
-    omega (arith, x.small, x.inner, length-is _ x.table, c.requires.fact_3, firsts-end (goal.at.copy_records-at-requires c).After-copy_firsts-firsts, c.put_tops-tops.auto, c.copy_firsts-firsts.auto)
+    omega (arith, x.small, x.inner, length-is _ x.table, c.requires.fact_3, firsts-end (goal.at.copy_records-at-requires c).After-copy_firsts-firsts x, c.put_tops-tops.auto, c.copy_firsts-firsts.auto)
 
 pub overflow_add-from : goal.overflow_add-from
 overflow_add-from c =
@@ -73,7 +66,7 @@ overflow_add-from c =
 pub copy_rest-requires : goal.copy_rest-requires
 copy_rest-requires c =
     let x = found (goal.at.copy_rest-requires c).Else-second-eq0 in
-    omega (arith, x.small, x.within, length-is _ x.table, c.requires.fact_3, second-end (goal.at.copy_rest-requires c).After-copy_records-at, c.put_tops-tops.auto, c.copy_firsts-firsts.auto, c.copy_records-at.auto)
+    omega (arith, x.small, x.within, length-is _ x.table, c.requires.fact_3, c.copy_records-at.ensures.0, firsts-end (goal.at.copy_rest-requires c).After-copy_firsts-firsts x, c.put_tops-tops.auto, c.copy_firsts-firsts.auto, c.copy_records-at.auto)
 
 pub returns : goal.returns
 returns c =

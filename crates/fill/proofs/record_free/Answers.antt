@@ -1,0 +1,11 @@
+use mathlib.Core.Path.{refl}
+use Rattle.table.specs.Limits.{limit_holds}
+use Rattle.fill.proofs.record_free.Goals as goal
+
+pub returns-in-Unlimited : goal.returns-in-Unlimited
+unfolding limit_holds
+returns-in-Unlimited c = rw (← c.read_limit-limit.ensures, c.in-Unlimited.is) refl
+
+pub returns-in-AtMost : goal.returns-in-AtMost
+unfolding limit_holds
+returns-in-AtMost c = rw (← c.read_limit-limit.ensures, c.in-AtMost.is) c.not_under_four.ensures
