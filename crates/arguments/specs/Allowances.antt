@@ -1,5 +1,5 @@
 -- The sales desk's allowance of steps, read from an argument: decimal digits, at least one, leading zeros among them, that stand for at most 2^64 - 1.
-use Rattle.std.specs.Prelude.{Bool, true, false, cond, ◌&&◌, List, [], ◌∷◌, ℕ, ◌+◌, ◌*◌, ◌-◌, leb, ltb, length}
+use Rattle.std.specs.Prelude.{Bool, true, cond, ◌&&◌, List, [], ◌∷◌, ℕ, ◌+◌, ◌*◌, ◌-◌, leb, ltb, length}
 use Rattle.booleans.specs.Tests.{◌and◌}
 use Rattle.arguments.specs.declared.Allowance.{Allowance}
 

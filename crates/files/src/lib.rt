@@ -1,10 +1,16 @@
 // Whole files read into lent buffers, written from them, and removed, for the programs. What fails is said on standard error, by the file's name.
 #![tactic(auto)]
 
-ghost use Rattle.std.specs.Prelude.{◌+◌, ◌≤◌, length};
+ghost use Rattle.std.specs.Prelude.{◌≡◌, ◌+◌, ◌<◌, ◌≤◌, [], ◌∷◌, ◌++◌, length, take, is_ok, IfOk, OnOk};
+ghost use Rattle.std.specs.Io.KnownBytes.{Appends, Consumes, IsAtEnd};
 ghost use Rattle.io.specs.Counts.{IsPrefixLen};
-ghost use Rattle.text.specs.Texts.{most_digits};
+ghost use Rattle.text.specs.Texts.{Numbered, most_digits};
 
+use std::fs::{File, OpenFile, OpenOptions};
+use std::io::{ErrorKind, Read, Write};
+use std::random::RandomSource;
+use std::rt::Files;
+use std::{fs, io, str};
 use text::MOST_DIGITS;
 
 // How much of a buffer a file fills, and whether it could be read.
@@ -14,58 +20,62 @@ pub struct Loaded {
     pub readable: bool,
 }
 
+// A path's bytes as text: std names files by nothing else.
+fn as_text(path: &[u8]) -> io::Result<&str>
+    ensures { IfOk result (λ text. text.now ≡ path.now) }
+{
+    match str::from_utf8(path) {
+        Ok(text) => Ok(text),
+        Err(_) => Err(io::Error::from(ErrorKind::InvalidFilename)),
+    }
+}
+
 // ---- Reading
 
 // Reads the file into the front of `buf`. A missing file is empty.
-pub fn load(path: &[u8], buf: &mut [u8]) -> Loaded
+pub fn load(rt: &(impl Files + Eprint), path: &[u8], buf: &mut [u8]) -> Loaded
     ensures { IsPrefixLen result.len buf.new }
 {
-    let fd = os::open_read(path);
-    if fd < 0 {
-        if os::errno() == libc::ENOENT {
-            return Loaded {
+    match read_file(rt, path, buf) {
+        Ok(len) => Loaded {
+            len,
+            readable: true,
+        },
+        Err(error) => {
+            text::fail(rt, path, error);
+            Loaded {
                 len: 0,
-                readable: true,
-            };
+                readable: false,
+            }
         }
-        os::fail(path);
-        return Loaded {
-            len: 0,
-            readable: false,
-        };
     }
-    let loaded = read_whole(fd, path, buf);
-    libc::close(fd);
-    loaded
 }
 
-// Reads to the file's end, or until the buffer is full, which is enough: callers lend one longer than what they accept. A read that gives nothing is the end or a failure.
-fn read_whole(fd: i32, path: &[u8], buf: &mut [u8]) -> Loaded
-    ensures { IsPrefixLen result.len buf.new }
+fn read_file(rt: &impl Files, path: &[u8], buf: &mut [u8]) -> io::Result<usize>
+    ensures { IfOk result (λ n. IsPrefixLen n buf.new) }
+{
+    match File::open(rt, as_text(path)?) {
+        Ok(mut file) => read_whole(&mut file, buf),
+        Err(error) if error.kind() == ErrorKind::NotFound => Ok(0),
+        Err(error) => Err(error),
+    }
+}
+
+// Reads to the file's end, or until the buffer is full, which is enough: callers lend one longer than what they accept. A read that gives nothing is the end.
+fn read_whole<F: Read>(file: &mut F, buf: &mut [u8]) -> io::Result<usize>
+    ensures prefix_len { IfOk result (λ n. IsPrefixLen n buf.new) }
+    ensures bytes { IfOk result (λ n. Consumes (F.remaining file.old) (F.remaining file.new) (take n buf.new)) }
+    ensures end { IfOk result (λ n. n < length buf.new → IsAtEnd (F.remaining file.new)) }
 {
     let mut done = 0;
     while done < buf.len() {
-        let got = libc::read(fd, &mut buf[done..]);
-        let more = io::count(got, &buf[done..]);
+        let more = file.read(&mut buf[done..])?;
         if more == 0 {
-            return Loaded {
-                len: done,
-                readable: at_end(path, got),
-            };
+            return Ok(done);
         }
         done += more;
     }
-    Loaded {
-        len: done,
-        readable: true,
-    }
-}
-
-fn at_end(path: &[u8], got: isize) -> bool {
-    if got < 0 {
-        os::fail(path);
-    }
-    got == 0
+    Ok(done)
 }
 
 // ---- Writing
@@ -78,74 +88,89 @@ const LONGEST_NAME: usize = LONGEST_PATH + 1 + MOST_DIGITS;
 // Writes the bytes as the whole file, whatever it was before, and answers true; or says why it cannot, and the file is as it was. The bytes go to a temporary file beside it
 // first, which then takes its name, so that nobody finds a part of them, even where two programs write at once. Where the program is killed before that, the temporary file stays.
 // A symbolic link is replaced, not followed.
-pub fn save(path: &[u8], bytes: &[u8]) -> bool
+pub fn save(rt: &(impl Files + RandomSource + Eprint), path: &[u8], bytes: &[u8]) -> bool
     requires { length path.now ≤ 64 }
 {
     let mut name = [0u8; LONGEST_NAME];
-    let n = put_name(&mut name, path);
-    replace(path, &name[..n], bytes)
+    let n = put_name(&mut name, path, random(rt));
+    told(rt, path, replace(rt, path, &name[..n], bytes))
 }
 
-// Puts a name beside the path into the buffer, with a random number, so that each program has a file of its own.
-fn put_name(name: &mut [u8], path: &[u8]) -> usize
-    requires { length path.now + 1 + most_digits ≤ length name.old }
-    ensures { IsPrefixLen result name.new }
+// Says what failed, if anything did, and answers whether all was well.
+fn told(rt: &impl Eprint, path: &[u8], ended: io::Result<()>) -> bool
+    ensures { result ≡ is_ok ended }
 {
-    let named = text::put_word(name, 0, path);
-    let dotted = text::put_word(name, named, b".");
-    text::put_number(name, dotted, random())
-}
-
-// Where the system has no random bytes, 0: a name that is taken is refused, and no other program's file is written.
-fn random() -> u64 {
-    let mut bytes = [0u8; 8];
-    libc::getentropy(&mut bytes);
-    table::read_u64(&bytes, 0)
-}
-
-// A new file is made, which is refused where the name is taken, written, and given the path.
-fn replace(path: &[u8], temporary: &[u8], bytes: &[u8]) -> bool {
-    let fd = os::create(temporary);
-    if fd < 0 {
-        os::fail(path);
-        return false;
-    }
-    if !fill(fd, path, bytes) {
-        os::unlink(temporary);
-        return false;
-    }
-    if os::rename(temporary, path) != 0 {
-        os::fail(path);
-        os::unlink(temporary);
+    if let Err(error) = ended {
+        text::fail(rt, path, error);
         return false;
     }
     true
 }
 
-// Writes all the bytes and closes the file. They are on the disk before it takes the path: otherwise a power cut could leave the path with none of them.
-fn fill(fd: i32, path: &[u8], bytes: &[u8]) -> bool {
-    let mut written = io::write_all(fd, bytes);
-    if written {
-        written = libc::fsync(fd) == 0;
+// Puts a name beside the path into the buffer, with a number, so that each program has a file of its own.
+fn put_name(name: &mut [u8], path: &[u8], number: u64) -> usize
+    requires { length path.now + 1 + most_digits ≤ length name.old }
+    ensures prefix_len { IsPrefixLen result name.new }
+    ensures numbered { Numbered (path.now ++ 46 ∷ []) number (take result name.new) }
+{
+    let named = text::put_word(name, 0, path);
+    let dotted = text::put_word(name, named, b".");
+    text::put_number(name, dotted, number)
+}
+
+// Where the system has no random bytes, 0: a name that is taken is refused, and no other program's file is written.
+fn random(rt: &impl RandomSource) -> u64 {
+    let mut bytes = [0u8; 8];
+    match rt.fill_bytes(&mut bytes) {
+        Ok(()) => u64::from_le_bytes(bytes),
+        Err(_) => 0,
     }
-    if !written {
-        os::fail(path);
+}
+
+// A new file is made, which is refused where the name is taken, written, and given the path. Where that fails, it is removed.
+fn replace(rt: &impl Files, path: &[u8], temporary: &[u8], bytes: &[u8]) -> io::Result<()> {
+    let path = as_text(path)?;
+    let temporary = as_text(temporary)?;
+    let file = OpenOptions::new()
+        .write(true)
+        .create_new(true)
+        .open(rt, temporary)?;
+    let ended = put_in_place(rt, file, temporary, path, bytes);
+    if ended.is_err() {
+        let _ = fs::remove_file(rt, temporary);
     }
-    let closed = libc::close(fd) == 0;
-    if written & !closed {
-        os::fail(path);
-    }
-    written & closed
+    ended
+}
+
+// The file is closed before it takes the path.
+fn put_in_place<R: Files>(
+    rt: &R,
+    mut file: R::File,
+    temporary: &str,
+    path: &str,
+    bytes: &[u8],
+) -> io::Result<()> {
+    fill(&mut file, bytes)?;
+    drop(file);
+    fs::rename(rt, temporary, path)
+}
+
+// Writes all the bytes. They are on the disk before the file takes the path: otherwise a power cut could leave the path with none of them.
+fn fill<F: Write + OpenFile>(file: &mut F, bytes: &[u8]) -> io::Result<()>
+    ensures { OnOk result (Appends (F.contents file.old) (F.contents file.new) bytes.now) }
+{
+    file.write_all(bytes)?;
+    file.sync_all()
 }
 
 // Removes the file, if there is one, and answers true; or says why it cannot.
-pub fn remove(path: &[u8]) -> bool {
-    if os::unlink(path) == 0 {
-        return true;
+pub fn remove(rt: &(impl Files + Eprint), path: &[u8]) -> bool {
+    told(rt, path, remove_file(rt, path))
+}
+
+fn remove_file(rt: &impl Files, path: &[u8]) -> io::Result<()> {
+    match fs::remove_file(rt, as_text(path)?) {
+        Err(error) if error.kind() == ErrorKind::NotFound => Ok(()),
+        ended => ended,
     }
-    if os::errno() == libc::ENOENT {
-        return true;
-    }
-    os::fail(path);
-    false
 }

@@ -5,31 +5,33 @@
 ghost use Rattle.io.specs.Counts.{IsPrefixLen};
 
 use former::{Conversion, FORMER_LENGTH};
+use std::random::RandomSource;
+use std::rt::Files;
 use table::{MOST_RECORDS, RECORD_LENGTH};
 
 // Saves the front of the buffer as tree.tab, in place of one that is there.
-fn deliver(tree: &[u8], len: usize)
+fn deliver(rt: &(impl Files + RandomSource + Eprint), tree: &[u8], len: usize)
     requires { IsPrefixLen len tree.now }
 {
-    files::save(b"tree.tab", &tree[..len]);
+    files::save(rt, b"tree.tab", &tree[..len]);
 }
 
 // Makes the table in the lent buffer, and delivers what was written there.
-fn convert_into(old: &[u8], tree: &mut [u8]) {
+fn convert_into(rt: &(impl Files + RandomSource + Eprint), old: &[u8], tree: &mut [u8]) {
     let answer = former::convert(old, tree);
     match answer {
-        Conversion::Written(len) => deliver(tree, len),
+        Conversion::Written(len) => deliver(rt, tree, len),
         Conversion::Refused(_) => {}
     }
 }
 
-fn main() {
+fn main(rt: HostRuntime) {
     // One record more than a table may have, so that a longer file shows.
     let mut old = [0u8; FORMER_LENGTH * (MOST_RECORDS + 1)];
     let mut tree = [0u8; RECORD_LENGTH * MOST_RECORDS];
-    let file = files::load(b"old.tab", &mut old);
+    let file = files::load(&rt, b"old.tab", &mut old);
     if file.readable {
         let len = file.len;
-        convert_into(&old[..len], &mut tree);
+        convert_into(&rt, &old[..len], &mut tree);
     }
 }

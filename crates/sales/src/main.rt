@@ -7,8 +7,10 @@ ghost use Rattle.sales.specs.Lines.{Line};
 ghost use Rattle.text.specs.Texts.{longest_line};
 
 use arguments::Allowance;
-use libc::STDERR_FILENO;
 use simplifying::{Ending, Simplified};
+use std::env::{Env, FillError};
+use std::random::RandomSource;
+use std::rt::Files;
 use table::{MOST_RECORDS, RECORD_LENGTH};
 use text::LONGEST_LINE;
 
@@ -21,18 +23,18 @@ const SIMPLE: [u8; 10] = *b"simple.tab";
 // Linux passes no longer argument.
 const LONGEST_ARGUMENT: usize = 131_072;
 
-// The allowance that the arguments give: the largest where there is none. One that does not fit the buffer reads as empty, which is no number.
-fn allowance() -> Allowance {
-    let count = os::arg_count();
-    if count < 2 {
-        return Allowance::Steps(u64::MAX);
-    }
-    if 2 < count {
-        return Allowance::NoNumber;
-    }
+// The allowance that the arguments give: the largest where there is none. More than one, or one that does not fit the buffer, is no number.
+fn allowance(rt: &impl Env) -> Allowance {
     let mut argument = [0u8; LONGEST_ARGUMENT];
-    let len = os::arg(1, &mut argument);
-    arguments::allowance_of(&argument[..len])
+    match rt.arg(2, &mut argument) {
+        Err(FillError::NotPresent) => {}
+        _ => return Allowance::NoNumber,
+    }
+    match rt.arg(1, &mut argument) {
+        Ok(len) => arguments::allowance_of(&argument[..len]),
+        Err(FillError::NotPresent) => Allowance::Steps(u64::MAX),
+        Err(FillError::TooLong) => Allowance::NoNumber,
+    }
 }
 
 // Puts the line of a written table into the buffer; answers its length. The bytes before its ending are at most 58: two words of 11 and 7, and two numbers
@@ -45,63 +47,73 @@ fn put_line(line: &mut [u8], len: u64, steps: u64, ending: &[u8]) -> usize
     text::put_two_numbers(line, 0, b"simplified ", len, b" steps ", steps, ending)
 }
 
-fn say(len: u64, steps: u64, ending: &[u8])
+fn say(rt: &(impl Print + Eprint), len: u64, steps: u64, ending: &[u8])
     requires { 58 + length ending.now ≤ longest_line }
 {
     let mut line = [0u8; LONGEST_LINE];
     let n = put_line(&mut line, len, steps, ending);
-    text::say(&line[..n]);
+    text::say(rt, &line[..n]);
 }
 
 // Saves the front of the buffer, and says so once it is saved.
-fn deliver(simple: &[u8], len: usize, steps: u64, ending: Ending)
+fn deliver(
+    rt: &(impl Files + RandomSource + Print + Eprint),
+    simple: &[u8],
+    len: usize,
+    steps: u64,
+    ending: Ending,
+)
     requires { IsPrefixLen len simple.now }
 {
-    if files::save(&SIMPLE, &simple[..len]) {
+    if files::save(rt, &SIMPLE, &simple[..len]) {
         match ending {
-            Ending::Finished => say(len as u64, steps, b" finished\n"),
-            Ending::Spent => say(len as u64, steps, b" spent\n"),
+            Ending::Finished => say(rt, len as u64, steps, b" finished\n"),
+            Ending::Spent => say(rt, len as u64, steps, b" spent\n"),
         }
     }
 }
 
 // Removes an older simple.tab, which is not this tree's, and says so once it is gone: a sister house would quote from it.
-fn refuse(number: u64) {
-    if files::remove(&SIMPLE) {
-        text::say_number(b"refused ", number);
+fn refuse(rt: &(impl Files + Print + Eprint), number: u64) {
+    if files::remove(rt, &SIMPLE) {
+        text::say_number(rt, b"refused ", number);
     }
 }
 
 // Simplifies the tree into the lent buffer, and delivers what was written there.
-fn simplify_into(tree: &[u8], allowance: u64, simple: &mut [u8]) {
+fn simplify_into(
+    rt: &(impl Files + RandomSource + Print + Eprint),
+    tree: &[u8],
+    allowance: u64,
+    simple: &mut [u8],
+) {
     let answer = simplifying::simplify(tree, allowance, simple);
     match answer {
-        Simplified::Written(len, steps, ending) => deliver(simple, len, steps, ending),
-        Simplified::Refused(number) => refuse(number),
+        Simplified::Written(len, steps, ending) => deliver(rt, simple, len, steps, ending),
+        Simplified::Refused(number) => refuse(rt, number),
     }
 }
 
-fn complain() {
-    io::write_all(
-        STDERR_FILENO,
-        b"sales: the one argument, if any, is a number of steps, at most 18446744073709551615\n",
+fn complain(rt: &impl Eprint) {
+    let _ = rt.eprintln(
+        "sales: the one argument, if any, is a number of steps, at most 18446744073709551615",
     );
 }
 
-fn run(allowance: u64) {
+fn run(rt: &(impl Files + RandomSource + Print + Eprint), allowance: u64) {
     let mut tree = [0u8; ROOM];
     let mut simple = [0u8; ROOM];
-    let t = files::load(b"tree.tab", &mut tree);
+    let t = files::load(rt, b"tree.tab", &mut tree);
     if t.readable {
         let len = t.len;
-        simplify_into(&tree[..len], allowance, &mut simple);
+        simplify_into(rt, &tree[..len], allowance, &mut simple);
     }
 }
 
-fn main() {
-    let asked = allowance();
+fn main(rt: HostRuntime) {
+    let asked = allowance(&rt);
     match asked {
-        Allowance::Steps(steps) => run(steps),
-        Allowance::NoNumber => complain(),
+        Allowance::Steps(steps) => run(&rt, steps),
+        Allowance::NoNumber => complain(&rt),
     }
 }

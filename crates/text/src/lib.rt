@@ -5,7 +5,7 @@ ghost use Rattle.std.specs.Prelude.{◌≡◌, ◌++◌, ◌+◌, ◌≤◌, len
 ghost use Rattle.io.specs.Counts.{IsPrefixLen};
 ghost use Rattle.text.specs.Texts.{Line, Numbered, TwoNumbers, longest_line, most_digits};
 
-use libc::STDOUT_FILENO;
+use std::io::Error;
 
 // The most digits that a number has.
 pub const MOST_DIGITS: usize = 20;
@@ -75,29 +75,40 @@ pub fn put_two_numbers(
 }
 
 // Writes a line to standard output, or says on standard error why it cannot. The whole line goes to the system in one call: in pieces, another program's could come between.
-pub fn say(line: &[u8]) {
-    if !io::write_all(STDOUT_FILENO, line) {
-        os::fail(b"standard output");
+pub fn say(rt: &(impl Print + Eprint), line: &[u8]) {
+    if let Err(error) = rt.write_all(line) {
+        fail(rt, b"standard output", error);
     }
+}
+
+// Says on standard error what failed and why, on one line. Where that cannot be written either, there is nobody left to tell.
+pub fn fail(rt: &impl Eprint, what: &[u8], error: Error) {
+    let _ = eprintln!(rt; "{}: {error}", what.escape_ascii());
 }
 
 // Room for any line that the programs say.
 pub const LONGEST_LINE: usize = 96;
 
 // Says a line of a word and a number.
-pub fn say_number(word: &[u8], number: u64)
+pub fn say_number(rt: &(impl Print + Eprint), word: &[u8], number: u64)
     requires { length word.now + most_digits + 1 ≤ longest_line }
 {
     let mut line = [0u8; LONGEST_LINE];
     let n = put_line(&mut line, 0, word, number);
-    say(&line[..n]);
+    say(rt, &line[..n]);
 }
 
 // Says a line of two words, each before its number.
-pub fn say_two_numbers(word: &[u8], first: u64, between: &[u8], second: u64)
+pub fn say_two_numbers(
+    rt: &(impl Print + Eprint),
+    word: &[u8],
+    first: u64,
+    between: &[u8],
+    second: u64,
+)
     requires { length word.now + most_digits + length between.now + most_digits + 1 ≤ longest_line }
 {
     let mut line = [0u8; LONGEST_LINE];
     let n = put_two_numbers(&mut line, 0, word, first, between, second, b"\n");
-    say(&line[..n]);
+    say(rt, &line[..n]);
 }

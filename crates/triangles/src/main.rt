@@ -3,8 +3,6 @@
 
 ghost use Rattle.std.specs.Prelude.{◌≡◌, ◌+◌, ◌*◌, ◌/◌, ◌≤◌};
 
-use libc::STDOUT_FILENO;
-
 // The n-th triangular number.
 fn triangular(n: u64) -> u64
     requires { n ≤ 1_000 }
@@ -14,17 +12,17 @@ fn triangular(n: u64) -> u64
 }
 
 // Writes a line to standard output and answers true, or says on standard error why it cannot.
-fn say(number: u64) -> bool {
-    let said = io::print_decimal(STDOUT_FILENO, number) && io::write_all(STDOUT_FILENO, b"\n");
-    if !said {
-        os::fail(b"standard output");
+fn say(rt: &(impl Print + Eprint), number: u64) -> bool {
+    if let Err(error) = rt.println(number) {
+        let _ = eprintln!(rt; "standard output: {error}");
+        return false;
     }
-    said
+    true
 }
 
-fn main() {
+fn main(rt: HostRuntime) {
     for n in 0..=1_000 {
-        if !say(triangular(n)) {
+        if !say(&rt, triangular(n)) {
             return;
         }
     }

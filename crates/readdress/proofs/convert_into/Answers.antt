@@ -1,0 +1,7 @@
+use Rattle.readdress.specs.Laws.Buffers.{answer-within, within-counts}
+use Rattle.readdress.proofs.convert_into.Goals as goal
+
+pub deliver-requires : goal.deliver-requires
+deliver-requires g c =
+    let h = c.convert-answer.ensures in
+    within-counts _ c.in-Written.is (answer-within _ _ _ _ h.answer h.written)
