@@ -190,10 +190,11 @@ module _ (s x : ℕ) where
   kind-opened a k o r = by-opened (λ j. T (kind_in_range j)) a k o r (λ t e i h. unfold kind_in_range in h) (λ n e i h. unfold kind_in_range in h)
 
   pub paired-opened : s < first_paired_symbol → (a : ℕ) (k : Kind) → T (eqb a 0 || kind_opens s x k) → paired_block (on_kind (put a (Symbol s)) k) ≡ paired_block k
+  unfolding paired_block
   paired-opened l a k o =
       by-opened (λ j. paired_block j ≡ paired_block k) a k o refl
-      (λ t e i h. unfold paired_block in low-alone s l ∙ sym (ap paired_block e ∙ plain t i))
-      (λ n e i h. unfold paired_block in sym (ap paired_block e))
+      (λ t e i h. low-alone s l ∙ sym (ap paired_block e ∙ plain t i))
+      (λ n e i h. sym (ap paired_block e))
     where
       plain : (m : Number) → T (number_is x m) → paired m ≡ false
       plain (Plain n) h = unfold paired in refl

@@ -11,7 +11,7 @@ use Rattle.graft.proofs.make_graft.Goals as goal
 small : (c : After-count_occurrences-count) → c.count_occurrences-count.result * (record_count c.args.sent.now + 1) ≤ most_records * (most_records + 1)
 small c =
     let s = c in
-    product_small c.count_occurrences-count.result (record_count s.args.sent.now) (omega (arith, few-records s.args.host.now s.pre.0, c.count_occurrences-count.ensures.1)) (few-records s.args.sent.now s.pre.1.0)
+    product_small c.count_occurrences-count.result (record_count s.args.sent.now) (omega (arith, few-records s.args.host.now s.requires.fact_1, c.count_occurrences-count.ensures.1)) (few-records s.args.sent.now s.requires.fact_2)
 
 pub overflow_mul-count : goal.overflow_mul-count
 overflow_mul-count c = omega (arith, small (goal.at.overflow_mul-count c).After-count_occurrences-count)
@@ -25,13 +25,13 @@ returns-then-n-count-gt-MOST_RECORDS c = made-long _ _ _ c.requires.fact_1 c.req
 pub put_all-requires : goal.put_all-requires
 put_all-requires c =
     let count = c.count_occurrences-count.ensures.0 in
-    let room = made-room c.args.host.now c.args.sent.now c.args.symbol c.pre.0 c.pre.1.0 _ count c.if-n-count-gt-MOST_RECORDS.false in
+    let room = made-room c.args.host.now c.args.sent.now c.args.symbol c.requires.fact_1 c.requires.fact_2 _ count c.if-n-count-gt-MOST_RECORDS.false in
     record {
       fact_1 = count;
-      fact_2 = c.pre.1.0;
-      fact_3 = omega (arith, room, c.pre.1.1);
+      fact_2 = c.requires.fact_2;
+      fact_3 = omega (arith, room, c.requires.fact_3);
     }
 
 pub returns : goal.returns
 returns c =
-    made_all _ _ _ c.pre.0 c.pre.1.0 _ c.count_occurrences-count.ensures.0 c.if-n-count-gt-MOST_RECORDS.false _ _ (omega (arith, c.put_all.auto, c.pre.1.1)) c.put_all.ensures
+    made_all _ _ _ c.requires.fact_1 c.requires.fact_2 _ c.count_occurrences-count.ensures.0 c.if-n-count-gt-MOST_RECORDS.false _ _ (omega (arith, c.put_all.auto, c.requires.fact_3)) c.put_all.ensures
