@@ -5,7 +5,6 @@ use Rattle.std.proofs.Common.{◌∙◌, arith}
 use Rattle.std.proofs.Math.Dec.{T}
 use Rattle.std.proofs.Math.ListN.{get_or, length-set}
 use Rattle.std.proofs.Math.Seq.{get_or-set_same}
-use Rattle.booleans.specs.Tests.{◌and◌}
 use Rattle.booleans.specs.Laws.{&&-both, both, join-and}
 use Rattle.table.specs.Numbers.{record_length}
 use Rattle.table.specs.Limits.{every_most}

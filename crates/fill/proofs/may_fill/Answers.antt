@@ -1,6 +1,5 @@
 use Rattle.std.specs.Prelude.{not}
 use Rattle.std.proofs.Math.Path.{ap}
-use Prim.Native.Nat.{◌-◌}
 use Rattle.table.proofs.Laws.Reading.{none_passed, one-passed}
 use Rattle.fill.proofs.Laws.Asking.{number-no, number-told, number-yes, record-no, record-yes}
 use Rattle.fill.proofs.may_fill.Goals as goal

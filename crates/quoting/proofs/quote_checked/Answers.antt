@@ -17,7 +17,7 @@ returns-then-question-ne0 c =
 pub walk-found-requires-clause-fact_1 : goal.walk-found-requires-clause-fact_1
 walk-found-requires-clause-fact_1 c =
     let bytes : AreBytes c.args.table.now = λ i. omega (arith, c.type_inv.table i) in
-     accepted-short _ bytes c.requires
+    accepted-short _ bytes c.requires
 
 pub walk-found-requires-clause-fact_2 : goal.walk-found-requires-clause-fact_2
 walk-found-requires-clause-fact_2 c = values-long _ _ (sym c.values_refusal-question.ensures ∙ c.if-question-ne0.false)

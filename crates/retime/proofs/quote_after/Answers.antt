@@ -1,5 +1,4 @@
 use mathlib.Core.Path.{refl, ap, ◌∙◌}
-use Prim.Native.Nat.{◌-◌}
 use Rattle.table.specs.Checking.{refusal}
 use Rattle.quoting.specs.Answers.{figure_answer}
 use Rattle.retime.proofs.Laws.Retimed.{copy-retimed}

@@ -1,5 +1,4 @@
 use borrow.Author.Rules.{rules}
-use Prim.Native.Nat.{◌-◌}
 use native.Mathlib.Omega.{arith}
 use Rattle.subtrees.specs.Parts.{subtree}
 use Rattle.table.proofs.Laws.Tables.{few-records, length-is}

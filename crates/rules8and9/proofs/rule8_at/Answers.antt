@@ -2,7 +2,6 @@
 use mathlib.Core.Path.{◌≡◌, ap}
 use Prim.Native.Nat.{◌+◌}
 use native.Mathlib.Omega.{arith}
-use lib.ListN.{get_or}
 use Rattle.simplify.specs.Rules.{firsts}
 use Rattle.table.specs.Trees.{records_in}
 use Rattle.table.proofs.Laws.Tables.{few-records, length-is}

@@ -1,6 +1,5 @@
 use Rattle.std.specs.Prelude.{not}
 use Rattle.std.proofs.Math.Path.{ap}
-use Prim.Native.Nat.{◌-◌}
 use native.Mathlib.Omega.{arith}
 use Rattle.rules8and9.specs.Laws.Comparing.{all-agreed, none-agreed, one-agreed, one-other}
 use Rattle.rules8and9.proofs.same_records.Goals as goal

@@ -1,14 +1,13 @@
 -- Each test is one of the definition's: a choice of at least two (`ChoiceAt`), a pair first (`PairAt`), a closed second child, the same in all.
 use Rattle.std.specs.Prelude.{not}
 use Rattle.std.proofs.Math.Path.{ap}
-use mathlib.Core.Path.{◌≡◌, sym, ◌∙◌}
-use mathlib.Core.Bool.{not, ◌||◌}
+use mathlib.Core.Path.{sym, ◌∙◌}
+use mathlib.Core.Bool.{not}
 use Prim.Native.Nat.{◌+◌}
 use native.Mathlib.Omega.{arith}
-use lib.Dec.{ltb}
 use borrow.Author.Tests.{not-false}
 use Rattle.table.proofs.Laws.Tables.{few-records}
-use Rattle.rules8and9.specs.Laws.Sharing.{ChoiceAt, PairAt, choice-at, first-no-pair, no-choice, other, other-read, pair-at, second-open, second-other, second-shared}
+use Rattle.rules8and9.specs.Laws.Sharing.{ChoiceAt, PairAt, choice-at, first-no-pair, no-choice, other-read, pair-at, second-open, second-other, second-shared}
 use Rattle.rules8and9.proofs.shared_child.Goals.{Else-same_kind-children_at}
 use Rattle.rules8and9.proofs.shared_child.Goals.{Else-not-is_pair}
 use Rattle.rules8and9.proofs.shared_child.Goals as goal

@@ -5,7 +5,6 @@ use Rattle.std.proofs.Common.{sym, subst, ◌∙◌, arith, eqb→eq}
 use Rattle.std.proofs.Math.Option.{none, some}
 use Rattle.std.proofs.lemmas.Bool.{not-true}
 use Rattle.booleans.specs.Laws.{and_is, both, is_T}
-use Rattle.booleans.specs.Tests.{◌and◌}
 use Rattle.evaluate.specs.Closed.{is_unlimited}
 use Rattle.evaluate.specs.Evaluate.{name}
 use Rattle.simplify.specs.Rules.{exit, rule9, when}

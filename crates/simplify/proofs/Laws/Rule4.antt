@@ -14,7 +14,6 @@ use Rattle.evaluate.proofs.Laws.Constant.{closed_in-run, closed_in-const, before
 use Rattle.simplify.specs.Nodes.{Kind, Block, Sequence, Choice, Loop, Node}
 use Rattle.simplify.specs.Rules.{is_block, leaf}
 use Rattle.simplify.proofs.Laws.Refines.{Refines}
-use Rattle.simplify.proofs.Laws.Same.{at}
 use Rattle.simplify.proofs.Laws.Blocks.{leaf-fits, leaf-listed, leaf-depth, leaf-loops, leaf-records, leaf-limited, leaf-share}
 
 -- ---- rule 4

@@ -12,7 +12,7 @@ use Rattle.table.specs.Trees.{Tree, nil, ◌▸◌, records, records_in}
 use Rattle.table.proofs.Laws.NotRefused.{reads-back}
 use Rattle.table.proofs.Laws.Reading.{part-to}
 use Rattle.table.proofs.Laws.RoundTrip.{length-encode}
-use Rattle.evaluate.specs.Evaluate.{fits, zeros}
+use Rattle.evaluate.specs.Evaluate.{zeros}
 use Rattle.simplify.specs.Steps.{Made, also, is_none, onward, step, steps}
 use Rattle.simplify.proofs.Laws.Keeps.{Kept}
 use Rattle.simplify.proofs.Laws.Stepping.{Steps, ends, goes, last, step-steps}
