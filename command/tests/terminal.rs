@@ -324,7 +324,7 @@ fn only_what_is_missing_is_asked_for() {
 
 /// The page, the list and a preview are of counts too.
 #[test]
-fn contracts_lists_and_previews_ask_too() {
+fn contracts_and_lists_ask_too() {
     let folder = house("house");
     folder.write(VALUES, &values_file(&[40, 3]));
     for (arguments, words) in [
