@@ -1,5 +1,5 @@
 -- The evaluation of a table's tree as the program does it: one walk, on bytes, with lists as pairs.
--- It is total, and meant where questions 1 to 7 and 9 say yes: Laws/Evaluator says what it then finds. Elsewhere its tests keep every number in range.
+-- It is total, and meant where questions 1 to 7 and 9 say yes: proofs/Laws/Evaluator says what it then finds. Elsewhere its tests keep every number in range.
 use Rattle.std.specs.Prelude.{◌≡◌, Bool, false, true, cond, List, ℕ, ◌+◌, min, ◌*◌, ◌<◌, zero, suc, eqb, leb, ltb, drop, length}
 use Rattle.table.specs.Numbers.{whole_run, most_time, most_weight, most_count, record_length, how_many_symbols, how_many_values}
 use Rattle.table.specs.Table.{first_node, child_byte}

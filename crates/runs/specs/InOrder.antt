@@ -1,5 +1,5 @@
 -- The cost of a run in other words than Runs has. Its passes in their order: a block's first pass in the run costs its first value, each other its later one
--- (document 02, CR 7). It is per block: two blocks with one symbol have a first pass each. Laws/InOrder shows that it is the same.
+-- (document 02, CR 7). It is per block: two blocks with one symbol have a first pass each. proofs/Laws/InOrder shows that it is the same.
 use Rattle.std.specs.Prelude.{List, [], ◌∷◌, ℕ, zero, suc, ◌+◌}
 use Rattle.std.proofs.Common.{inl, inr}
 use Rattle.table.specs.Trees.{Tree, node, Forest, nil, ◌▸◌}
@@ -39,7 +39,7 @@ module _ (v : Values) where
   abbrev pub cost_in_order : (t : Tree) → Pass t → ℕ
   cost_in_order t r = cost_after t (λ x. 0) r
 
-  -- Document 01's own words, for a tree without paired symbols: a pass of a block costs its time, and costs add. Laws/Unpaired shows that it is the same there.
+  -- Document 01's own words, for a tree without paired symbols: a pass of a block costs its time, and costs add. proofs/Laws/Unpaired shows that it is the same there.
   unfoldable mutual
     pub pass_cost : (t : Tree) → Pass t → ℕ
     pass_cost (node n f) r = pass_cost_in f n.kind r

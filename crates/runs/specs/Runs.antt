@@ -102,7 +102,7 @@ module _ (v : Values) where
     charge_in nil c = 0
     charge_in (t ▸ f) c = charge t (λ x. c (inl x)) + charge_in f (λ x. c (inr x))
 
-  -- The cost of a run, by how often it passes each block. Laws/InOrder shows that its passes cost this one after the other.
+  -- The cost of a run, by how often it passes each block. proofs/Laws/InOrder shows that its passes cost this one after the other.
   unfoldable pub cost : (t : Tree) → Pass t → ℕ
   cost t r = charge t (λ x. count t r x)
 

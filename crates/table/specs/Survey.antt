@@ -1,5 +1,5 @@
 -- Questions 5 to 7 of document 01 as the program answers them: one walk of the table's tree, on bytes.
--- It is total, and meant where questions 1 to 4 say yes: Laws/Survey says what it then answers.
+-- It is total, and meant where questions 1 to 4 say yes: proofs/Laws/Survey says what it then answers.
 use Rattle.std.specs.Prelude.{true, false, cond, ◌&&◌, List, [], ◌∷◌, ℕ, zero, suc, ◌+◌, ◌-◌, ◌*◌, ◌^◌, ◌≤◌, leb, eqb, drop, length}
 use Rattle.table.specs.declared.Survey.{Survey}
 use Rattle.table.specs.Asking.{◌asks◌, first_no}
