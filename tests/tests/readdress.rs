@@ -1,5 +1,5 @@
 //! The program `readdress`, which makes tree.tab of old.tab, as a process and by `./readdress`, against the second converter. How it replaces the file is
-//! tested in saving.rs. The program is `../target/bin/readdress`, built by `rt check readdress`, or the one that `VOLEFLEECE_READDRESS` names.
+//! tested in saving.rs. The program is `../target/bin/readdress`, built by `./build`, or the one that `VOLEFLEECE_READDRESS` names.
 
 use std::fs::{self, Permissions};
 use std::os::unix::fs::{symlink, PermissionsExt};
