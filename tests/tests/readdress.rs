@@ -304,6 +304,6 @@ fn the_command_builds_its_program_alone() {
     let folder = with_files(Some(&[5; 16]), None);
     for _ in 0..2 {
         Ended::of(copy.command(READDRESS).arg(folder.path(""))).expect_silence();
-        assert_eq!(copy.calls(), ["check readdress"]);
+        assert_eq!(copy.calls(), ["run readdress"]);
     }
 }
