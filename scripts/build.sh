@@ -24,11 +24,11 @@ replace() {
     fail "$2 cannot be written"
 }
 
-# The checksum of these files and all files of these folders, but for what cargo and ./setup make there: checksum PATH...
+# The checksum of these files and all files of these folders, but for what `rt`, cargo and ./setup make there: checksum PATH...
 checksum() {
     listed=$(
         cd "$root" &&
-            find "$@" \( -path command/.cargo -o -path command/Cargo.lock -o -path command/target -o -path volefleece-rs/target \) -prune \
+            find "$@" \( -path 'crates/*/out' -o -path command/.cargo -o -path command/Cargo.lock -o -path command/target -o -path volefleece-rs/target \) -prune \
                 -o -type f -exec sha256sum {} +
     ) || return
     printf '%s\n' "$listed" | LC_ALL=C sort | sha256sum
@@ -64,28 +64,25 @@ renew() {
     unlock
 }
 
-# Has `rt` start two jobs for each processor. It starts so many and waits for all of them: so none stands idle for the slowest.
-set_jobs() {
-    RT_JOBS=${RT_JOBS:-$((2 * $(nproc)))}
-    export RT_JOBS
-}
+# In a crate's folder, has `rt` prove the crate and build it: in_crate lib|run CRATE
+in_crate() (
+    cd "$root/crates/$2" && exec rt "$1"
+)
 
+# What `rt` built stays in the crate's folder `out`, and `file` is a copy. A program is run there too, for none to read what it says.
 by_rt() {
     command -v rt >/dev/null || fail "$file is not built from these sources, and to build it the kit's rt must be on PATH"
-    set_jobs
-    if is_spoilt; then
-        # the last word
-        for crate; do :; done
-        rm -f "$file" "$root/target/stamp/$crate"
-    fi
+    made=$root/crates/$2/out/${file##*/}
+    ! is_spoilt || rm -f "$made" "$made.stamp"
     rm -f "$file.built"
-    # What a static library leans on `rt` would prove one by one.
-    [ "$1" != staticlib ] || (cd "$root" && exec rt check "$2") >&2 || fail "rt check $2 failed"
-    (cd "$root" && exec rt "$@") >&2 || fail "rt $* failed"
-    [ -f "$file" ] || fail "rt takes $file for built, and it is missing: remove the folder target and try again"
+    case $1 in
+    lib) mode=644 && in_crate "$@" >&2 ;;
+    run) mode=755 && in_crate "$@" >/dev/null ;;
+    esac || fail "rt $1 failed in crates/$2"
+    replace "$mode" "$file" "$made"
 }
 
-# Has `rt` build a file unless it is built from what is there now: build FILE WORD...
+# Has `rt` build a crate's archive or program unless it is built from what is there now: build FILE lib|run CRATE
 build() {
     file=$root/$1
     sources='KIT crates.txt crates'
@@ -111,7 +108,7 @@ by_cargo() {
 
 # Has cargo build the command, `file` then, unless it is built from what is there now, the archive among it.
 build_command() {
-    build target/staticlib/libvolefleece.a staticlib volefleece
+    build target/staticlib/libvolefleece.a lib volefleece
     file=$root/command/target/release/volefleece
     sources='target/staticlib/libvolefleece.a command volefleece-rs'
     renew by_cargo

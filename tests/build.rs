@@ -18,7 +18,7 @@ fn link_probes() {
     println!("cargo:rerun-if-changed={}", archive.display());
     assert!(
         archive.is_file(),
-        "{} is missing: build it with `rt staticlib probes`",
+        "{} is missing: build it with `./build`",
         archive.display()
     );
     println!("cargo:rustc-link-search=native={}", folder.display());

@@ -14,7 +14,7 @@ fn main() {
     println!("cargo:rerun-if-changed={}", archive.display());
     assert!(
         archive.is_file(),
-        "{} is missing: build it with `rt staticlib volefleece`, or name its folder in {LIB_DIR}",
+        "{} is missing: build it with `./build`, or name its folder in {LIB_DIR}",
         archive.display()
     );
     println!("cargo:rustc-link-search=native={}", folder.display());

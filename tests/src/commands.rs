@@ -10,7 +10,7 @@ use std::{env, fs};
 use crate::programs::{copy_program, project, Folder};
 
 /// Every tool that a command starts, `rt`, cargo, Debian's and the shell apart.
-const TOOLS: [&str; 18] = [
+const TOOLS: [&str; 17] = [
     "basename",
     "cat",
     "chmod",
@@ -21,7 +21,6 @@ const TOOLS: [&str; 18] = [
     "mkdir",
     "mktemp",
     "mv",
-    "nproc",
     "readlink",
     "rm",
     "sed",
@@ -143,9 +142,10 @@ pub struct Repository {
 }
 
 /// The commands and what they read.
-const COPIED: [&str; 16] = [
+const COPIED: [&str; 17] = [
     "KIT",
     "bench",
+    "build",
     "desk",
     "install",
     "quote",
@@ -162,7 +162,7 @@ const COPIED: [&str; 16] = [
     "scripts/volefleece.pc.in",
 ];
 
-/// What `rt` builds for the commands, in the folder `target`.
+/// What is built for the commands in the folder `target`, by `rt` in that of each crate.
 const BUILT: [&str; 5] = [
     "bin/desk",
     "bin/readdress",
@@ -185,25 +185,36 @@ pub const PACKAGES: [&str; 9] = [
 ];
 
 const RT: &str = r#"
-echo "$*" >>"$HERE/calls"
+crate=${PWD##*/}
 case $1 in
-version) cat "$HERE/version" ;;
-ci | check | staticlib)
-    mkdir "$HERE/busy" || echo 'two at once' >>"$HERE/calls"
-    "$HERE/while-building"
-    if [ "$1" = ci ]; then
-        cat "$HERE/ci"
-        rmdir "$HERE/busy"
-        exit "$(cat "$HERE/ci-ends")"
+lib | run) echo "$* $crate" >>"$HERE/calls" ;;
+*) echo "$*" >>"$HERE/calls" ;;
+esac
+cd "$HERE"
+case $1 in
+version) cat version ;;
+ci | lib | run)
+    mkdir busy || echo 'two at once' >>calls
+    ./while-building
+    case $1 in
+    ci)
+        cat ci
+        rmdir busy
+        exit "$(cat ci-ends)"
+        ;;
+    lib) built=staticlib/lib$crate.a ;;
+    run) built=bin/$crate ;;
+    esac
+    made=crates/$crate/out/${built##*/}
+    mkdir -p "${made%/*}"
+    stamp=$(find KIT crates.txt crates -name out -prune -o -type f -exec sha256sum {} +)
+    if [ "$(cat "$made.stamp" 2>/dev/null)" != "$stamp" ]; then
+        cp "builds/$built" "$made"
+        printf '%s\n' "$stamp" >"$made.stamp"
     fi
-    mkdir -p target/stamp
-    stamp=$(find KIT crates.txt crates -type f -exec sha256sum {} +)
-    if [ "$(cat "target/stamp/$2" 2>/dev/null)" != "$stamp" ]; then
-        cp -R "$HERE/builds/." target
-        printf '%s\n' "$stamp" >"target/stamp/$2"
-    fi
-    rmdir "$HERE/busy"
-    [ ! -e "$HERE/broken" ]
+    [ "$1" = lib ] || echo 'what the program says'
+    rmdir busy
+    [ ! -e broken ]
     ;;
 esac"#;
 
@@ -305,8 +316,15 @@ impl Repository {
 
     fn put_sources(&self) {
         for (name, text) in [
-            ("crates.txt", "desk:\n"),
+            (
+                "crates.txt",
+                "desk:\nreaddress:\nsales:\nvolefleece staticlib:\nprobes staticlib:\n",
+            ),
             ("crates/desk/src/main.rt", "first"),
+            ("crates/readdress/src/main.rt", "first"),
+            ("crates/sales/src/main.rt", "first"),
+            ("crates/volefleece/src/lib.rt", "first"),
+            ("crates/probes/src/lib.rt", "first"),
             ("include/volefleece.h", ""),
             ("samples/house/tree.tab", ""),
             ("samples/workshop/tree.tab", ""),
@@ -379,7 +397,7 @@ impl Repository {
         Ended::of(&mut self.command(name))
     }
 
-    /// What the stand-ins were called with so far: `rt` by its arguments alone, cargo after its folder.
+    /// What the stand-ins were called with so far: cargo after its folder, `rt` by its arguments and, where it builds a crate, that.
     pub fn calls(&self) -> Vec<String> {
         let calls = self.folder.read("calls").unwrap_or_default();
         let text = String::from_utf8(calls).expect("text");

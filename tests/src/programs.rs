@@ -177,7 +177,7 @@ fn find(name: &str) -> PathBuf {
     let path = env::var_os(&variable).map_or_else(built, PathBuf::from);
     assert!(
         path.is_file(),
-        "{} is missing: build it with `rt check {name}`, or set {variable}",
+        "{} is missing: build it with `./build`, or set {variable}",
         path.display()
     );
     path

@@ -66,7 +66,7 @@ fn files_in(part: &str) -> Vec<(String, String)> {
 /// The names that each module is asked for, by the `use` lines of a file of Rattle or antt. A list of names may go over several lines.
 fn imports(text: &str) -> Vec<(String, BTreeSet<String>)> {
     let mut found = Vec::new();
-    for part in text.split("use Rattle·").skip(1) {
+    for part in text.split("use Rattle.").skip(1) {
         let (module, rest) = part.split_once(".{").expect("names in braces");
         let (names, _) = rest.split_once('}').expect("names in braces");
         found.push((module.to_string(), words(names)));
@@ -81,12 +81,11 @@ fn words(text: &str) -> BTreeSet<String> {
         .collect()
 }
 
-/// The file of a module of definitions or laws, below crates/. A type that the code declares has none.
+/// The file of a module of definitions or laws, below crates/. A type that the code declares has none, and the kit's are not here.
 fn file_of(module: &str) -> Option<String> {
-    let (name, rest) = module.split_once(".specs.")?;
-    let name = name.trim_end_matches("·specs");
-    let declared = rest.starts_with("declared.");
-    (!declared).then(|| format!("{name}/specs/{}.antt", rest.replace('.', "/")))
+    let (name, rest) = module.split_once('.').expect("a crate's module");
+    let elsewhere = name == "std" || rest.starts_with("specs.declared.");
+    (!elsewhere).then(|| format!("{name}/{}.antt", rest.replace('.', "/")))
 }
 
 /// The files of definitions that a call's contract names.
@@ -232,6 +231,7 @@ fn claims_names_every_edit_that_must_fail() {
 #[test]
 fn no_definition_to_believe_leans_on_a_law() {
     let files = cited(&DEMANDS).into_iter().chain(cited(&OTHERS));
-    let laws: Vec<_> = files.filter(|file| file.contains("/Laws/")).collect();
+    let is_law = |file: &String| file.contains("/Laws/") || file.contains("/proofs/");
+    let laws: Vec<_> = files.filter(is_law).collect();
     assert!(laws.is_empty(), "{laws:?}");
 }

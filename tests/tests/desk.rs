@@ -1,5 +1,5 @@
 //! The desk program as a process: its two files and its one line, against the second evaluator. The
-//! program is `../target/bin/desk`, built by `rt check desk`, or the one that `VOLEFLEECE_DESK` names.
+//! program is `../target/bin/desk`, built by `./build`, or the one that `VOLEFLEECE_DESK` names.
 
 use volefleece_tests::cases::{self, cases};
 use volefleece_tests::compare::shown;

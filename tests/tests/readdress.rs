@@ -1,5 +1,5 @@
 //! The program `readdress`, which makes tree.tab of old.tab, as a process and by `./readdress`, against the second converter. How it replaces the file is
-//! tested in saving.rs. The program is `../target/bin/readdress`, built by `rt check readdress`, or the one that `VOLEFLEECE_READDRESS` names.
+//! tested in saving.rs. The program is `../target/bin/readdress`, built by `./build`, or the one that `VOLEFLEECE_READDRESS` names.
 
 use std::fs::{self, Permissions};
 use std::os::unix::fs::{symlink, PermissionsExt};
@@ -304,6 +304,6 @@ fn the_command_builds_its_program_alone() {
     let folder = with_files(Some(&[5; 16]), None);
     for _ in 0..2 {
         Ended::of(copy.command(READDRESS).arg(folder.path(""))).expect_silence();
-        assert_eq!(copy.calls(), ["check readdress"]);
+        assert_eq!(copy.calls(), ["run readdress"]);
     }
 }

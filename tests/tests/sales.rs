@@ -1,5 +1,5 @@
 //! The sales desk's program as a process: its arguments, its two files and its one line, against the
-//! second simplifier. The program is `../target/bin/sales`, built by `rt check sales`, or the one that
+//! second simplifier. The program is `../target/bin/sales`, built by `./build`, or the one that
 //! `VOLEFLEECE_SALES` names.
 
 use std::ffi::{OsStr, OsString};

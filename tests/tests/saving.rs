@@ -218,12 +218,24 @@ fn the_mode_is_narrowed_by_the_mask_alone() {
 #[test]
 fn a_failed_call_changes_nothing() {
     for saver in savers() {
-        for call in ["write 1 28", "fsync 1 5", "close 2 5", "rename 1 13"] {
+        for call in ["write 1 28", "fsync 1 5", "rename 1 13"] {
             for old in [None, Some(OLD)] {
                 let folder = saver.folder(old);
                 saver.complains(folder.command_failing(call), saver.file);
                 saver.left(&folder, old);
             }
+        }
+    }
+}
+
+/// By then the file is synced, so what a close says is lost and nothing else.
+#[test]
+fn a_failed_close_is_not_seen() {
+    for saver in savers() {
+        for old in [None, Some(OLD)] {
+            let folder = saver.folder(old);
+            saver.runs(folder.command_failing("close 2 5"));
+            saver.saved(&folder);
         }
     }
 }

@@ -1,4 +1,4 @@
-//! The commands `./setup`, `./quote`, `./desk`, `./simplify`, `./readdress`, `./install`, `./bench` and `./test`: their arguments, lines and exit
+//! The commands `./setup`, `./build`, `./quote`, `./desk`, `./simplify`, `./readdress`, `./install`, `./bench` and `./test`: their arguments, lines and exit
 //! statuses, what they build and when, and what is installed. What `./readdress` makes is tested in readdress.rs. Where the real programs are not built from the sources yet, a command builds them first, by `rt`;
 //! the command that cargo builds is a stand-in throughout, since these tests need no Rust package.
 
@@ -123,6 +123,7 @@ fn arguments_are_counted() {
         ("install", &[]),
         ("install", &["prefix", "more"]),
         ("bench", &["archive", "more"]),
+        ("build", &["more"]),
         ("test", &["more"]),
         ("setup", &["more"]),
     ] {
@@ -168,6 +169,7 @@ fn usage_is_told() {
         "readdress",
         "install",
         "bench",
+        "build",
         "test",
         "setup",
     ] {
@@ -421,7 +423,7 @@ fn changes_are_built_once() {
     let mut built = |changed: bool| {
         copy.run("desk").expect(0, LINE);
         calls += usize::from(changed);
-        assert_eq!(copy.calls(), vec!["check desk"; calls]);
+        assert_eq!(copy.calls(), vec!["run desk"; calls]);
     };
     let source = copy.path("crates/desk/src/main.rt");
     built(true);
@@ -450,7 +452,9 @@ fn changes_are_built_once() {
     built(true);
     put(&copy.path("KIT"), "another kit\n");
     built(true);
-    put_script(&copy.path("target/bin/desk"), "echo figure 2 branch 255");
+    for spoilt in ["target/bin/desk", "crates/desk/out/desk"] {
+        put_script(&copy.path(spoilt), "echo figure 2 branch 255");
+    }
     built(true);
     fs::remove_dir_all(copy.path("target")).expect("removed");
     built(true);
@@ -458,11 +462,42 @@ fn changes_are_built_once() {
 }
 
 #[test]
+fn all_that_is_tested_is_built_once() {
+    const MADE: [(&str, &str, u32); 5] = [
+        ("lib volefleece", "staticlib/libvolefleece.a", 0o644),
+        ("lib probes", "staticlib/libprobes.a", 0o644),
+        ("run desk", "bin/desk", 0o755),
+        ("run sales", "bin/sales", 0o755),
+        ("run readdress", "bin/readdress", 0o755),
+    ];
+    let copy = Repository::new(PROGRAM);
+    for _ in 0..2 {
+        copy.run("build").expect_told(0, "");
+        assert_eq!(copy.calls(), MADE.map(|(call, ..)| call));
+    }
+    for (_, name, mode) in MADE {
+        let made = copy.path("target").join(name);
+        let built = copy.path("builds").join(name);
+        assert_eq!(
+            fs::read(&made).expect("built"),
+            fs::read(built).expect("read")
+        );
+        let metadata = fs::metadata(made).expect("built");
+        assert_eq!(metadata.mode() & 0o777, mode, "{name}");
+    }
+    put(&copy.path("broken"), "");
+    put(&copy.path("KIT"), "another kit");
+    copy.run("build")
+        .expect_message("rt lib failed in crates/volefleece");
+}
+
+#[test]
 fn a_failed_build_is_told_and_tried_again() {
     let copy = Repository::new(PROGRAM);
     put(&copy.path("broken"), "");
     for calls in 1..3 {
-        copy.run("desk").expect_message("rt check desk failed");
+        copy.run("desk")
+            .expect_message("rt run failed in crates/desk");
         assert_eq!(copy.calls().len(), calls);
     }
     fs::remove_file(copy.path("broken")).expect("removed");
@@ -501,12 +536,11 @@ fn commands_build_one_at_a_time() {
     let mut calls = copy.calls();
     calls.sort();
     let built = [
-        "check desk",
-        "check sales",
-        "check volefleece",
         BUILT_COMMAND,
         FITTED,
-        "staticlib volefleece",
+        "lib volefleece",
+        "run desk",
+        "run sales",
     ];
     assert_eq!(calls, built);
 }
@@ -529,12 +563,7 @@ fn the_sample_is_simplified_by_one_at_a_time() {
 const FITTED: &str = "command: cargo generate-lockfile --offline";
 const BUILT_COMMAND: &str = "command: cargo build --release --target-dir target";
 /// What a first `./quote` has called.
-const BUILT: [&str; 4] = [
-    "check volefleece",
-    "staticlib volefleece",
-    FITTED,
-    BUILT_COMMAND,
-];
+const BUILT: [&str; 3] = ["lib volefleece", FITTED, BUILT_COMMAND];
 
 /// `./quote` of the copy with arguments.
 fn quote(copy: &Repository, arguments: &[&str]) -> Ended {
@@ -634,7 +663,7 @@ fn the_command_is_built_of_the_archive() {
     let source = copy.path("crates/desk/src/main.rt");
     expect_built(&copy, &BUILT);
     put(&source, "the same archive");
-    expect_built(&copy, &["check volefleece", "staticlib volefleece"]);
+    expect_built(&copy, &["lib volefleece"]);
     put_script(&copy.path("builds/staticlib/libvolefleece.a"), "another");
     put(&source, "another archive");
     expect_built(&copy, &BUILT);
@@ -858,12 +887,12 @@ fn the_gate_ends_with_the_count() {
         calls,
         [
             "version",
-            "fmt --check",
             "ci",
-            "check volefleece",
-            "staticlib volefleece",
-            "check probes",
-            "staticlib probes",
+            "lib volefleece",
+            "lib probes",
+            "run desk",
+            "run sales",
+            "run readdress",
             "tests: cargo test --release --offline",
             "volefleece-rs: cargo test --release --offline",
             "command: cargo test --release --target-dir target"
@@ -906,6 +935,17 @@ fn the_gate_keeps_the_count_back() {
     }
 
     let copy = Repository::new(PROGRAM);
+    let ok = |bad| format!("rt: ok; must-fail edits: 12 refused{bad}; all was done\n");
+    put(&copy.path("ci"), &(ok("") + "3 passed, 0 failed\n"));
+    assert_eq!(copy.run("test").status, Some(0));
+    let bad = ok(", 1 of them only by a limit, 10 bad");
+    put(&copy.path("ci"), &format!("{bad}3 passed, 0 failed\n"));
+    let ended = copy.run("test");
+    assert_eq!(ended.status, Some(1));
+    let said = format!("{bad}rt ci found bad must-fail edits\n");
+    assert_eq!(ended.output, said);
+
+    let copy = Repository::new(PROGRAM);
     put(&copy.path("crates/stray/src/lib.rt"), "");
     let ended = copy.run("test");
     assert_eq!(ended.status, Some(1));
@@ -945,11 +985,9 @@ fn the_benchmarks_are_of_what_is_built() {
     assert_eq!(
         copy.calls(),
         [
-            "check volefleece",
-            "staticlib volefleece",
-            "check probes",
-            "staticlib probes",
-            "check desk",
+            "lib volefleece",
+            "lib probes",
+            "run desk",
             benched,
             FITTED,
             BUILT_COMMAND,
@@ -957,7 +995,7 @@ fn the_benchmarks_are_of_what_is_built() {
         ]
     );
     assert_eq!(copy.run("bench").status, Some(0));
-    assert_eq!(copy.calls()[9..], [benched, command]);
+    assert_eq!(copy.calls()[7..], [benched, command]);
 }
 
 #[test]
@@ -1085,7 +1123,7 @@ fn the_command_is_installed_with_its_completions() {
     let install = |prefix: &Path| Ended::of(copy.command("install").arg(prefix));
     let prefix = copy.path("prefix");
     expect_installed(&install(&prefix), &prefix);
-    let programs = ["check desk", "check sales", "check readdress"];
+    let programs = ["run desk", "run sales", "run readdress"];
     assert_eq!(copy.calls(), [&programs[..], &BUILT].concat());
     let read = |name| fs::read(prefix.join(name)).expect("installed");
     assert_eq!(
