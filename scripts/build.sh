@@ -69,7 +69,7 @@ in_crate() (
     cd "$root/crates/$2" && exec rt "$1"
 )
 
-# What `rt` built stays in the crate's folder `out`, and `file` is a copy. A program is run there too, for none to read what it says.
+# `rt` leaves what it builds in the crate's folder `out`, and `file` is a copy. It runs a program once too, in the crate's folder: what that writes is no answer.
 by_rt() {
     command -v rt >/dev/null || fail "$file is not built from these sources, and to build it the kit's rt must be on PATH"
     made=$root/crates/$2/out/${file##*/}

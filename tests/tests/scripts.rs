@@ -11,6 +11,7 @@ use std::os::unix::fs::{symlink, MetadataExt};
 use std::os::unix::net::UnixDatagram;
 use std::path::Path;
 use std::process::Command;
+use std::sync::Mutex;
 use std::{env, thread};
 
 use volefleece_tests::commands::*;
@@ -24,6 +25,9 @@ const SIMPLIFIED: &str = "simplified 288 steps 7 finished";
 /// A stand-in for a program, and what it says.
 const PROGRAM: &str = "echo figure 1 branch 255";
 const LINE: &str = "figure 1 branch 255";
+
+/// Held by who has the real `./simplify` make target/workshop anew.
+static WORKSHOP: Mutex<()> = Mutex::new(());
 
 /// A folder that holds other folders.
 fn room() -> Folder {
@@ -68,6 +72,7 @@ fn by_closed(shell: &Path, name: &str, room: &Folder, closed: &str) -> Command {
 
 #[test]
 fn the_samples() {
+    let _alone = WORKSHOP.lock();
     let room = room();
     let none: [&str; 0] = [];
     run("desk", &room, &none).expect(0, HOUSE);
@@ -384,6 +389,7 @@ fn a_program_that_does_not_answer_is_told() {
 
 #[test]
 fn what_is_built_needs_no_rt() {
+    let _alone = WORKSHOP.lock();
     let room = room();
     let none: [&str; 0] = [];
     run("desk", &room, &none).expect(0, HOUSE);
