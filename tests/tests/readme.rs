@@ -39,7 +39,7 @@ fn compiles_and_prints(compile: &mut Command, program: &Path) {
 #[test]
 fn the_program_in_c() {
     let folder = Folder::new("desk");
-    folder.write("main.c", block("From C, all eight calls:").as_bytes());
+    folder.write("main.c", block("From C, all calls but retiming's:").as_bytes());
     let program = folder.path("program");
     let mut compile = Command::new("cc");
     compile
