@@ -1,9 +1,10 @@
 // The reader of tree tables: the node of a record, and questions 1 to 7 of document 01.
 #![tactic(auto)]
 
-ghost use Rattle.std.specs.Prelude.{◌≡◌, ◌+◌, ◌*◌, ◌^◌, ◌<◌, ◌≤◌, drop, length};
+ghost use Rattle.std.specs.Prelude.{◌≡◌, Bool, List, ℕ, ◌+◌, ◌*◌, ◌^◌, ◌<◌, ◌≤◌, drop, length};
 ghost use Rattle.table.specs.Numbers.{record_length, most_records};
-ghost use Rattle.table.specs.Table.{child_byte, field, first_node, flagless, kind_from, limit_from, loop_byte, most_from, num_from, record_count, without_four};
+ghost use Rattle.table.specs.Table.{child_byte, field, first_node, flagless, kind_from, limit_from, loop_byte, most_from, num_from, record_count, without_four, each};
+ghost use Rattle.table.specs.Passes.{TakesRecords, TestsRecords};
 ghost use Rattle.table.specs.Questions.{time_in_range, count_in_range, kind_in_range, most_in_range};
 ghost use Rattle.table.specs.Checking.{fill_listed, flags_listed, kind_listed, limit_count, limit_listed, question1, question2, question3, question4, record_in_range, record_listed, refusal};
 ghost use Rattle.table.specs.Numbers.{most_loops, most_depth};
@@ -46,14 +47,14 @@ pub const MOST_DEPTH: usize = 32;
 // ---- The node: a record without its number of children
 
 // A time or bound: a plain number, or a symbol by its number.
-#[derive(Clone, Copy)]
+#[derive(Clone, Copy, PartialEq, Eq)]
 pub enum Number {
     Plain(u64),
     Symbol(u64),
 }
 
 // A limit's number: plain, a symbol's value, or the triangular number of a symbol's value.
-#[derive(Clone, Copy)]
+#[derive(Clone, Copy, PartialEq, Eq)]
 pub enum Most {
     Plain(u64),
     Symbol(u64),
@@ -61,14 +62,14 @@ pub enum Most {
 }
 
 // No limit, or the loop that it names (byte 3) and its number.
-#[derive(Clone, Copy)]
+#[derive(Clone, Copy, PartialEq, Eq)]
 pub enum Limit {
     Unlimited,
     AtMost(u8, Most),
 }
 
 // A block with its time, a sequence, a choice, a loop with its bound.
-#[derive(Clone, Copy)]
+#[derive(Clone, Copy, PartialEq, Eq)]
 pub enum Kind {
     Block(Number),
     Sequence,
@@ -76,7 +77,7 @@ pub enum Kind {
     Loop(Number),
 }
 
-#[derive(Clone, Copy)]
+#[derive(Clone, Copy, PartialEq, Eq)]
 pub struct Node {
     pub kind: Kind,
     pub limit: Limit,
@@ -87,56 +88,31 @@ pub struct Node {
 pub fn number_has(number: Number, symbol: u64) -> bool
     ensures { result ≡ number_has symbol number }
 {
-    match number {
-        Number::Plain(_) => false,
-        Number::Symbol(s) => s == symbol,
-    }
+    number == Number::Symbol(symbol)
 }
 
 // Has this time two values, one for its block's first pass and one for the later ones?
 pub fn is_paired(time: Number) -> bool
     ensures { result ≡ paired time }
 {
-    match time {
-        Number::Plain(_) => false,
-        Number::Symbol(s) => (FIRST_PAIRED_SYMBOL <= s) & (s < HOW_MANY_SYMBOLS),
-    }
+    matches!(time, Number::Symbol(FIRST_PAIRED_SYMBOL..HOW_MANY_SYMBOLS))
 }
 
 // Is it a block with such a time?
 pub fn is_paired_block(kind: Kind) -> bool
     ensures { result ≡ paired_block kind }
 {
-    match kind {
-        Kind::Block(time) => is_paired(time),
-        Kind::Sequence => false,
-        Kind::Choice => false,
-        Kind::Loop(_) => false,
-    }
+    matches!(kind, Kind::Block(time) if is_paired(time))
 }
 
 // ---- Fields
-
-// A byte as a wider number.
-fn widen(x: u8) -> usize
-    ensures { (result ≡ x) × (result < 256) }
-{
-    x as usize
-}
-
-// The number that four bytes write, lowest first.
-fn four_bytes(b0: u8, b1: u8, b2: u8, b3: u8) -> u64
-    ensures { (result ≡ b0 + 256 * (b1 + 256 * (b2 + 256 * b3))) × (result < 2 ^ 32) }
-{
-    (b0 as u64) + 256 * ((b1 as u64) + 256 * ((b2 as u64) + 256 * (b3 as u64)))
-}
 
 // The field of four bytes that starts at `at`.
 pub fn read_u32(b: &[u8], at: usize) -> u64
     requires { at + 4 ≤ length b.now }
     ensures { (result ≡ field b.now at 4) × (result < 2 ^ 32) }
 {
-    four_bytes(b[at], b[at + 1], b[at + 2], b[at + 3])
+    u64::from(u32::from_le_bytes([b[at], b[at + 1], b[at + 2], b[at + 3]]))
 }
 
 // The field of eight bytes that starts at `at`.
@@ -144,7 +120,16 @@ pub fn read_u64(b: &[u8], at: usize) -> u64
     requires { at + 8 ≤ length b.now }
     ensures { result ≡ field b.now at 8 }
 {
-    read_u32(b, at) + 4294967296 * read_u32(b, at + 4)
+    u64::from_le_bytes([
+        b[at],
+        b[at + 1],
+        b[at + 2],
+        b[at + 3],
+        b[at + 4],
+        b[at + 5],
+        b[at + 6],
+        b[at + 7],
+    ])
 }
 
 // ---- The node of a record
@@ -232,7 +217,7 @@ pub fn child_count(b: &[u8]) -> usize
     requires { record_length ≤ length b.now }
     ensures { (result ≡ child_byte b.now) × (result < 256) }
 {
-    widen(b[2])
+    usize::from(b[2])
 }
 
 // Has the record at the front of `b` no flag 4, where question 2 says yes of it?
@@ -329,20 +314,25 @@ fn record_listed(b: &[u8]) -> bool
     kind & limit & flags_listed(flags / 2) & fill
 }
 
+// Does every record pass the test? It is lent the part of the table that starts with its record.
+pub fn every_record<F: Fn(&[u8]) -> bool>(table: &[u8], test: F) -> bool
+    requires { TakesRecords F.Fn test }
+    ensures { (p : List ℕ → Bool) → TestsRecords F.Fn test p → result ≡ each p (record_count table.now) table.now }
+{
+    for i in 0..table.len() / RECORD_LENGTH {
+        let at = RECORD_LENGTH * i;
+        if !test(&table[at..]) {
+            return false;
+        }
+    }
+    true
+}
+
 // Are the fields of every record as listed?
 pub fn records_listed(table: &[u8]) -> bool
     ensures { result ≡ question2 table.now }
 {
-    let n = table.len() / RECORD_LENGTH;
-    let mut i: usize = 0;
-    while i < n {
-        let at = RECORD_LENGTH * i;
-        if !record_listed(&table[at..]) {
-            return false;
-        }
-        i += 1;
-    }
-    true
+    every_record(table, record_listed)
 }
 
 // ---- Question 3
@@ -408,16 +398,7 @@ fn record_in_range(b: &[u8]) -> bool
 pub fn records_in_range(table: &[u8]) -> bool
     ensures { result ≡ question3 table.now }
 {
-    let n = table.len() / RECORD_LENGTH;
-    let mut i: usize = 0;
-    while i < n {
-        let at = RECORD_LENGTH * i;
-        if !record_in_range(&table[at..]) {
-            return false;
-        }
-        i += 1;
-    }
-    true
+    every_record(table, record_in_range)
 }
 
 // ---- Question 4
@@ -427,16 +408,12 @@ pub fn one_tree(table: &[u8]) -> bool
     requires { length table.now ≤ record_length * most_records }
     ensures { result ≡ question4 table.now }
 {
-    let n = table.len() / RECORD_LENGTH;
     let mut wanted: usize = 1;
-    let mut i: usize = 0;
-    while i < n {
+    for i in 0..table.len() / RECORD_LENGTH {
         if wanted == 0 {
             return false;
         }
-        let at = RECORD_LENGTH * i;
-        wanted = wanted - 1 + child_count(&table[at..]);
-        i += 1;
+        wanted = wanted - 1 + children_at(table, i);
     }
     wanted == 0
 }
