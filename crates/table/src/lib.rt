@@ -1,7 +1,7 @@
 // The reader of tree tables: the node of a record, and questions 1 to 7 of document 01.
 #![tactic(auto)]
 
-ghost use Rattle.std.specs.Prelude.{◌≡◌, Bool, List, ℕ, ◌+◌, ◌*◌, ◌^◌, ◌<◌, ◌≤◌, drop, length};
+ghost use Rattle.std.specs.Prelude.{◌≡◌, Bool, IfSome, List, ℕ, ◌+◌, ◌*◌, ◌^◌, ◌<◌, ◌≤◌, drop, length};
 ghost use Rattle.refusals.specs.Refusals.{answer, refused};
 ghost use Rattle.table.specs.Numbers.{record_length, most_records};
 ghost use Rattle.table.specs.Table.{child_byte, field, first_node, flagless, kind_from, limit_from, loop_byte, most_from, num_from, record_count, without_four, each};
@@ -11,7 +11,7 @@ ghost use Rattle.table.specs.Checking.{fill_listed, flags_listed, kind_listed, l
 ghost use Rattle.table.specs.Numbers.{most_loops, most_depth};
 ghost use Rattle.table.specs.Trees.{around};
 ghost use Rattle.table.specs.Questions.{name_ok, number_has, paired, paired_block, paired_share};
-ghost use Rattle.table.specs.Survey.{most_share, node_share, name_share, listed_share, with_next, with_parent, Small, survey_node, survey_children, survey_refusal};
+ghost use Rattle.table.specs.Survey.{most_share, node_share, name_share, listed_share, with_next, with_parent, Small, survey_node, survey_children, fitting_refusal, survey_refusal};
 
 use refusals::Refusal;
 
@@ -423,12 +423,10 @@ pub fn one_tree(table: &[u8]) -> bool
 
 // ---- Questions 5 to 7
 
-// What a walk finds of a tree, or of several in a row: how many records, whether they are as question 5 asks, whether question 6 says yes, and
-// question 7's sum. Of trees that are not as question 5 asks it finds nothing else.
+// What a walk finds of a tree that is as question 5 asks, or of several in a row: how many records, whether question 6 says yes, and question 7's sum.
 #[derive(Clone, Copy)]
 pub struct Survey {
     pub records: usize,
-    pub fits: bool,
     pub named: bool,
     pub weight: u64,
 }
@@ -503,30 +501,20 @@ fn paired_share(kind: Kind, outer: u8) -> u64
 }
 
 impl Survey {
-    // Of a tree that is not as question 5 asks.
-    const UNFIT: Survey = Survey {
-        records: 0,
-        fits: false,
-        named: false,
-        weight: 0,
-    };
-
     // Of no tree at all.
     const EMPTY: Survey = Survey {
         records: 0,
-        fits: true,
         named: true,
         weight: 0,
     };
 
-    // Trees that fit, and the next one, which fits too.
+    // Trees, and the next one.
     fn with_next(self, next: Survey) -> Survey
         requires { (self.records + next.records ≤ most_records) × (self.weight + next.weight ≤ node_share * most_records) }
         ensures { result ≡ with_next self next }
     {
         Survey {
             records: self.records + next.records,
-            fits: true,
             named: self.named & next.named,
             weight: self.weight + next.weight,
         }
@@ -539,25 +527,17 @@ impl Survey {
     {
         let kind = node.kind;
         let limit = node.limit;
-        if self.fits {
-            Survey {
-                records: self.records + 1,
-                fits: true,
-                named: names_loop(limit, outer) & self.named,
-                weight: limit_share(limit, outer) + paired_share(kind, outer) + self.weight,
-            }
-        } else {
-            Survey::UNFIT
+        Survey {
+            records: self.records + 1,
+            named: names_loop(limit, outer) & self.named,
+            weight: limit_share(limit, outer) + paired_share(kind, outer) + self.weight,
         }
     }
 
-    // Questions 5 to 7: the first that says no.
+    // Questions 6 and 7: the first that says no.
     pub fn accept(self) -> Result<(), Refusal>
-        ensures { refused (answer result) ≡ survey_refusal self }
+        ensures { refused (answer result) ≡ fitting_refusal self }
     {
-        if !self.fits {
-            return Err(Refusal::Depth);
-        }
         if !self.named {
             return Err(Refusal::Names);
         }
@@ -566,77 +546,72 @@ impl Survey {
         }
         Ok(())
     }
-
-    // The first of questions 5 to 7 that says no, or 0.
-    pub fn refusal(self) -> u64
-        ensures { result ≡ survey_refusal self }
-    {
-        if self.fits {
-            if self.named {
-                if self.weight <= MOST_WEIGHT { 0 } else { 7 }
-            } else {
-                6
-            }
-        } else {
-            5
-        }
-    }
 }
 
 // The node at the front of `table` with everything below it, at most `depth` nodes deep, with `outer` loops around it.
 #[cycle(survey_children_survey_node)]
-fn survey_node(table: &[u8], depth: usize, outer: u8) -> Survey
+fn survey_node(table: &[u8], depth: usize, outer: u8) -> Option<Survey>
     requires { length table.now ≤ record_length * most_records }
     ensures value { result ≡ survey_node depth outer table.now }
-    ensures small { Small table.now result }
+    ensures small { IfSome result (Small table.now) }
 {
     if depth == 0 {
-        return Survey::UNFIT;
+        return None;
     }
     if table.len() < RECORD_LENGTH {
-        return Survey::UNFIT;
+        return None;
     }
     if MOST_LOOPS < outer {
-        return Survey::UNFIT;
+        return None;
     }
     let node = read_node(table);
     let kind = node.kind;
     let count = child_count(table);
     let first = loops_inside(kind, outer);
-    let below = survey_children(&table[RECORD_LENGTH..], depth - 1, first, outer, count);
-    below.with_parent(node, outer)
+    let below = survey_children(&table[RECORD_LENGTH..], depth - 1, first, outer, count)?;
+    Some(below.with_parent(node, outer))
 }
 
 // The `count` children at the front of `table`, each at most `depth` nodes deep, with `first` loops around the first and `others` around the others.
 // A child that does not fit ends the walk: it tells no place for the next, and so no record is read twice.
 #[cycle(survey_children_survey_node)]
-fn survey_children(table: &[u8], depth: usize, first: u8, others: u8, count: usize) -> Survey
+fn survey_children(
+    table: &[u8],
+    depth: usize,
+    first: u8,
+    others: u8,
+    count: usize,
+) -> Option<Survey>
     requires { length table.now ≤ record_length * most_records }
     ensures value { result ≡ survey_children depth first others count table.now }
-    ensures small { Small table.now result }
+    ensures small { IfSome result (Small table.now) }
 {
     let mut found = Survey::EMPTY;
     let mut outer = first;
-    let mut left = count;
-    while 0 < left {
+    for i in 0..count {
         let at = RECORD_LENGTH * found.records;
-        let child = survey_node(&table[at..], depth, outer);
-        if !child.fits {
-            return Survey::UNFIT;
-        }
+        let child = survey_node(&table[at..], depth, outer)?;
         found = found.with_next(child);
         outer = others;
-        left = left - 1;
     }
-    found
+    Some(found)
 }
 
 // The tree of a table. Where questions 1 to 4 say yes, this answers 5 to 7.
-pub fn survey_table(table: &[u8]) -> Survey
+pub fn survey_table(table: &[u8]) -> Option<Survey>
     requires { length table.now ≤ record_length * most_records }
     ensures { result ≡ survey_node most_depth 0 table.now }
 {
     survey_node(table, MOST_DEPTH, 0)
+}
+
+// Questions 5 to 7 of a table of which 1 to 4 say yes: the first that says no.
+pub fn accept_tree(table: &[u8]) -> Result<(), Refusal>
+    requires { length table.now ≤ record_length * most_records }
+    ensures { refused (answer result) ≡ survey_refusal (survey_node most_depth 0 table.now) }
+{
+    let survey = survey_table(table).ok_or(Refusal::Depth)?;
+    survey.accept()
 }
 
 // ---- Questions 1 to 7
@@ -657,24 +632,15 @@ pub fn accept(table: &[u8]) -> Result<(), Refusal>
     if !one_tree(table) {
         return Err(Refusal::Tree);
     }
-    survey_table(table).accept()
+    accept_tree(table)
 }
 
-// The number of the first question that says no, or 0: each is put to the whole table before the next.
+// The number of the first question that says no, or 0.
 pub fn refusal_of(table: &[u8]) -> u64
     ensures { result ≡ refusal table.now }
 {
-    if !length_allowed(table) {
-        return 1;
+    match accept(table) {
+        Ok(()) => 0,
+        Err(refusal) => u64::from(refusal),
     }
-    if !records_listed(table) {
-        return 2;
-    }
-    if !records_in_range(table) {
-        return 3;
-    }
-    if !one_tree(table) {
-        return 4;
-    }
-    survey_table(table).refusal()
 }
