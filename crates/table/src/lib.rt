@@ -588,7 +588,7 @@ fn survey_children(
 {
     let mut found = Survey::EMPTY;
     let mut outer = first;
-    for i in 0..count {
+    for _i in 0..count {
         let at = RECORD_LENGTH * found.records;
         let child = survey_node(&table[at..], depth, outer)?;
         found = found.with_next(child);

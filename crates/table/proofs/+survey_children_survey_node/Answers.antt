@@ -10,7 +10,7 @@ pub survey_children-returns-in_err-child-clause-value : goal.survey_children-ret
 survey_children-returns-in_err-child-clause-value t c =
     let l = c.loop-i in
     let none = rw (part-from c.args.table.now (record_length * l.found.records)) at c.in_err-child.ensures.value in
-    c.from_residual.ensures ∙ more-unfit (survey_node c.args.depth) l.outer c.args.others c.args.table.now l.found (c.args.count - l.i) (omega (arith, c.loop-i-test.true)) none ∙ l.invariant.1
+    c.from_residual.ensures ∙ more-unfit (survey_node c.args.depth) l.outer c.args.others c.args.table.now l.found (c.args.count - l._i) (omega (arith, c.loop-i-test.true)) none ∙ l.invariant.1
 
 pub survey_children-loop-i-preserved : goal.survey_children-loop-i-preserved
 survey_children-loop-i-preserved t c =
@@ -18,14 +18,14 @@ survey_children-loop-i-preserved t c =
     let part = part-from c.args.table.now (record_length * l.found.records) in
     let child = c.in_ok-child in
     let small = small-next c.args.table.now l.found child.child l.invariant.0 (rw part at child.ensures.small) in
-    let fewer : c.args.count - l.i ≡ c.args.count - (l.i + 1) + 1 = omega (arith, c.loop-i-test.true) in
+    let fewer : c.args.count - l._i ≡ c.args.count - (l._i + 1) + 1 = omega (arith, c.loop-i-test.true) in
     let whole = more-fits (survey_node c.args.depth) l.outer c.args.others c.args.table.now l.found _ _ child.child fewer (rw part at child.ensures.value) in
     (rw c.with_next-found.ensures small, rw c.with_next-found.ensures (whole ∙ l.invariant.1))
 
 pub survey_children-returns-clause-value : goal.survey_children-returns-clause-value
 survey_children-returns-clause-value t c =
     let l = c.loop-i in
-    more-done (survey_node c.args.depth) l.outer c.args.others (c.args.count - l.i) c.args.table.now l.found (omega (arith, c.loop-i-test.false)) ∙ l.invariant.1
+    more-done (survey_node c.args.depth) l.outer c.args.others (c.args.count - l._i) c.args.table.now l.found (omega (arith, c.loop-i-test.false)) ∙ l.invariant.1
 
 pub survey_node-returns-then-depth-eq0-clause-value : goal.survey_node-returns-then-depth-eq0-clause-value
 survey_node-returns-then-depth-eq0-clause-value t c = node-deep _ _ _ c.if-depth-eq0.true

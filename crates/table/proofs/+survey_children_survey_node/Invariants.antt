@@ -12,4 +12,4 @@ decreases-survey_node l = l.depth * 2
 -- the children left, after those found, give the whole answer
 abbrev pub invariant-survey_children-loop-i : goal.invariant-survey_children-loop-i
 invariant-survey_children-loop-i l =
-    Small l.table l.found × (survey_more (survey_node l.depth) l.outer l.others (l.count - l.i) l.table l.found ≡ survey_children l.depth l.first l.others l.count l.table)
+    Small l.table l.found × (survey_more (survey_node l.depth) l.outer l.others (l.count - l._i) l.table l.found ≡ survey_children l.depth l.first l.others l.count l.table)
