@@ -118,7 +118,8 @@ pub fn read_u32(b: &[u8], at: usize) -> u64
     u64::from(u32::from_le_bytes([b[at], b[at + 1], b[at + 2], b[at + 3]]))
 }
 
-// The field of eight bytes that starts at `at`.
+// The field of eight bytes that starts at `at`. Its bytes one by one, which the compiler makes one load: by `first_chunk` checking a table takes a fifth
+// more instructions.
 pub fn read_u64(b: &[u8], at: usize) -> u64
     requires { at + 8 ≤ length b.now }
     ensures { result ≡ field b.now at 8 }
@@ -176,8 +177,7 @@ pub fn read_kind(b: &[u8]) -> Kind
     requires { record_length ≤ length b.now }
     ensures { result ≡ (first_node b.now).kind }
 {
-    let value = number_from(b[1] % 2, read_u64(b, 8));
-    kind_from(b[0], value)
+    kind_from(b[0], number_from(b[1] % 2, read_u64(b, 8)))
 }
 
 // Its limit, whose number is read only where there is one: most nodes have none.
@@ -206,11 +206,9 @@ pub fn read_node(b: &[u8]) -> Node
     requires { record_length ≤ length b.now }
     ensures { result ≡ first_node b.now }
 {
-    let kind = read_kind(b);
-    let limit = read_limit(b);
     Node {
-        kind: kind,
-        limit: limit,
+        kind: read_kind(b),
+        limit: read_limit(b),
         address: read_address(b),
     }
 }
@@ -373,8 +371,7 @@ fn kind_in_range(kind: Kind) -> bool
 {
     match kind {
         Kind::Block(time) => time_in_range(time),
-        Kind::Sequence => true,
-        Kind::Choice => true,
+        Kind::Sequence | Kind::Choice => true,
         Kind::Loop(bound) => count_in_range(bound),
     }
 }
@@ -437,9 +434,7 @@ pub fn loops_inside(kind: Kind, outer: u8) -> u8
     ensures { result ≡ around kind outer }
 {
     match kind {
-        Kind::Block(_) => outer,
-        Kind::Sequence => outer,
-        Kind::Choice => outer,
+        Kind::Block(_) | Kind::Sequence | Kind::Choice => outer,
         Kind::Loop(_) => outer + 1,
     }
 }
@@ -458,7 +453,7 @@ fn power_of_two(n: u8) -> u64
     requires { n ≤ most_loops }
     ensures { (result ≡ 2 ^ n) × (result ≤ most_share) }
 {
-    1 << (n as u64)
+    1 << n
 }
 
 // What a limit that names this loop adds to question 7's sum.
@@ -466,16 +461,11 @@ fn name_share(name: u8, outer: u8) -> u64
     requires { outer ≤ most_loops }
     ensures { (result ≡ name_share name outer) × (result ≤ most_share) }
 {
-    if name == WHOLE_RUN {
-        return power_of_two(outer);
+    match name {
+        WHOLE_RUN => power_of_two(outer),
+        1..=MOST_LOOPS => power_of_two(name - 1),
+        _ => 0,
     }
-    if name == 0 {
-        return 0;
-    }
-    if MOST_LOOPS < name {
-        return 0;
-    }
-    power_of_two(name - 1)
 }
 
 fn limit_share(limit: Limit, outer: u8) -> u64
@@ -525,12 +515,10 @@ impl Survey {
         requires { (outer ≤ most_loops) × (self.records ≤ most_records) × (self.weight ≤ node_share * self.records) }
         ensures { (result ≡ with_parent node outer self) × (result.records ≤ self.records + 1) × (result.weight ≤ node_share * result.records) }
     {
-        let kind = node.kind;
-        let limit = node.limit;
         Survey {
             records: self.records + 1,
-            named: names_loop(limit, outer) & self.named,
-            weight: limit_share(limit, outer) + paired_share(kind, outer) + self.weight,
+            named: names_loop(node.limit, outer) & self.named,
+            weight: limit_share(node.limit, outer) + paired_share(node.kind, outer) + self.weight,
         }
     }
 
@@ -565,9 +553,8 @@ fn survey_node(table: &[u8], depth: usize, outer: u8) -> Option<Survey>
         return None;
     }
     let node = read_node(table);
-    let kind = node.kind;
     let count = child_count(table);
-    let first = loops_inside(kind, outer);
+    let first = loops_inside(node.kind, outer);
     let below = survey_children(&table[RECORD_LENGTH..], depth - 1, first, outer, count)?;
     Some(below.with_parent(node, outer))
 }

@@ -10,7 +10,7 @@ use Rattle.table.specs.Numbers.{record_length, most_records, most_weight}
 use Rattle.table.specs.Bytes.{AreBytes}
 use Rattle.table.specs.Table.{decode}
 use Rattle.table.specs.Asking.{Question, ◌asks◌, first_no}
-use Rattle.table.specs.Checking.{question1, question2, question3, question4, question5, question6, question7, questions, refusal}
+use Rattle.table.specs.Checking.{question1, question2, question3, question4, question6, question7, questions, refusal}
 use Rattle.table.specs.Survey.{survey_refusal}
 use Rattle.table.proofs.Laws.Asking.{numbered, passed, passes, stops}
 use Rattle.table.proofs.Laws.RoundTrip.{length-encode}
