@@ -278,23 +278,28 @@ pub fn length_allowed(table: &[u8]) -> bool
 fn kind_listed(kind: u8, children: u8, flag: u8, value: u64) -> bool
     ensures { result ≡ kind_listed kind children flag value }
 {
-    (kind == 0) & (children == 0)
-        | (kind == 3) & (children == 2)
-        | ((kind == 1) | (kind == 2)) & (1 <= children) & (flag == 0) & (value == 0)
+    match kind {
+        0 => children == 0,
+        1 | 2 => (1 <= children) & (flag == 0) & (value == 0),
+        3 => children == 2,
+        _ => false,
+    }
 }
 
 fn limit_listed(named: u8, flags: u8, most: u64) -> bool
     ensures { result ≡ limit_listed named flags most }
 {
-    (1 <= named) & (named <= MOST_LOOPS)
-        | (named == WHOLE_RUN)
-        | (named == 0) & (flags == 0) & (most == 0)
+    match named {
+        0 => (flags == 0) & (most == 0),
+        1..=MOST_LOOPS | WHOLE_RUN => true,
+        _ => false,
+    }
 }
 
 fn flags_listed(flags: u8) -> bool
     ensures { result ≡ flags_listed flags }
 {
-    (flags != 2) & (flags <= 3)
+    matches!(flags, 0 | 1 | 3)
 }
 
 fn fill_listed(b20: u8, b21: u8, b22: u8, b23: u8) -> bool
