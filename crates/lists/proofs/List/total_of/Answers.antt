@@ -2,15 +2,15 @@ use mathlib.Core.Path.{refl}
 use Prim.Native.Nat.{◌*◌, ◌+◌, ◌-◌}
 use native.Mathlib.Omega.{arith}
 use borrow.Author.Rules.{rules}
-use Rattle.lists.specs.Reading.{count_at, list_in}
+use Rattle.lists.specs.Reading.{count_at}
 use Rattle.lists.proofs.Caps.{passes-true}
 use Rattle.lists.proofs.Totals.{Totalling, total-fits, total-last, total-start, total-turn}
-use Rattle.lists.proofs.total_of.Goals.{After-value_at}
-use Rattle.lists.proofs.total_of.Goals as goal
+use Rattle.lists.proofs.List.total_of.Goals.{After-value_at}
+use Rattle.lists.proofs.List.total_of.Goals as goal
 
 -- what a turn leaves
 turned : (c : After-value_at) → let l = c.loop-sum in let s = c in
-    Totalling (list_in s.args.a.now s.args.al) s.args.n (l.k + 1) (l.left - l.c) (l.sum + l.c * c.value_at.result) (count_at s.args.a.now (l.k + 1))
+    Totalling (s.args.self.now) s.args.n (l.k + 1) (l.left - l.c) (l.sum + l.c * c.value_at.result) (count_at s.args.self.now.pairs (l.k + 1))
 turned c = total-turn c.loop-sum.invariant c.passes.ensures c.loop-sum-test.true c.value_at.ensures refl
 
 pub loop-sum-init : goal.loop-sum-init

@@ -1,17 +1,17 @@
 use borrow.Author.Rules.{rules}
 use Rattle.lists.specs.Laws.Add.{positive}
 use Rattle.lists.proofs.Merges.{Onward, merge-fits, merge-last, merge-onward, merge-start, merge-turn}
-use Rattle.lists.proofs.merge_onto.Goals.{In-loop-h}
-use Rattle.lists.proofs.merge_onto.Goals as goal
+use Rattle.lists.proofs.List.merge_onto.Goals.{In-loop-h}
+use Rattle.lists.proofs.List.merge_onto.Goals as goal
 
 onward : (c : In-loop-h) → Onward c.loop-h.invariant
 onward c = merge-onward c.loop-h.invariant (positive _ c.loop-h-test.true)
 
 pub first_pair-h-requires : goal.first_pair-h-requires
-first_pair-h-requires c = record { fact_1 = search rules; fact_2 = search rules; fact_3 = merge-fits c.requires.fact_1 c.requires.fact_1.left.some c.requires.fact_1.right.some }
+first_pair-h-requires c = record { fact_1 = search rules; fact_2 = search rules; fact_3 = merge-fits c.requires c.requires.left.some c.requires.right.some }
 
 pub loop-h-init : goal.loop-h-init
-loop-h-init c = merge-start c.requires.fact_1 c.requires.fact_2 c.first_pair-h.ensures
+loop-h-init c = merge-start c.requires (search rules) c.first_pair-h.ensures
 
 pub overflow_add-i : goal.overflow_add-i
 overflow_add-i c = let o = onward (goal.at.overflow_add-i c).In-loop-h in search rules

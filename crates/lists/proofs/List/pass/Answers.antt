@@ -4,8 +4,8 @@ use native.Mathlib.Omega.{arith}
 use borrow.Author.Tests.{eq-eqb, le-leb, lt-leb, ne_eqb}
 use Rattle.lists.specs.Laws.Add.{positive}
 use Rattle.lists.specs.Reading.{most_pairs, passed}
-use Rattle.lists.proofs.pass.Goals.{Then-left-m}
-use Rattle.lists.proofs.pass.Goals as goal
+use Rattle.lists.proofs.List.pass.Goals.{Then-left-m}
+use Rattle.lists.proofs.List.pass.Goals as goal
 
 -- a finite pair is not the last
 inner : (c : Then-left-m) → suc c.args.at < most_pairs

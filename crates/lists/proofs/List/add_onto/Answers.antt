@@ -1,8 +1,9 @@
 use native.Mathlib.Omega.{arith}
+use borrow.Author.Rules.{rules}
 use Rattle.lists.specs.Laws.Add.{positive}
 use Rattle.lists.proofs.Adds.{Added, add-fits, add-last, add_start, add_turn}
-use Rattle.lists.proofs.add_onto.Goals.{After-shorter_of-m-in-loop-m}
-use Rattle.lists.proofs.add_onto.Goals as goal
+use Rattle.lists.proofs.List.add_onto.Goals.{After-shorter_of-m-in-loop-m}
+use Rattle.lists.proofs.List.add_onto.Goals as goal
 
 -- what a turn leaves
 turned : (c : After-shorter_of-m-in-loop-m)
@@ -13,7 +14,7 @@ turned c =
 
 pub loop-m-init : goal.loop-m-init
 loop-m-init c =
-    add_start c.requires.fact_1 c.requires.fact_2 c.count_at-x.ensures c.count_at-y.ensures c.shorter_of-m.ensures
+    add_start c.requires (search rules) c.count_at-x.ensures c.count_at-y.ensures c.shorter_of-m.ensures
 
 pub overflow_add-value_at : goal.overflow_add-value_at
 overflow_add-value_at c = omega (arith, add-fits c.loop-m.invariant)

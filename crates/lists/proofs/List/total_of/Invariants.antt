@@ -1,11 +1,10 @@
 -- Invariant of the loop of `total_of`: the sum, and then what is left of the first n members from pair k on, come to the total (`Totalling`).
 use Prim.Native.Nat.{◌-◌}
-use Rattle.lists.specs.Reading.{list_in}
 use Rattle.lists.proofs.Totals.{Totalling}
-use Rattle.lists.proofs.total_of.Given as goal
+use Rattle.lists.proofs.List.total_of.Given as goal
 
 abbrev pub invariant-loop-sum : goal.invariant-loop-sum
-invariant-loop-sum l = Totalling (list_in l.a l.al) l.n l.k l.left l.sum l.c
+invariant-loop-sum l = Totalling l.self l.n l.k l.left l.sum l.c
 
 abbrev pub decreases-loop-sum : goal.decreases-loop-sum
-decreases-loop-sum l = l.al - l.k
+decreases-loop-sum l = l.self.len - l.k
