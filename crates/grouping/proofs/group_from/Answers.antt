@@ -1,9 +1,7 @@
-use mathlib.Core.Path.{◌∙◌}
 use native.Mathlib.Omega.{arith}
 use borrow.Author.Rules.{rules}
 use Rattle.lists.specs.Laws.Add.{positive}
 use Rattle.grouping.proofs.Groups.{Stepped, group-fits, group-last, group-start, group-step}
-use Rattle.lists.proofs.Stored.{length-stored}
 use Rattle.grouping.proofs.group_from.Goals.{After-group_turn-t}
 use Rattle.grouping.proofs.group_from.Goals as goal
 
@@ -14,7 +12,7 @@ stepped c =
     group-step t.loop-c.invariant (positive _ t.loop-c-test.true) c.value_at-v.ensures c.group_turn-t.ensures
 
 pub loop-c-init : goal.loop-c-init
-loop-c-init c = group-start c.requires.fact_1 c.requires.fact_2 c.requires.fact_3 c.count_at-c.ensures
+loop-c-init c = group-start c.requires.fact_1 c.requires.fact_2 (search rules) c.count_at-c.ensures
 
 pub group_turn-t-requires : goal.group_turn-t-requires
 group_turn-t-requires c = group-fits c.loop-c.invariant c.value_at-v.ensures
@@ -26,9 +24,7 @@ pub overflow_mul-n : goal.overflow_mul-n
 overflow_mul-n c = let t = stepped (goal.at.overflow_mul-n c).After-group_turn-t in search rules
 
 pub put_pair-requires-in-loop-c : goal.put_pair-requires-in-loop-c
-put_pair-requires-in-loop-c c =
-    let t = stepped (goal.at.put_pair-requires-in-loop-c c).After-group_turn-t in
-    record { fact_1 = search rules; fact_2 = rw c.put_pair.ensures (length-stored _ _ _ _ ∙ c.loop-c.invariant.long) }
+put_pair-requires-in-loop-c c = let t = stepped (goal.at.put_pair-requires-in-loop-c c).After-group_turn-t in search rules
 
 pub overflow_add-o-in-loop-c : goal.overflow_add-o-in-loop-c
 overflow_add-o-in-loop-c c = let t = stepped (goal.at.overflow_add-o-in-loop-c c).After-group_turn-t in search rules
@@ -51,10 +47,6 @@ overflow_add-sum c = omega (arith, (group-fits c.loop-c.invariant c.value_at-v-2
 
 pub overflow_mul-n-3 : goal.overflow_mul-n-3
 overflow_mul-n-3 c = omega (arith, (group-fits c.loop-c.invariant c.value_at-v-2.ensures).whole)
-
-pub put_pair-requires-3 : goal.put_pair-requires-3
-put_pair-requires-3 c =
-    record { fact_1 = search rules; fact_2 = rw c.put_pair-2.ensures (length-stored _ _ _ _ ∙ c.loop-c.invariant.long) }
 
 pub returns : goal.returns
 returns c =
