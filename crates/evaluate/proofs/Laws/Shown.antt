@@ -29,10 +29,14 @@ first-top {a} p = ap top (sym (suffix-whole a)) ∙ suffix-top a 0 (omega (arith
 pub found-shown : {r : Valued} {a : Listed} {p : Pairs} {e : Found} → Is a p → e ≡ found p r.named r.records r.branch → Shows (Some r) a e
 found-shown {r} h e = (h.proper, e ∙ ap (λ p. found p r.named r.records r.branch) (sym h.pairs))
 
--- an answer that says where question 10 says yes
+-- the list of an answer
+pub list-shown : {a : Listed} {k n c : ℕ} {e : Found} → Proper a × (e ≡ found (pairs_of a) k n c) → Is a e.pairs
+list-shown s = record { proper = s.0; pairs = sym (ap (λ c. c.pairs) s.1) }
+
+-- that there is one where question 10 says yes
 pub shown-fits : (r : Option Valued) (a : Listed) (e : Found) → Shows r a e → e.fits ≡ true → Is a e.pairs
 shown-fits None a e s f = absurd (subst T (sym f ∙ ap (λ c. c.fits) s) tt)
-shown-fits (Some r) a e s f = record { proper = s.0; pairs = sym (ap (λ c. c.pairs) s.1) }
+shown-fits (Some r) a e s f = list-shown s
 
 -- what comes next after what is found
 pub then-shown : {r : Valued} {a : Listed} {e : Found} → Shows (Some r) a e → (f : Found → Found) → and_then e f ≡ f (found_in r a)
