@@ -1,7 +1,6 @@
 -- Each return has the answers to the questions before it; the last two have what the walk found.
 use mathlib.Core.Path.{ap, sym, ◌∙◌}
 use native.Mathlib.Omega.{arith}
-use borrow.Author.Rules.{rules}
 use Rattle.table.specs.Bytes.{AreBytes}
 use Rattle.table.proofs.Laws.Refusal.{accepted-short}
 use Rattle.lists.specs.Laws.Numbers.{list-width, list-numbers}
