@@ -12,13 +12,13 @@ ghost use Rattle.lists.specs.Reading.{
   Proper,
   Summable,
   count_at,
+  ended,
   head_of,
   lasts_of,
   list_in,
   most_pairs,
   pairs_of,
   passed,
-  passes_of,
   stored,
   value_at,
 };
@@ -281,13 +281,6 @@ impl List {
 
 // ---- Limit, and the first members
 
-// Does a pair of count c end before the limit?
-fn passes(c: u64, left: u64) -> bool
-    ensures { result ≡ passes_of c left }
-{
-    (c != 0) & (c < left)
-}
-
 // Does a pair remain of a limit?
 fn lasts(v: u64, left: u64) -> usize
     ensures { (result ≡ lasts_of v left) × (result ≤ 1) }
@@ -299,55 +292,52 @@ fn lasts(v: u64, left: u64) -> usize
 }
 
 impl List {
-    // Limit: the first m members, and 0 after. Nothing remains of a limit of 0.
+    // The list ends in pair k, whose value comes `left` times, and is 0 after.
+    fn end_at(&mut self, k: usize, left: u64)
+        requires { suc k < most_pairs }
+        ensures { self.new ≡ ended self.old k left }
+    {
+        let v = self.value_at(k);
+        self.put_pair(k, v, left);
+        let end = k + lasts(v, left);
+        self.put_pair(end, 0, 0);
+        self.len = end + 1;
+    }
+
+    // Limit: the first m members, and 0 after.
     pub fn cap(&mut self, m: u64)
         requires { Cappable self.old }
         ensures { Is self.new (cap_pairs m (pairs_of self.old)) }
     {
-        if m == 0 {
-            self.repeat(0);
-            return;
-        }
-        self.cap_from(m);
-    }
-
-    // The same for any m, pair by pair. For 0 it would write the zero list too, but one call is plainer.
-    // What is left of m ends the walk, and is what the last pair gets: a `for` over the pairs would hand both out of its body.
-    fn cap_from(&mut self, m: u64)
-        requires { Cappable self.old }
-        ensures { Is self.new (cap_pairs m (pairs_of self.old)) }
-    {
-        let mut k = 0;
+        let last = self.len - 1;
         let mut left = m;
-        let mut c = self.count_at(0);
-        while passes(c, left) {
+        for k in 0..last {
+            let c = self.count_at(k);
+            if left <= c {
+                self.end_at(k, left);
+                return;
+            }
             left -= c;
-            k += 1;
-            c = self.count_at(k);
         }
-        let v = self.value_at(k);
-        self.put_pair(k, v, left);
-        k += lasts(v, left);
-        self.put_pair(k, 0, 0);
-        self.len = k + 1;
+        self.end_at(last, left);
     }
 
     // The sum of the first n members: the first group of n, and the whole of a loop that its body names.
-    // What is left of n ends the walk, as in `cap_from`.
     pub fn total_of(&self, n: u64) -> u64
         requires { Summable self.now n }
         ensures { result ≡ first (pairs_of self.now) n }
     {
-        let mut k = 0;
+        let last = self.len - 1;
         let mut left = n;
         let mut sum = 0;
-        let mut c = self.count_at(0);
-        while passes(c, left) {
+        for k in 0..last {
+            let c = self.count_at(k);
+            if left <= c {
+                return sum + left * self.value_at(k);
+            }
             sum += c * self.value_at(k);
             left -= c;
-            k += 1;
-            c = self.count_at(k);
         }
-        sum + left * self.value_at(k)
+        sum + left * self.value_at(last)
     }
 }
