@@ -45,30 +45,26 @@ fn group_turn(n: u64, m: u64, a: u64, v: u64, c: u64) -> Turn
 }
 
 // Loop: groups of n, each summed; n is not 0. Both pairs of a turn are stored always: one that does not count is written over by the next.
-// The list ends at its count of 0, whose pair closes the last group: a `for` over the pairs would leave that one to its last turn.
 fn group_from(list: &List, n: u64, out: &mut List)
     requires fact_1 { Groupable list.now n }
     requires fact_2 { 0 < n }
     ensures { Is out.new (group_from n 0 0 (pairs_of list.now)) }
 {
+    let last = list.len - 1;
     let mut o = 0;
-    let mut k = 0;
     let mut held = 0;
     let mut sum = 0;
-    let mut c = list.count_at(0);
-    while c != 0 {
+    for k in 0..last {
         let v = list.value_at(k);
-        let t = group_turn(n, held, sum, v, c);
+        let t = group_turn(n, held, sum, v, list.count_at(k));
         out.put_pair(o, t.mixed, 1);
         o += t.ends;
         out.put_pair(o, n * v, t.times);
         o += lists::some_of(t.times);
         held = t.held;
         sum = t.sum;
-        k += 1;
-        c = list.count_at(k);
     }
-    let v = list.value_at(k);
+    let v = list.value_at(last);
     out.put_pair(o, sum + (n - held) * v, 1);
     o += lists::some_of(held);
     out.put_pair(o, n * v, 0);
