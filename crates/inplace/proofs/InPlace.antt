@@ -1,17 +1,16 @@
 -- What sequence and choice in place keep: pairs stored over, found and inserted.
 use mathlib.Core.Path.{◌∙◌, ◌≡◌, ap, refl, subst, sym}
-use mathlib.Core.Bool.{Bool, ◌&&◌, false, not, true}
+use mathlib.Core.Bool.{Bool, ◌&&◌, false, true}
 use mathlib.Core.List.{List}
 use Prim.Native.Nat.{◌*◌, ◌+◌, ◌-◌, ◌<◌, ◌^◌, ◌≤◌, suc, zero, ℕ}
 use native.Mathlib.Nat.{zero-add}
 use native.Mathlib.Numerals.{add-one}
 use native.Mathlib.Omega.{arith}
-use lib.Dec.{eqb, leb, ltb}
+use lib.Dec.{eqb, ltb}
 use lib.ListN.{get_or, length, set}
 use lib.Seq.{get_or-set_other}
 use Rattle.std.specs.List.{CopiedTo, SameBelow}
-use borrow.Author.Count.{below_more}
-use borrow.Author.Tests.{eqb-false, eqb-true, leb-false, leb-true, lt-leb, ltb-false, ltb-true, ne_eqb}
+use borrow.Author.Tests.{eqb-false, eqb-true, lt-leb, ltb-false, ltb-true}
 use Rattle.lists.specs.declared.List.{List as Listed}
 use Rattle.lists.specs.Pairs.{Canonical, Pairs, ever, places, run, top, width}
 use Rattle.lists.specs.Operations.{add_pairs, lead, merge_pairs, skip}
@@ -20,7 +19,7 @@ use Rattle.lists.specs.Laws.Expand.{lead-run}
 use Rattle.inplace.specs.Laws.Short.{add-ever, add-evers, add-run, add-within, add-zeros, merge-ever, merge-first, merge-over, merge-run, merge-same, run-canonical}
 use Rattle.lists.specs.Laws.Union.{merge-facts}
 use Rattle.lists.specs.Reading.{Addable, Is, Mergeable, Proper, count_at, list_in, most_pairs, pairs_of, runs_then, stored, value_at}
-use Rattle.inplace.specs.Steps.{Inserted, Under, is_run, reaches_of}
+use Rattle.inplace.specs.Steps.{Inserted, Parted, Under, is_run}
 use Rattle.lists.proofs.Stored.{count-below, count-stored, length-stored, put, put_last, then_same, then-snoc, then-stored, value-below, value-stored}
 use Rattle.lists.proofs.Suffix.{by_place, count-few, len_is, more, suffix, suffix-canonical, suffix-count, suffix-end, suffix-inner, suffix-top, suffix-whole, value_low}
 
@@ -211,21 +210,6 @@ as_list l {n} {p} e h = subst (λ m. Is (list_in l.pairs m) p) (sym e) h
 
 -- ---- sequence with a run
 
-pub reaches-true : (c m : ℕ) {b : Bool} → b ≡ reaches_of c m → b ≡ true → (0 < c) × (c ≤ m)
-reaches-true c m d e = go (eqb c 0) refl (leb c m) refl (sym d ∙ e)
-  where
-    go : (b : Bool) → eqb c 0 ≡ b → (d : Bool) → leb c m ≡ d → not b && d ≡ true → (0 < c) × (c ≤ m)
-    go false p true q e = (positive c (eqb-false c 0 p), leb-true c m q)
-    go true p d q e = absurd (let z : ◌≡◌ {A = ℕ} 0 1 = cc in omega arith)
-    go false p false q e = absurd (let z : ◌≡◌ {A = ℕ} 0 1 = cc in omega arith)
-
-pub reaches-false : (c m : ℕ) {b : Bool} → b ≡ reaches_of c m → b ≡ false → 0 < c → m < c
-reaches-false c m d e l = go (leb c m) refl (rw (ne_eqb c 0 (λ z. omega arith)) at (sym d ∙ e))
-  where
-    go : (d : Bool) → leb c m ≡ d → d ≡ false → m < c
-    go true q e = absurd (let z : ◌≡◌ {A = ℕ} 0 1 = cc in omega arith)
-    go false q e = leb-false c m q
-
 -- of m times v, `left` fall on the pairs from k on, the first of which comes c times
 pub record Fronting (a : Listed) (v m : ℕ) (ps : List ℕ) (k left c : ℕ) : Type 0 where
   pub raising : Raising a v (lead v left (ever 0)) (add_pairs (pairs_of a) (run v m (ever 0))) ps k
@@ -244,13 +228,11 @@ module _ {a : Listed} {v m : ℕ} {ps : List ℕ} {k left c : ℕ} (t : Fronting
   whole_sum : Canonical (add_pairs (pairs_of a) (run v m (ever 0)))
   whole_sum = (add-facts (pairs_of a) (run v m (ever 0)) u.asked.canonical (run-canonical v m t.some t.times)).canonical
 
-  pub front-turn : {x d : ℕ} {b : Bool} → b ≡ reaches_of c left → b ≡ true → x ≡ value_at ps k → d ≡ count_at (stored ps k (x + v) c) (k + 1)
-      → Fronting a v m (stored ps k (x + v) c) (k + 1) (left - c) d
-  front-turn {x} {d} g h e f =
-      let (p, l) = reaches-true c left g h in
+  pub front-turn : {x d : ℕ} → 0 < c → c ≤ left → x ≡ value_at ps k → d ≡ count_at a.pairs (k + 1) → Fronting a v m (stored ps k (x + v) c) (k + 1) (left - c) d
+  front-turn {x} {d} p l e f =
       let n : suc k < a.len = more a u.asked k u.inside (rw t.next at p) in
       let w = raise-next u (lead v (left - c) (ever 0)) e t.next n (rw (suffix-inner a k n, lead-run v left (ever 0) (omega arith), ← t.next) (add-run v left _ c _ t.some l (rw (← t.next) at (inner u n)))) in
-      record { raising = w; room = t.room; some = t.some; times = t.times; next = f ∙ w.counts (k + 1) (omega arith) }
+      record { raising = w; room = t.room; some = t.some; times = t.times; next = f }
 
   pub front-done : left ≡ 0 → Is (list_in ps a.len) (add_pairs (pairs_of a) (run v m (ever 0)))
   unfolding lead
@@ -259,7 +241,7 @@ module _ {a : Listed} {v m : ℕ} {ps : List ℕ} {k left c : ℕ} (t : Fronting
       (ap (runs_then ps 0 k) (sym (add-zeros (suffix a k) (suffix-canonical a u.asked k u.inside))) ∙ rw z at u.made) whole_sum
 
   -- the pair that the run ends in, without the members that it raises
-  module _ {x y : ℕ} {b : Bool} (g : b ≡ reaches_of c left) (h : b ≡ false) (e : x ≡ value_at ps k) (f : y ≡ c - left) where
+  module _ {x y : ℕ} (g : 0 < c → left < c) (e : x ≡ value_at ps k) (f : y ≡ c - left) where
     cut : List ℕ
     cut = stored ps k x y
 
@@ -283,7 +265,7 @@ module _ {a : Listed} {v m : ℕ} {ps : List ℕ} {k left c : ℕ} (t : Fronting
         (λ n.
         let o : suffix (list_in cut a.len) (suc k) ≡ suffix a (suc k) =
         suffix-same cut a.pairs a.len (suc k) n (λ j i. value-above ps k x y j (omega arith) ∙ u.values j (omega arith)) (λ j i. count-above ps k x y j (omega arith) ∙ u.counts j (omega arith)) in
-        let i : left < count_at a.pairs k = omega (arith, t.next, reaches-false c left g h (omega (arith, t.next, inner-count n))) in
+        let i : left < count_at a.pairs k = omega (arith, t.next, g (omega (arith, t.next, inner-count n))) in
         rw (suffix-inner (list_in cut a.len) k n, suffix-inner a k n, o, value-stored ps k x y inside u.long, count-stored ps k x y inside u.long, lt-leb (count_at a.pairs k) left i)
         (rw (f, t.next, value) refl))
         (λ n. rw (suffix-end (list_in cut a.len) k n, suffix-end a k n, value-stored ps k x y inside u.long, value) refl)
@@ -297,11 +279,24 @@ module _ {a : Listed} {v m : ℕ} {ps : List ℕ} {k left c : ℕ} (t : Fronting
         let p : 0 < left = positive left z in
         let s = suffix-canonical a u.asked k u.inside in
         let n = suffix-count a u.asked k u.inside in
-        let w = add-within v left (suffix a k) t.some p (λ j. omega (arith, n, t.next, reaches-false c left g h (omega (arith, n, t.next)))) s in
+        let w = add-within v left (suffix a k) t.some p (λ j. omega (arith, n, t.next, g (omega (arith, n, t.next)))) s in
         inserted-is i u.inside t.room cut-ends
         (then-stored ps k k x y _ (omega arith)
         ∙ ap (runs_then ps 0 k) (rw (cut-rest, value, ← suffix-top a k u.inside) (sym w))
         ∙ rw (lead-run v left (ever 0) p) at u.made) whole_sum
+
+-- the end of the run in pair k
+pub front-ends : {a l new : Listed} {v m k left c : ℕ} → Fronting a v m l.pairs k left c → l.len ≡ a.len → (0 < c → left < c) → Parted l new k v left → Is new (add_pairs (pairs_of a) (run v m (ever 0)))
+front-ends {a} {l} {new} {v} {m} {k} {left} {c} t e g h = go (eqb left 0) refl
+  where
+    count : count_at l.pairs k - left ≡ c - left
+    count = ap (λ n. n - left) (t.raising.counts k (omega arith) ∙ sym t.next)
+
+    go : (b : Bool) → eqb left 0 ≡ b → Is new (add_pairs (pairs_of a) (run v m (ever 0)))
+    go true z = let z = eqb-true left 0 z in rw (h.whole z) (as_list l e (front-done t z))
+    go false z =
+        let z = eqb-false left 0 z in
+        as_list new (h.longer z ∙ ap (λ n. n + 1) e) (front-last t g refl count z (rw e at (h.parts z)))
 
 -- ---- a value found
 
@@ -312,9 +307,6 @@ pub record Finding (a : Listed) (v k : ℕ) : Type 0 where
   pub inside : k < a.len
   pub above : (j : ℕ) → j < k → v < value_at a.pairs j
 
-pub find-start : {a : Listed} {v : ℕ} → Proper a → value_at a.pairs (a.len - 1) ≤ v → Finding a v 0
-find-start p l = record { asked = p; last = l; inside = p.some; above = λ j h. absurd (omega arith) }
-
 -- a pair above the last one's value is not the last
 not_last : (a : Listed) (v k : ℕ) → value_at a.pairs (a.len - 1) ≤ v → k < a.len → v < value_at a.pairs k → suc k < a.len
 not_last a v k l h m = go (ltb (suc k) a.len) refl
@@ -324,15 +316,6 @@ not_last a v k l h m = go (ltb (suc k) a.len) refl
     go false e =
         let z : a.len - 1 ≡ k = omega (arith, ltb-false (suc k) a.len e) in
         absurd (omega (arith, rw z at l))
-
-pub find-turn : {a : Listed} {v k x : ℕ} → Finding a v k → x ≡ value_at a.pairs k → v < x → Finding a v (k + 1)
-find-turn {a} {v} {k} t e l =
-    let m : v < value_at a.pairs k = omega (arith, e) in
-    let n = not_last a v k t.last t.inside m in
-    record { asked = t.asked; last = t.last; inside = omega arith; above = below_more _ k t.above m }
-
-pub find-last : {a : Listed} {v k x : ℕ} → Finding a v k → x ≡ value_at a.pairs k → x ≤ v → Under a.pairs a.len v k
-find-last t e l = record { inside = t.inside; above = t.above; under = omega (arith, e) }
 
 -- ---- choice
 

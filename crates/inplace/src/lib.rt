@@ -5,7 +5,7 @@ ghost use Rattle.std.specs.Prelude.{◌≡◌, ◌+◌, ◌-◌, ◌<◌, ◌^�
 ghost use Rattle.lists.specs.Pairs.{ever, places, run, top};
 ghost use Rattle.lists.specs.Operations.{add_pairs, merge_pairs};
 ghost use Rattle.lists.specs.Reading.{Addable, Is, Mergeable, Proper, most_pairs, pairs_of, value_at};
-ghost use Rattle.inplace.specs.Steps.{Inserted, Under, is_run, reaches_of};
+ghost use Rattle.inplace.specs.Steps.{Inserted, Parted, Under, is_run};
 
 use lists::List;
 
@@ -25,17 +25,19 @@ fn raise_in(list: &mut List, v: u64)
     list.put_pair(last, x + v, 0);
 }
 
-// The first pair whose value is at most v, as the last one's is. It is always found, and `position` would answer with an Option.
+// The first pair whose value is at most v, as the last one's is.
 fn find_in(list: &List, v: u64) -> usize
     requires fact_1 { Proper list.now }
     requires fact_2 { value_at list.now.pairs (list.now.len - 1) ≤ v }
     ensures { Under list.now.pairs list.now.len v result }
 {
-    let mut k = 0;
-    while v < list.value_at(k) {
-        k += 1;
+    let last = list.len - 1;
+    for k in 0..last {
+        if list.value_at(k) <= v {
+            return k;
+        }
     }
-    k
+    last
 }
 
 // Choice with one value for ever.
@@ -64,13 +66,6 @@ fn insert_in(list: &mut List, k: usize, v: u64, c: u64)
     list.len += 1;
 }
 
-// Does a pair of count c end within the next ones?
-fn reaches(c: u64, left: u64) -> bool
-    ensures { result ≡ reaches_of c left }
-{
-    (c != 0) & (c <= left)
-}
-
 // Is a list one run, and 0 after?
 fn is_run(list: &List) -> bool
     ensures { result ≡ is_run list.now.pairs list.now.len }
@@ -78,8 +73,23 @@ fn is_run(list: &List) -> bool
     (list.len == 2) & (list.value_at(1) == 0)
 }
 
-// Sequence with m times v, and 0 after. What is left of m ends the walk, and the pair that it falls in is cut:
-// a `for` over the pairs would hand both out of its body.
+// The first `left` members of pair k, none or not all of them, raised by v.
+fn raise_part(list: &mut List, k: usize, v: u64, left: u64)
+    requires fact_1 { k < list.old.len }
+    requires fact_2 { list.old.len < most_pairs }
+    requires fact_3 { value_at list.old.pairs k + v < 2 ^ 64 }
+    ensures { Parted list.old list.new k v left }
+{
+    if left == 0 {
+        return;
+    }
+    let x = list.value_at(k);
+    let c = list.count_at(k);
+    list.put_pair(k, x, c.saturating_sub(left));
+    insert_in(list, k, x + v, left);
+}
+
+// Sequence with m times v, and 0 after.
 fn raise_front(list: &mut List, v: u64, m: u64)
     requires fact_1 { Proper list.old }
     requires fact_2 { list.old.len < most_pairs }
@@ -88,22 +98,19 @@ fn raise_front(list: &mut List, v: u64, m: u64)
     requires fact_5 { 0 < v }
     ensures { Is list.new (add_pairs (pairs_of list.old) (run v m (ever 0))) }
 {
-    let mut k = 0;
+    let last = list.len - 1;
     let mut left = m;
-    let mut c = list.count_at(0);
-    while reaches(c, left) {
+    for k in 0..last {
+        let c = list.count_at(k);
+        if left < c {
+            raise_part(list, k, v, left);
+            return;
+        }
         let x = list.value_at(k);
         list.put_pair(k, x + v, c);
         left -= c;
-        k += 1;
-        c = list.count_at(k);
     }
-    if left == 0 {
-        return;
-    }
-    let x = list.value_at(k);
-    list.put_pair(k, x, c.saturating_sub(left));
-    insert_in(list, k, x + v, left);
+    raise_part(list, last, v, left);
 }
 
 // Choice with m times v, and 0 after.

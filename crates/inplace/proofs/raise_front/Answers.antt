@@ -1,44 +1,49 @@
-use mathlib.Core.Path.{refl}
+use mathlib.Core.Path.{◌∙◌, ◌≡◌, refl}
+use Prim.Native.Nat.{◌-◌}
 use native.Mathlib.Omega.{arith}
-use Rattle.inplace.proofs.InPlace.{as_list, front-done, front-last, front-start, front-turn, raise-fits, reaches-true}
+use Rattle.lists.specs.Reading.{count_at}
+use Rattle.lists.proofs.Suffix.{inner-count, last-count}
+use Rattle.inplace.proofs.InPlace.{front-ends, front-start, front-turn, raise-fits}
+use Rattle.inplace.proofs.raise_front.Goals.{After-count_at-c, After-loop-k}
 use Rattle.inplace.proofs.raise_front.Goals as goal
 
-pub loop-list-init : goal.loop-list-init
-loop-list-init c =
+-- the count that was read
+read : (c : After-count_at-c) → c.count_at-c.result ≡ count_at c.args.list.now.pairs c.loop-k.k
+read c = c.count_at-c.ensures ∙ c.loop-k.invariant.0.raising.counts c.loop-k.k (omega arith)
+
+-- the last pair
+last : (c : After-loop-k) → c.args.list.now.len - 1 ≡ c.loop-k.k
+last c = omega (arith, c.loop-k.auto.k-end, c.loop-k-test.false)
+
+pub loop-k-init : goal.loop-k-init
+loop-k-init c =
     let q = c.requires in
-    (front-start q.fact_1 q.fact_2 q.fact_3 q.fact_4 q.fact_5 c.count_at-c.ensures, refl)
+    (front-start q.fact_1 q.fact_2 q.fact_3 q.fact_4 q.fact_5 refl, refl)
+
+pub raise_part-requires-clause-fact_3 : goal.raise_part-requires-clause-fact_3
+raise_part-requires-clause-fact_3 c = raise-fits c.loop-k.invariant.0.raising refl
+
+pub returns-then-left-c : goal.returns-then-left-c
+returns-then-left-c c =
+    let (t, e) = c.loop-k.invariant in
+    front-ends t e (λ h. rw (read (goal.at.returns-then-left-c c).After-count_at-c) at c.if-left-c.true) c.raise_part.ensures
 
 pub overflow_add-x : goal.overflow_add-x
-overflow_add-x c = omega (arith, raise-fits c.loop-list.invariant.0.raising c.value_at-x.ensures)
+overflow_add-x c = omega (arith, raise-fits c.loop-k.invariant.0.raising c.value_at-x.ensures)
 
-pub overflow_sub-left : goal.overflow_sub-left
-overflow_sub-left c =
-    omega (arith, (reaches-true c.loop-list.c c.loop-list.left c.reaches.ensures c.loop-list-test.true).1)
+pub loop-k-preserved : goal.loop-k-preserved
+loop-k-preserved c =
+    let (t, e) = c.loop-k.invariant in
+    let count = read (goal.at.loop-k-preserved c).After-count_at-c in
+    let some = inner-count c.args.list.now c.requires.fact_1 c.loop-k.k (omega (arith, c.loop-k-test.true)) in
+    rw (c.put_pair.ensures, count) (front-turn t some (rw count at c.if-left-c.false) c.value_at-x.ensures refl, e)
 
-pub loop-list-smaller : goal.loop-list-smaller
-loop-list-smaller c = let i = c.loop-list.invariant.0.raising in omega (arith, i.inside)
-
-pub loop-list-preserved : goal.loop-list-preserved
-loop-list-preserved c =
-    rw c.put_pair.ensures
-    (front-turn c.loop-list.invariant.0 c.reaches.ensures c.loop-list-test.true c.value_at-x.ensures (rw c.put_pair.ensures at c.count_at-c-in-loop-list.ensures), c.loop-list.invariant.1)
-
-pub returns-then-left-eq0 : goal.returns-then-left-eq0
-returns-then-left-eq0 c = rw c.loop-list.invariant.1 (front-done c.loop-list.invariant.0 c.if-left-eq0.true)
-
-pub overflow_add-x-2 : goal.overflow_add-x-2
-overflow_add-x-2 c =
-    omega (arith, raise-fits c.loop-list.invariant.0.raising c.value_at-x-2.ensures)
-
-pub insert_in-requires : goal.insert_in-requires
-insert_in-requires c =
-    let (v, e) = c.loop-list.invariant in
-    rw (c.put_pair-2.ensures, e) (record { fact_1 = v.raising.inside; fact_2 = v.room })
+pub raise_part-requires-2-clause-fact_3 : goal.raise_part-requires-2-clause-fact_3
+raise_part-requires-2-clause-fact_3 c = rw (last (goal.at.raise_part-requires-2-clause-fact_3 c).After-loop-k) (raise-fits c.loop-k.invariant.0.raising refl)
 
 pub returns : goal.returns
 returns c =
-    let (v, e) = c.loop-list.invariant in
-    let i = rw (c.put_pair-2.ensures, e) at c.insert_in.ensures.fact_1 in
-    let n = rw (c.put_pair-2.ensures, e) at c.insert_in.ensures.fact_2 in
-    as_list c.insert_in.new.list n
-    (front-last v c.reaches.ensures c.loop-list-test.false c.value_at-x-2.ensures c.saturating_sub.ensures c.if-left-eq0.false i)
+    let (t, e) = c.loop-k.invariant in
+    let z = last (goal.at.returns c).After-loop-k in
+    let forever = last-count c.args.list.now c.requires.fact_1 _ z in
+    front-ends t e (λ h. absurd (omega (arith, forever))) (rw z at c.raise_part-2.ensures)
