@@ -1,12 +1,12 @@
 // Loop (document 01, "Evaluation"): a list cut into groups, each summed, run by run.
 #![tactic(auto)]
 
-ghost use Rattle.std.specs.Prelude.{◌≡◌, ◌*◌, ◌<◌, length};
+ghost use Rattle.std.specs.Prelude.{◌≡◌, ◌<◌};
 ghost use Rattle.lists.specs.Operations.{group_from, group_pairs, turn_of};
-ghost use Rattle.lists.specs.Reading.{Groupable, Is, list_in, most_pairs, pairs_of};
+ghost use Rattle.lists.specs.Reading.{Groupable, Is, pairs_of};
 ghost use Rattle.grouping.specs.Steps.{Turns};
 
-use lists::{List, Numbers, Turn};
+use lists::{List, Turn};
 
 // A run of c times v comes to a group of n that is begun with m members of the sum a.
 fn group_turn(n: u64, m: u64, a: u64, v: u64, c: u64) -> Turn
@@ -45,45 +45,40 @@ fn group_turn(n: u64, m: u64, a: u64, v: u64, c: u64) -> Turn
 }
 
 // Loop: groups of n, each summed; n is not 0. Both pairs of a turn are stored always: one that does not count is written over by the next.
-// The list ends at its count of 0; its length is for the contract.
-fn group_from(a: &Numbers, al: usize, n: u64, out: &mut Numbers) -> usize
-    requires fact_1 { Groupable (list_in a.now al) n }
+fn group_from(list: &List, n: u64, out: &mut List)
+    requires fact_1 { Groupable list.now n }
     requires fact_2 { 0 < n }
-    requires fact_3 { length out.old ≡ 2 * most_pairs }
-    ensures { Is (list_in out.new result) (group_from n 0 0 (pairs_of (list_in a.now al))) }
+    ensures { Is out.new (group_from n 0 0 (pairs_of list.now)) }
 {
+    let last = list.len - 1;
     let mut o = 0;
-    let mut k = 0;
     let mut held = 0;
     let mut sum = 0;
-    let mut c = lists::count_at(a, 0);
-    while c != 0 {
-        let v = lists::value_at(a, k);
-        let t = group_turn(n, held, sum, v, c);
-        lists::put_pair(out, o, t.mixed, 1);
+    for k in 0..last {
+        let v = list.value_at(k);
+        let t = group_turn(n, held, sum, v, list.count_at(k));
+        out.put_pair(o, t.mixed, 1);
         o += t.ends;
-        lists::put_pair(out, o, n * v, t.times);
+        out.put_pair(o, n * v, t.times);
         o += lists::some_of(t.times);
         held = t.held;
         sum = t.sum;
-        k += 1;
-        c = lists::count_at(a, k);
     }
-    let v = lists::value_at(a, k);
-    lists::put_pair(out, o, sum + (n - held) * v, 1);
+    let v = list.value_at(last);
+    out.put_pair(o, sum + (n - held) * v, 1);
     o += lists::some_of(held);
-    lists::put_pair(out, o, n * v, 0);
-    o + 1
+    out.put_pair(o, n * v, 0);
+    out.len = o + 1;
 }
 
 // Loop: groups of n, each summed; an empty group sums to 0.
-pub fn group_onto(a: &Numbers, al: usize, n: u64, out: &mut Numbers) -> usize
-    requires fact_1 { Groupable (list_in a.now al) n }
-    requires fact_2 { length out.old ≡ 2 * most_pairs }
-    ensures { Is (list_in out.new result) (group_pairs n (pairs_of (list_in a.now al))) }
+pub fn group_onto(list: &List, n: u64, out: &mut List)
+    requires { Groupable list.now n }
+    ensures { Is out.new (group_pairs n (pairs_of list.now)) }
 {
     if n == 0 {
-        return List::zero().store(out);
+        out.repeat(0);
+        return;
     }
-    group_from(a, al, n, out)
+    group_from(list, n, out);
 }

@@ -1,16 +1,16 @@
 -- What sequence and choice in place keep: pairs stored over, found and inserted.
 use mathlib.Core.Path.{◌∙◌, ◌≡◌, ap, refl, subst, sym}
-use mathlib.Core.Bool.{Bool, ◌&&◌, false, not, true}
+use mathlib.Core.Bool.{Bool, ◌&&◌, false, true}
 use mathlib.Core.List.{List}
 use Prim.Native.Nat.{◌*◌, ◌+◌, ◌-◌, ◌<◌, ◌^◌, ◌≤◌, suc, zero, ℕ}
 use native.Mathlib.Nat.{zero-add}
 use native.Mathlib.Numerals.{add-one}
 use native.Mathlib.Omega.{arith}
-use lib.Dec.{eqb, leb, ltb}
-use lib.ListN.{length, set}
+use lib.Dec.{eqb, ltb}
+use lib.ListN.{get_or, length, set}
 use lib.Seq.{get_or-set_other}
-use borrow.Author.Count.{below_more}
-use borrow.Author.Tests.{eqb-false, eqb-true, leb-false, leb-true, lt-leb, ltb-false, ltb-true, ne_eqb}
+use Rattle.std.specs.List.{CopiedTo, SameBelow}
+use borrow.Author.Tests.{eqb-false, eqb-true, lt-leb, ltb-false, ltb-true}
 use Rattle.lists.specs.declared.List.{List as Listed}
 use Rattle.lists.specs.Pairs.{Canonical, Pairs, ever, places, run, top, width}
 use Rattle.lists.specs.Operations.{add_pairs, lead, merge_pairs, skip}
@@ -19,7 +19,7 @@ use Rattle.lists.specs.Laws.Expand.{lead-run}
 use Rattle.inplace.specs.Laws.Short.{add-ever, add-evers, add-run, add-within, add-zeros, merge-ever, merge-first, merge-over, merge-run, merge-same, run-canonical}
 use Rattle.lists.specs.Laws.Union.{merge-facts}
 use Rattle.lists.specs.Reading.{Addable, Is, Mergeable, Proper, count_at, list_in, most_pairs, pairs_of, runs_then, stored, value_at}
-use Rattle.inplace.specs.Steps.{Inserted, Under, is_run, reaches_of}
+use Rattle.inplace.specs.Steps.{Inserted, Parted, Under, is_run}
 use Rattle.lists.proofs.Stored.{count-below, count-stored, length-stored, put, put_last, then_same, then-snoc, then-stored, value-below, value-stored}
 use Rattle.lists.proofs.Suffix.{by_place, count-few, len_is, more, suffix, suffix-canonical, suffix-count, suffix-end, suffix-inner, suffix-top, suffix-whole, value_low}
 
@@ -143,81 +143,36 @@ raise-turn {a} {v} {e} {ps} {k} q d f n =
     let l : suc k < a.len = omega arith in
     raise-next q (ever v) d (f ∙ q.counts k (omega arith)) l (rw (suffix-inner a k l) (add-ever v _ _ _ (inner q l)))
 
-pub raise-last : {a : Listed} {v : ℕ} {ps : List ℕ} {k x : ℕ} → Raising a v (ever v) (add_pairs (pairs_of a) (ever v)) ps k → x ≡ value_at ps k → a.len ≤ k + 1
-    → Is (list_in (stored ps k (x + v) 0) (k + 1)) (add_pairs (pairs_of a) (ever v))
+pub raise-last : {a : Listed} {v : ℕ} {ps : List ℕ} {k j n x : ℕ} → Raising a v (ever v) (add_pairs (pairs_of a) (ever v)) ps k → j ≡ k → n ≡ k + 1 → x ≡ value_at ps j → a.len ≤ k + 1
+    → Is (list_in (stored ps j (x + v) 0) n) (add_pairs (pairs_of a) (ever v))
 unfolding Canonical
-raise-last {a} {v} {ps} {k} {x} q d n =
-    let d₁ : x ≡ value_at a.pairs k = d ∙ q.values k (omega arith) in
+raise-last {a} {v} {ps} {k} {x = x} q e f d n =
+    let d₁ : x ≡ value_at a.pairs k = rw e at d ∙ q.values k (omega arith) in
     let g : add_pairs (suffix a k) (ever v) ≡ ever (x + v) = rw (suffix-end a k (omega (arith, q.inside)), d₁) (add-evers (value_at a.pairs k) v) in
-    put_last ps k (x + v) _ (omega (arith, q.inside, q.asked.room)) q.long (rw g at q.made) (add-facts (pairs_of a) (ever v) q.asked.canonical tt).canonical
+    rw (e, f) (put_last ps k (x + v) _ (omega (arith, q.inside, q.asked.room)) q.long (rw g at q.made) (add-facts (pairs_of a) (ever v) q.asked.canonical tt).canonical)
 
 -- ---- a pair inserted
 
--- the pairs from j on stand one place further
-pub record Inserting (old : List ℕ) (len k : ℕ) (ps : List ℕ) (j : ℕ) : Type 0 where
-  pub low : k ≤ j
-  pub high : j ≤ len
-  pub room : len < most_pairs
-  pub long : length ps ≡ 2 * most_pairs
-  pub values-below : (i : ℕ) → i < j → value_at ps i ≡ value_at old i
-  pub counts-below : (i : ℕ) → i < j → count_at ps i ≡ count_at old i
-  pub values-above : (i : ℕ) → j ≤ i → i < len → value_at ps (suc i) ≡ value_at old i
-  pub counts-above : (i : ℕ) → j ≤ i → i < len → count_at ps (suc i) ≡ count_at old i
-
-pub insert-start : {old : List ℕ} {len k : ℕ} → length old ≡ 2 * most_pairs → k < len → len < most_pairs → Inserting old len k old len
-insert-start l h r = record {
-  low = omega arith;
-  high = omega arith;
-  room = r;
-  long = l;
-  values-below = λ i h. refl;
-  counts-below = λ i h. refl;
-  values-above = λ i h g. absurd (omega arith);
-  counts-above = λ i h g. absurd (omega arith);
-}
-
--- what holds at j - 1 and from j on holds from j - 1 on
-from_less : (P : ℕ → Type 0) (j : ℕ) → P (j - 1) → ((i : ℕ) → j ≤ i → P i) → (i : ℕ) → j - 1 ≤ i → P i
-from_less P j here all i l = go (leb j i) refl
+-- the pairs from k on are copied one place further, and pair k is stored over
+pub inserted : {old : List ℕ} (new : List ℕ) {len k v c : ℕ} → k < len → len < most_pairs → length new ≡ 2 * most_pairs
+    → CopiedTo old new (2 * k) (2 * k + 2) (2 * len - 2 * k) → SameBelow old new (2 * k + 2) → Inserted old (stored new k v c) len k v c
+unfolding value_at count_at
+inserted {old} new {len} {k} {v} {c} h r l f g =
+    let m : k < most_pairs = omega arith in
+    record {
+      long = length-stored new k v c ∙ l;
+      value = value-stored new k v c m l;
+      count = count-stored new k v c m l;
+      values-below = λ i b. value-below new k v c i b ∙ g (2 * i) 0 (omega arith);
+      counts-below = λ i b. count-below new k v c i b ∙ g (2 * i + 1) 0 (omega arith);
+      values-above = λ i a b. value-above new k v c (suc i) (omega arith) ∙ from (2 * suc i) (2 * i) (omega arith) (omega arith) (omega arith);
+      counts-above = λ i a b. count-above new k v c (suc i) (omega arith) ∙ from (2 * suc i + 1) (2 * i + 1) (omega arith) (omega arith) (omega arith);
+    }
   where
-    go : (b : Bool) → leb j i ≡ b → P i
-    go true e = all i (leb-true j i e)
-    go false e =
-        let z : j - 1 ≡ i = omega (arith, leb-false j i e) in
-        subst P z here
-
-pub insert-turn : {old : List ℕ} {len k : ℕ} {ps : List ℕ} {j x y : ℕ} → Inserting old len k ps j → k < j → x ≡ value_at ps (j - 1) → y ≡ count_at ps (j - 1)
-    → Inserting old len k (stored ps j x y) (j - 1)
-insert-turn {old} {len} {k} {ps} {j} {x} {y} t h d e =
-    let m : j < most_pairs = omega (arith, t.high, t.room) in
-    let z : suc (j - 1) ≡ j = omega arith in
-    record {
-      low = omega arith;
-      high = omega (arith, t.high);
-      room = t.room;
-      long = length-stored ps j x y ∙ t.long;
-      values-below = λ i l. value-below ps j x y i (omega arith) ∙ t.values-below i (omega arith);
-      counts-below = λ i l. count-below ps j x y i (omega arith) ∙ t.counts-below i (omega arith);
-      values-above = from_less (λ i. i < len → value_at (stored ps j x y) (suc i) ≡ value_at old i) j
-          (λ g. ap (value_at (stored ps j x y)) z ∙ value-stored ps j x y m t.long ∙ d ∙ t.values-below (j - 1) (omega arith))
-          (λ i l g. value-above ps j x y (suc i) (omega arith) ∙ t.values-above i l g);
-      counts-above = from_less (λ i. i < len → count_at (stored ps j x y) (suc i) ≡ count_at old i) j
-          (λ g. ap (count_at (stored ps j x y)) z ∙ count-stored ps j x y m t.long ∙ e ∙ t.counts-below (j - 1) (omega arith))
-          (λ i l g. count-above ps j x y (suc i) (omega arith) ∙ t.counts-above i l g);
-    }
-
-pub insert-last : {old : List ℕ} {len k : ℕ} {ps : List ℕ} {j v c : ℕ} → Inserting old len k ps j → j ≤ k → Inserted old (stored ps k v c) len k v c
-insert-last {old} {len} {k} {ps} {j} {v} {c} t h =
-    let m : k < most_pairs = omega (arith, t.low, t.high, t.room) in
-    record {
-      long = length-stored ps k v c ∙ t.long;
-      value = value-stored ps k v c m t.long;
-      count = count-stored ps k v c m t.long;
-      values-below = λ i l. value-below ps k v c i l ∙ t.values-below i (omega (arith, t.low));
-      counts-below = λ i l. count-below ps k v c i l ∙ t.counts-below i (omega (arith, t.low));
-      values-above = λ i l g. value-above ps k v c (suc i) (omega arith) ∙ t.values-above i (omega arith) g;
-      counts-above = λ i l g. count-above ps k v c (suc i) (omega arith) ∙ t.counts-above i (omega arith) g;
-    }
+    from : (i j : ℕ) → i ≡ j + 2 → 2 * k ≤ j → j < 2 * len → get_or new i 0 ≡ get_or old j 0
+    from i j e a b =
+        let z : 2 * k + (i - (2 * k + 2)) ≡ j = omega arith in
+        rw z at (f i 0 (omega arith) (omega arith))
 
 then-shift : (old new : List ℕ) (len i n : ℕ) (r : Pairs) → i + n ≤ len → ((j : ℕ) → i ≤ j → j < len → value_at new (suc j) ≡ value_at old j) → ((j : ℕ) → i ≤ j → j < len → count_at new (suc j) ≡ count_at old j)
     → runs_then new (suc i) n r ≡ runs_then old i n r
@@ -249,22 +204,11 @@ module _ {old new : List ℕ} {len k v c : ℕ} (t : Inserted old new len k v c)
         pairs = same;
       }
 
+-- a list by its numbers and its length
+pub as_list : (l : Listed) {n : ℕ} {p : Pairs} → l.len ≡ n → Is (list_in l.pairs n) p → Is l p
+as_list l {n} {p} e h = subst (λ m. Is (list_in l.pairs m) p) (sym e) h
+
 -- ---- sequence with a run
-
-pub reaches-true : (c m : ℕ) {b : Bool} → b ≡ reaches_of c m → b ≡ true → (0 < c) × (c ≤ m)
-reaches-true c m d e = go (eqb c 0) refl (leb c m) refl (sym d ∙ e)
-  where
-    go : (b : Bool) → eqb c 0 ≡ b → (d : Bool) → leb c m ≡ d → not b && d ≡ true → (0 < c) × (c ≤ m)
-    go false p true q e = (positive c (eqb-false c 0 p), leb-true c m q)
-    go true p d q e = absurd (let z : ◌≡◌ {A = ℕ} 0 1 = cc in omega arith)
-    go false p false q e = absurd (let z : ◌≡◌ {A = ℕ} 0 1 = cc in omega arith)
-
-pub reaches-false : (c m : ℕ) {b : Bool} → b ≡ reaches_of c m → b ≡ false → 0 < c → m < c
-reaches-false c m d e l = go (leb c m) refl (rw (ne_eqb c 0 (λ z. omega arith)) at (sym d ∙ e))
-  where
-    go : (d : Bool) → leb c m ≡ d → d ≡ false → m < c
-    go true q e = absurd (let z : ◌≡◌ {A = ℕ} 0 1 = cc in omega arith)
-    go false q e = leb-false c m q
 
 -- of m times v, `left` fall on the pairs from k on, the first of which comes c times
 pub record Fronting (a : Listed) (v m : ℕ) (ps : List ℕ) (k left c : ℕ) : Type 0 where
@@ -284,13 +228,11 @@ module _ {a : Listed} {v m : ℕ} {ps : List ℕ} {k left c : ℕ} (t : Fronting
   whole_sum : Canonical (add_pairs (pairs_of a) (run v m (ever 0)))
   whole_sum = (add-facts (pairs_of a) (run v m (ever 0)) u.asked.canonical (run-canonical v m t.some t.times)).canonical
 
-  pub front-turn : {x d : ℕ} {b : Bool} → b ≡ reaches_of c left → b ≡ true → x ≡ value_at ps k → d ≡ count_at (stored ps k (x + v) c) (k + 1)
-      → Fronting a v m (stored ps k (x + v) c) (k + 1) (left - c) d
-  front-turn {x} {d} g h e f =
-      let (p, l) = reaches-true c left g h in
+  pub front-turn : {x d : ℕ} → 0 < c → c ≤ left → x ≡ value_at ps k → d ≡ count_at a.pairs (k + 1) → Fronting a v m (stored ps k (x + v) c) (k + 1) (left - c) d
+  front-turn {x} {d} p l e f =
       let n : suc k < a.len = more a u.asked k u.inside (rw t.next at p) in
       let w = raise-next u (lead v (left - c) (ever 0)) e t.next n (rw (suffix-inner a k n, lead-run v left (ever 0) (omega arith), ← t.next) (add-run v left _ c _ t.some l (rw (← t.next) at (inner u n)))) in
-      record { raising = w; room = t.room; some = t.some; times = t.times; next = f ∙ w.counts (k + 1) (omega arith) }
+      record { raising = w; room = t.room; some = t.some; times = t.times; next = f }
 
   pub front-done : left ≡ 0 → Is (list_in ps a.len) (add_pairs (pairs_of a) (run v m (ever 0)))
   unfolding lead
@@ -299,7 +241,7 @@ module _ {a : Listed} {v m : ℕ} {ps : List ℕ} {k left c : ℕ} (t : Fronting
       (ap (runs_then ps 0 k) (sym (add-zeros (suffix a k) (suffix-canonical a u.asked k u.inside))) ∙ rw z at u.made) whole_sum
 
   -- the pair that the run ends in, without the members that it raises
-  module _ {x y : ℕ} {b : Bool} (g : b ≡ reaches_of c left) (h : b ≡ false) (e : x ≡ value_at ps k) (f : y ≡ c - left) where
+  module _ {x y : ℕ} (g : 0 < c → left < c) (e : x ≡ value_at ps k) (f : y ≡ c - left) where
     cut : List ℕ
     cut = stored ps k x y
 
@@ -323,7 +265,7 @@ module _ {a : Listed} {v m : ℕ} {ps : List ℕ} {k left c : ℕ} (t : Fronting
         (λ n.
         let o : suffix (list_in cut a.len) (suc k) ≡ suffix a (suc k) =
         suffix-same cut a.pairs a.len (suc k) n (λ j i. value-above ps k x y j (omega arith) ∙ u.values j (omega arith)) (λ j i. count-above ps k x y j (omega arith) ∙ u.counts j (omega arith)) in
-        let i : left < count_at a.pairs k = omega (arith, t.next, reaches-false c left g h (omega (arith, t.next, inner-count n))) in
+        let i : left < count_at a.pairs k = omega (arith, t.next, g (omega (arith, t.next, inner-count n))) in
         rw (suffix-inner (list_in cut a.len) k n, suffix-inner a k n, o, value-stored ps k x y inside u.long, count-stored ps k x y inside u.long, lt-leb (count_at a.pairs k) left i)
         (rw (f, t.next, value) refl))
         (λ n. rw (suffix-end (list_in cut a.len) k n, suffix-end a k n, value-stored ps k x y inside u.long, value) refl)
@@ -337,11 +279,24 @@ module _ {a : Listed} {v m : ℕ} {ps : List ℕ} {k left c : ℕ} (t : Fronting
         let p : 0 < left = positive left z in
         let s = suffix-canonical a u.asked k u.inside in
         let n = suffix-count a u.asked k u.inside in
-        let w = add-within v left (suffix a k) t.some p (λ j. omega (arith, n, t.next, reaches-false c left g h (omega (arith, n, t.next)))) s in
+        let w = add-within v left (suffix a k) t.some p (λ j. omega (arith, n, t.next, g (omega (arith, n, t.next)))) s in
         inserted-is i u.inside t.room cut-ends
         (then-stored ps k k x y _ (omega arith)
         ∙ ap (runs_then ps 0 k) (rw (cut-rest, value, ← suffix-top a k u.inside) (sym w))
         ∙ rw (lead-run v left (ever 0) p) at u.made) whole_sum
+
+-- the end of the run in pair k
+pub front-ends : {a l new : Listed} {v m k left c : ℕ} → Fronting a v m l.pairs k left c → l.len ≡ a.len → (0 < c → left < c) → Parted l new k v left → Is new (add_pairs (pairs_of a) (run v m (ever 0)))
+front-ends {a} {l} {new} {v} {m} {k} {left} {c} t e g h = go (eqb left 0) refl
+  where
+    count : count_at l.pairs k - left ≡ c - left
+    count = ap (λ n. n - left) (t.raising.counts k (omega arith) ∙ sym t.next)
+
+    go : (b : Bool) → eqb left 0 ≡ b → Is new (add_pairs (pairs_of a) (run v m (ever 0)))
+    go true z = let z = eqb-true left 0 z in rw (h.whole z) (as_list l e (front-done t z))
+    go false z =
+        let z = eqb-false left 0 z in
+        as_list new (h.longer z ∙ ap (λ n. n + 1) e) (front-last t g refl count z (rw e at (h.parts z)))
 
 -- ---- a value found
 
@@ -352,9 +307,6 @@ pub record Finding (a : Listed) (v k : ℕ) : Type 0 where
   pub inside : k < a.len
   pub above : (j : ℕ) → j < k → v < value_at a.pairs j
 
-pub find-start : {a : Listed} {v : ℕ} → Proper a → value_at a.pairs (a.len - 1) ≤ v → Finding a v 0
-find-start p l = record { asked = p; last = l; inside = p.some; above = λ j h. absurd (omega arith) }
-
 -- a pair above the last one's value is not the last
 not_last : (a : Listed) (v k : ℕ) → value_at a.pairs (a.len - 1) ≤ v → k < a.len → v < value_at a.pairs k → suc k < a.len
 not_last a v k l h m = go (ltb (suc k) a.len) refl
@@ -364,15 +316,6 @@ not_last a v k l h m = go (ltb (suc k) a.len) refl
     go false e =
         let z : a.len - 1 ≡ k = omega (arith, ltb-false (suc k) a.len e) in
         absurd (omega (arith, rw z at l))
-
-pub find-turn : {a : Listed} {v k x : ℕ} → Finding a v k → x ≡ value_at a.pairs k → v < x → Finding a v (k + 1)
-find-turn {a} {v} {k} t e l =
-    let m : v < value_at a.pairs k = omega (arith, e) in
-    let n = not_last a v k t.last t.inside m in
-    record { asked = t.asked; last = t.last; inside = omega arith; above = below_more _ k t.above m }
-
-pub find-last : {a : Listed} {v k x : ℕ} → Finding a v k → x ≡ value_at a.pairs k → x ≤ v → Under a.pairs a.len v k
-find-last t e l = record { inside = t.inside; above = t.above; under = omega (arith, e) }
 
 -- ---- choice
 

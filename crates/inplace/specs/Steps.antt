@@ -1,6 +1,7 @@
 -- What the steps of sequence and choice in place find and compute.
-use Rattle.std.specs.Prelude.{◌≡◌, Bool, ◌&&◌, not, List, ◌*◌, ◌<◌, ◌≤◌, suc, ℕ, eqb, leb, length}
-use Rattle.lists.specs.Reading.{count_at, most_pairs, value_at}
+use Rattle.std.specs.Prelude.{◌≡◌, Bool, ◌&&◌, List, ◌*◌, ◌+◌, ◌-◌, ◌<◌, ◌≤◌, suc, ℕ, eqb, length}
+use Rattle.lists.specs.declared.List.{List as Listed}
+use Rattle.lists.specs.Reading.{count_at, most_pairs, stored, value_at}
 
 -- k is the first pair whose value is at most v
 pub record Under (ps : List ℕ) (len v k : ℕ) : Type 0 where
@@ -18,9 +19,12 @@ pub record Inserted (old new : List ℕ) (len k v c : ℕ) : Type 0 where
   pub values-above : (j : ℕ) → k ≤ j → j < len → value_at new (suc j) ≡ value_at old j
   pub counts-above : (j : ℕ) → k ≤ j → j < len → count_at new (suc j) ≡ count_at old j
 
--- a pair of count c ends within the next ones
-abbrev pub reaches_of : ℕ → ℕ → Bool
-reaches_of c left = not (eqb c 0) && leb c left
+-- the first `left` members of pair k, none or not all of them, raised by v: they are a pair more, in front of it
+pub record Parted (old new : Listed) (k v left : ℕ) : Type 0 where
+  pub whole : left ≡ 0 → new ≡ old
+  pub longer : (left ≡ 0 → ⊥) → new.len ≡ old.len + 1
+  pub parts : (left ≡ 0 → ⊥) → let x = value_at old.pairs k in
+      Inserted (stored old.pairs k x (count_at old.pairs k - left)) new.pairs old.len k (x + v) left
 
 -- a list of so many pairs is one run, and 0 after
 abbrev pub is_run : List ℕ → ℕ → Bool

@@ -1,181 +1,171 @@
 // Sequence and choice in place (document 01, "Evaluation"): the other list is most often short, and then the list so far is changed where it stands.
 #![tactic(auto)]
 
-ghost use Rattle.std.specs.Prelude.{◌≡◌, ◌*◌, ◌+◌, ◌-◌, ◌<◌, ◌^◌, ◌≤◌, length};
+ghost use Rattle.std.specs.Prelude.{◌≡◌, ◌+◌, ◌-◌, ◌<◌, ◌^◌, ◌≤◌};
 ghost use Rattle.lists.specs.Pairs.{ever, places, run, top};
 ghost use Rattle.lists.specs.Operations.{add_pairs, merge_pairs};
-ghost use Rattle.lists.specs.Reading.{Addable, Is, Mergeable, Proper, list_in, most_pairs, pairs_of, value_at};
-ghost use Rattle.inplace.specs.Steps.{Inserted, Under, is_run, reaches_of};
+ghost use Rattle.lists.specs.Reading.{Addable, Is, Mergeable, Proper, most_pairs, pairs_of, value_at};
+ghost use Rattle.inplace.specs.Steps.{Inserted, Parted, Under, is_run};
 
-use lists::Numbers;
+use lists::List;
 
 // Sequence with one value for ever.
-fn raise_in(ps: &mut Numbers, len: usize, v: u64) -> usize
-    requires fact_1 { Proper (list_in ps.old len) }
-    requires fact_2 { top (pairs_of (list_in ps.old len)) + v < 2 ^ 64 }
-    ensures { Is (list_in ps.new result) (add_pairs (pairs_of (list_in ps.old len)) (ever v)) }
+fn raise_in(list: &mut List, v: u64)
+    requires fact_1 { Proper list.old }
+    requires fact_2 { top (pairs_of list.old) + v < 2 ^ 64 }
+    ensures { Is list.new (add_pairs (pairs_of list.old) (ever v)) }
 {
-    let mut k = 0;
-    while k + 1 < len {
-        let x = lists::value_at(ps, k);
-        let c = lists::count_at(ps, k);
-        lists::put_pair(ps, k, x + v, c);
-        k += 1;
+    let last = list.len - 1;
+    for k in 0..last {
+        let x = list.value_at(k);
+        let c = list.count_at(k);
+        list.put_pair(k, x + v, c);
     }
-    let x = lists::value_at(ps, k);
-    lists::put_pair(ps, k, x + v, 0);
-    k + 1
+    let x = list.value_at(last);
+    list.put_pair(last, x + v, 0);
 }
 
 // The first pair whose value is at most v, as the last one's is.
-fn find_in(ps: &Numbers, len: usize, v: u64) -> usize
-    requires fact_1 { Proper (list_in ps.now len) }
-    requires fact_2 { value_at ps.now (len - 1) ≤ v }
-    ensures { Under ps.now len v result }
+fn find_in(list: &List, v: u64) -> usize
+    requires fact_1 { Proper list.now }
+    requires fact_2 { value_at list.now.pairs (list.now.len - 1) ≤ v }
+    ensures { Under list.now.pairs list.now.len v result }
 {
-    let mut k = 0;
-    while v < lists::value_at(ps, k) {
-        k += 1;
+    let last = list.len - 1;
+    for k in 0..last {
+        if list.value_at(k) <= v {
+            return k;
+        }
     }
-    k
+    last
 }
 
 // Choice with one value for ever.
-fn floor_in(ps: &mut Numbers, len: usize, v: u64) -> usize
-    requires { Proper (list_in ps.old len) }
-    ensures { Is (list_in ps.new result) (merge_pairs (pairs_of (list_in ps.old len)) (ever v)) }
+fn floor_in(list: &mut List, v: u64)
+    requires { Proper list.old }
+    ensures { Is list.new (merge_pairs (pairs_of list.old) (ever v)) }
 {
-    if v <= lists::value_at(ps, len - 1) {
-        return len;
+    if v <= list.value_at(list.len - 1) {
+        return;
     }
-    let k = find_in(ps, len, v);
-    lists::put_pair(ps, k, v, 0);
-    k + 1
+    let k = find_in(list, v);
+    list.put_pair(k, v, 0);
+    list.len = k + 1;
 }
 
 // One more pair in front of pair k.
-fn insert_in(ps: &mut Numbers, len: usize, k: usize, v: u64, c: u64) -> usize
-    requires fact_1 { length ps.old ≡ 2 * most_pairs }
-    requires fact_2 { k < len }
-    requires fact_3 { len < most_pairs }
-    ensures fact_1 { Inserted ps.old ps.new len k v c }
-    ensures fact_2 { result ≡ len + 1 }
+fn insert_in(list: &mut List, k: usize, v: u64, c: u64)
+    requires fact_1 { k < list.old.len }
+    requires fact_2 { list.old.len < most_pairs }
+    ensures fact_1 { Inserted list.old.pairs list.new.pairs list.old.len k v c }
+    ensures fact_2 { list.new.len ≡ list.old.len + 1 }
 {
-    let mut j = len;
-    while k < j {
-        let x = lists::value_at(ps, j - 1);
-        let y = lists::count_at(ps, j - 1);
-        lists::put_pair(ps, j, x, y);
-        j -= 1;
-    }
-    lists::put_pair(ps, k, v, c);
-    len + 1
-}
-
-// Does a pair of count c end within the next ones?
-fn reaches(c: u64, left: u64) -> bool
-    ensures { result ≡ reaches_of c left }
-{
-    (c != 0) & (c <= left)
-}
-
-// What is left of a count after so many, 0 meaning for ever.
-fn after_of(c: u64, left: u64) -> u64
-    requires { 0 < c → left ≤ c }
-    ensures { result ≡ c - left }
-{
-    if c == 0 { 0 } else { c - left }
+    let used = 2 * list.len;
+    list.pairs.copy_within(2 * k..used, 2 * k + 2);
+    list.put_pair(k, v, c);
+    list.len += 1;
 }
 
 // Is a list one run, and 0 after?
-fn is_run(ps: &Numbers, len: usize) -> bool
-    ensures { result ≡ is_run ps.now len }
+fn is_run(list: &List) -> bool
+    ensures { result ≡ is_run list.now.pairs list.now.len }
 {
-    (len == 2) & (lists::value_at(ps, 1) == 0)
+    (list.len == 2) & (list.value_at(1) == 0)
+}
+
+// The first `left` members of pair k, none or not all of them, raised by v.
+fn raise_part(list: &mut List, k: usize, v: u64, left: u64)
+    requires fact_1 { k < list.old.len }
+    requires fact_2 { list.old.len < most_pairs }
+    requires fact_3 { value_at list.old.pairs k + v < 2 ^ 64 }
+    ensures { Parted list.old list.new k v left }
+{
+    if left == 0 {
+        return;
+    }
+    let x = list.value_at(k);
+    let c = list.count_at(k);
+    list.put_pair(k, x, c.saturating_sub(left));
+    insert_in(list, k, x + v, left);
 }
 
 // Sequence with m times v, and 0 after.
-fn raise_front(ps: &mut Numbers, len: usize, v: u64, m: u64) -> usize
-    requires fact_1 { Proper (list_in ps.old len) }
-    requires fact_2 { len < most_pairs }
-    requires fact_3 { top (pairs_of (list_in ps.old len)) + v < 2 ^ 64 }
+fn raise_front(list: &mut List, v: u64, m: u64)
+    requires fact_1 { Proper list.old }
+    requires fact_2 { list.old.len < most_pairs }
+    requires fact_3 { top (pairs_of list.old) + v < 2 ^ 64 }
     requires fact_4 { 0 < m }
     requires fact_5 { 0 < v }
-    ensures { Is (list_in ps.new result) (add_pairs (pairs_of (list_in ps.old len)) (run v m (ever 0))) }
+    ensures { Is list.new (add_pairs (pairs_of list.old) (run v m (ever 0))) }
 {
-    let mut k = 0;
+    let last = list.len - 1;
     let mut left = m;
-    let mut c = lists::count_at(ps, 0);
-    while reaches(c, left) {
-        let x = lists::value_at(ps, k);
-        lists::put_pair(ps, k, x + v, c);
+    for k in 0..last {
+        let c = list.count_at(k);
+        if left < c {
+            raise_part(list, k, v, left);
+            return;
+        }
+        let x = list.value_at(k);
+        list.put_pair(k, x + v, c);
         left -= c;
-        k += 1;
-        c = lists::count_at(ps, k);
     }
-    if left == 0 {
-        return len;
-    }
-    let x = lists::value_at(ps, k);
-    lists::put_pair(ps, k, x, after_of(c, left));
-    insert_in(ps, len, k, x + v, left)
+    raise_part(list, last, v, left);
 }
 
 // Choice with m times v, and 0 after.
-fn insert_run(ps: &mut Numbers, len: usize, v: u64, m: u64) -> usize
-    requires fact_1 { Proper (list_in ps.old len) }
-    requires fact_2 { len < most_pairs }
-    requires fact_3 { places (pairs_of (list_in ps.old len)) + m < 2 ^ 64 }
+fn insert_run(list: &mut List, v: u64, m: u64)
+    requires fact_1 { Proper list.old }
+    requires fact_2 { list.old.len < most_pairs }
+    requires fact_3 { places (pairs_of list.old) + m < 2 ^ 64 }
     requires fact_4 { 0 < m }
     requires fact_5 { 0 < v }
-    ensures { Is (list_in ps.new result) (merge_pairs (pairs_of (list_in ps.old len)) (run v m (ever 0))) }
+    ensures { Is list.new (merge_pairs (pairs_of list.old) (run v m (ever 0))) }
 {
-    if v <= lists::value_at(ps, len - 1) {
-        return len;
+    if v <= list.value_at(list.len - 1) {
+        return;
     }
-    let k = find_in(ps, len, v);
-    if lists::value_at(ps, k) == v {
-        let c = lists::count_at(ps, k);
-        lists::put_pair(ps, k, v, c + m);
-        return len;
+    let k = find_in(list, v);
+    if list.value_at(k) == v {
+        let c = list.count_at(k);
+        list.put_pair(k, v, c + m);
+        return;
     }
-    insert_in(ps, len, k, v, m)
+    insert_in(list, k, v, m);
 }
 
-// Sequence, in place; the spare array is for a list that is not short.
-pub fn add_in(a: &mut Numbers, al: usize, b: &Numbers, bl: usize, spare: &mut Numbers) -> usize
-    requires fact_1 { Addable (list_in a.old al) (list_in b.now bl) }
-    requires fact_2 { length spare.old ≡ 2 * most_pairs }
-    ensures fact_1 { Is (list_in a.new result) (add_pairs (pairs_of (list_in a.old al)) (pairs_of (list_in b.now bl))) }
-    ensures fact_2 { length spare.new ≡ 2 * most_pairs }
+// Sequence, in place; the spare list is for another that is not short.
+pub fn add_in(list: &mut List, other: &List, spare: &mut List)
+    requires { Addable list.old other.now }
+    ensures { Is list.new (add_pairs (pairs_of list.old) (pairs_of other.now)) }
 {
-    let v = lists::value_at(b, 0);
-    if bl == 1 {
-        return raise_in(a, al, v);
+    let v = other.value_at(0);
+    if other.len == 1 {
+        raise_in(list, v);
+        return;
     }
-    if is_run(b, bl) {
-        return raise_front(a, al, v, lists::count_at(b, 0));
+    if is_run(other) {
+        raise_front(list, v, other.count_at(0));
+        return;
     }
-    let n = lists::add_onto(a, al, b, bl, spare);
-    lists::copy_onto(spare, n, a);
-    n
+    list.add_onto(other, spare);
+    list.copy_from(spare);
 }
 
-// Choice, in place; the spare array is for a list that is not short.
-pub fn merge_in(a: &mut Numbers, al: usize, b: &Numbers, bl: usize, spare: &mut Numbers) -> usize
-    requires fact_1 { Mergeable (list_in a.old al) (list_in b.now bl) }
-    requires fact_2 { length spare.old ≡ 2 * most_pairs }
-    ensures fact_1 { Is (list_in a.new result) (merge_pairs (pairs_of (list_in a.old al)) (pairs_of (list_in b.now bl))) }
-    ensures fact_2 { length spare.new ≡ 2 * most_pairs }
+// Choice, in place; the spare list is for another that is not short.
+pub fn merge_in(list: &mut List, other: &List, spare: &mut List)
+    requires { Mergeable list.old other.now }
+    ensures { Is list.new (merge_pairs (pairs_of list.old) (pairs_of other.now)) }
 {
-    let v = lists::value_at(b, 0);
-    if bl == 1 {
-        return floor_in(a, al, v);
+    let v = other.value_at(0);
+    if other.len == 1 {
+        floor_in(list, v);
+        return;
     }
-    if is_run(b, bl) {
-        return insert_run(a, al, v, lists::count_at(b, 0));
+    if is_run(other) {
+        insert_run(list, v, other.count_at(0));
+        return;
     }
-    let n = lists::merge_onto(a, al, b, bl, spare);
-    lists::copy_onto(spare, n, a);
-    n
+    list.merge_onto(other, spare);
+    list.copy_from(spare);
 }

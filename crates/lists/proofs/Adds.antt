@@ -2,7 +2,7 @@
 use mathlib.Core.Path.{◌∙◌, ◌≡◌, ap, ap₂, refl, sym}
 use mathlib.Core.Bool.{Bool, cond, false, true}
 use mathlib.Core.List.{List}
-use Prim.Native.Nat.{◌*◌, ◌+◌, ◌-◌, ◌<◌, ◌^◌, ◌≤◌, suc, zero, ℕ}
+use Prim.Native.Nat.{◌*◌, ◌+◌, ◌-◌, ◌<◌, ◌^◌, ◌≤◌, min, suc, zero, ℕ}
 use native.Mathlib.Numerals.{add-one}
 use native.Mathlib.Omega.{arith}
 use lib.Dec.{leb}
@@ -193,14 +193,8 @@ shorter-only zero d f e = absurd (f refl)
 shorter-only (suc c) zero f e = refl
 shorter-only (suc c) (suc d) f e = absurd (omega arith)
 
-pub shorter-first : (c d : ℕ) → (c ≡ 0 → ⊥) → (d ≡ 0 → ⊥) → c ≤ d → shorter c d ≡ c
+pub shorter-both : (c d : ℕ) → (c ≡ 0 → ⊥) → (d ≡ 0 → ⊥) → shorter c d ≡ min c d
 unfolding shorter
-shorter-first zero d f g e = absurd (f refl)
-shorter-first (suc c) zero f g e = absurd (g refl)
-shorter-first (suc c) (suc d) f g e = omega arith
-
-pub shorter-second : (c d : ℕ) → (c ≡ 0 → ⊥) → (d ≡ 0 → ⊥) → d < c → shorter c d ≡ d
-unfolding shorter
-shorter-second zero d f g e = absurd (f refl)
-shorter-second (suc c) zero f g e = absurd (g refl)
-shorter-second (suc c) (suc d) f g e = omega arith
+shorter-both zero d f g = absurd (f refl)
+shorter-both (suc c) zero f g = absurd (g refl)
+shorter-both (suc c) (suc d) f g = refl

@@ -8,26 +8,17 @@ use native.Mathlib.Numerals.{add-one}
 use native.Mathlib.Omega.{arith}
 use lib.Dec.{eqb, ltb}
 use lib.ListN.{length}
-use borrow.Author.Tests.{eqb-false, le-leb, lt-leb, ltb-false, ltb-true, ne_eqb}
+use borrow.Author.Tests.{le-leb, le-ltb, lt-leb, ltb-false, ne_eqb}
 use Rattle.lists.specs.declared.List.{List as Listed}
 use Rattle.lists.specs.Pairs.{Canonical, Pairs, ever, run, top}
-use Rattle.lists.specs.Operations.{cap_pairs, capped, count, lead, some}
-use Rattle.lists.specs.Laws.Add.{positive}
+use Rattle.lists.specs.Operations.{cap_pairs, capped, count, some}
 use Rattle.lists.specs.Laws.Cap.{cap-facts}
 use Rattle.lists.specs.Laws.Group.{some-le-one}
-use Rattle.lists.specs.Reading.{Cappable, Is, count_at, lasts_of, list_in, most_pairs, pairs_of, passes_of, runs_then, stored, value_at}
+use Rattle.lists.specs.Reading.{Cappable, Is, count_at, ended, lasts_of, most_pairs, pairs_of, passes_of, runs_then, stored, value_at}
 use Rattle.lists.proofs.Stored.{length-stored, put_last, put_some, then-snoc, then-stored}
 use Rattle.lists.proofs.Suffix.{len_is, more, suffix, suffix-canonical, suffix-count, suffix-inner, suffix-top, suffix-whole}
 
 -- ---- tests
-
-pub passes-true : (c m : ℕ) {b : Bool} → b ≡ passes_of c m → b ≡ true → (0 < c) × (c < m)
-passes-true c m d e = go (eqb c 0) refl (ltb c m) refl (sym d ∙ e)
-  where
-    go : (b : Bool) → eqb c 0 ≡ b → (d : Bool) → ltb c m ≡ d → not b && d ≡ true → (0 < c) × (c < m)
-    go false p true q e = (positive c (eqb-false c 0 p), ltb-true c m q)
-    go true p d q e = absurd (let z : ◌≡◌ {A = ℕ} 0 1 = cc in omega arith)
-    go false p false q e = absurd (let z : ◌≡◌ {A = ℕ} 0 1 = cc in omega arith)
 
 pub passes-false : (c m : ℕ) {b : Bool} → b ≡ passes_of c m → b ≡ false → 0 < c → m ≤ c
 passes-false c m d e l = go (ltb c m) refl (rw (ne_eqb c 0 (λ z. omega arith)) at (sym d ∙ e))
@@ -35,6 +26,16 @@ passes-false c m d e l = go (ltb c m) refl (rw (ne_eqb c 0 (λ z. omega arith)) 
     go : (d : Bool) → ltb c m ≡ d → d ≡ false → m ≤ c
     go true q e = absurd (let z : ◌≡◌ {A = ℕ} 0 1 = cc in omega arith)
     go false q e = ltb-false c m q
+
+pub passes-not : (c m : ℕ) → m ≤ c → passes_of c m ≡ false
+passes-not c m l = rw (le-ltb c m l) (go (eqb c 0))
+  where
+    go : (b : Bool) → not b && false ≡ false
+    go true = refl
+    go false = refl
+
+pub passes-last : (c m : ℕ) → c ≡ 0 → passes_of c m ≡ false
+passes-last c m e = rw e refl
 
 pub lasts-none : (v m : ℕ) → v ≡ 0 → lasts_of v m ≡ 0
 unfolding lasts_of
@@ -50,19 +51,6 @@ pub lasts-le-one : (v m : ℕ) → lasts_of v m ≤ 1
 unfolding lasts_of
 lasts-le-one zero m = omega arith
 lasts-le-one (suc v) m = some-le-one m
-
--- ---- a limit of 0
-
-capped-none : (v m : ℕ) → m ≡ 0 → capped v m ≡ ever 0
-unfolding capped lead
-capped-none zero m e = refl
-capped-none (suc v) zero e = refl
-capped-none (suc v) (suc m) e = absurd (omega arith)
-
-pub cap-none : (m : ℕ) (r : Pairs) → m ≡ 0 → cap_pairs m r ≡ ever 0
-unfolding cap_pairs
-cap-none m (ever v) e = capped-none v m e
-cap-none m (run v c r) e = rw (le-leb m c (omega arith)) (capped-none v m e)
 
 -- ---- the loop
 
@@ -93,27 +81,27 @@ module _ {a : Listed} {m k left c : ℕ} (v : Capping a m k left c) where
   q : Cappable a
   q = v.asked
 
-  pub cap-turn : {b : Bool} {d : ℕ} → b ≡ passes_of c left → b ≡ true → d ≡ count_at a.pairs (k + 1) → Capping a m (k + 1) (left - c) d
+  pub cap-turn : {d : ℕ} → 0 < c → c < left → d ≡ count_at a.pairs (k + 1) → Capping a m (k + 1) (left - c) d
   unfolding cap_pairs
   cap-turn g t e =
-      let f = passes-true c left g t in
-      let l : suc k < a.len = more a q.list k v.inside (rw v.next at f.0) in
+      let l : suc k < a.len = more a q.list k v.inside (rw v.next at g) in
       let s = rw (zero-add, ← v.next) at (then-snoc a.pairs 0 k (cap_pairs (left - c) (suffix a (suc k)))) in
       record {
         asked = q;
         inside = omega arith;
         next = e;
         room = v.room;
-        made = rw add-one (s ∙ rw (suffix-inner a k l, ← v.next, lt-leb left c f.1) at v.made);
+        made = rw add-one (s ∙ rw (suffix-inner a k l, ← v.next, lt-leb left c t) at v.made);
       }
 
-  pub cap-last : {b : Bool} {w e : ℕ} → b ≡ passes_of c left → b ≡ false → w ≡ value_at a.pairs k → e ≡ lasts_of w left
-      → Is (list_in (stored (stored a.pairs k w left) (k + e) 0 0) (k + e + 1)) (cap_pairs m (pairs_of a))
-  cap-last {w = w} {e} g t d f =
+  pub cap-last : passes_of c left ≡ false → Is (ended a k left) (cap_pairs m (pairs_of a))
+  unfolding ended
+  cap-last t =
       let l = q.list.long in
+      let w = value_at a.pairs k in
       let h = suffix-canonical a q.list k v.inside in
-      let s = cap-stop (suffix a k) left h (rw (v.next, ← suffix-count a q.list k v.inside) at (sym g ∙ t)) in
-      let z = rw (s, suffix-top a k v.inside, ← d) at v.made in
-      let r : k + e < most_pairs = omega (arith, v.inside, v.room, lasts-le-one w left) in
-      put_last (stored a.pairs k w left) (k + e) 0 _ r (length-stored a.pairs k w left ∙ l)
-      (rw f (put-capped a.pairs k w left (omega (arith, v.inside, v.room)) l ∙ z)) (cap-facts m (pairs_of a) q.list.canonical).canonical
+      let s = cap-stop (suffix a k) left h (rw (v.next, ← suffix-count a q.list k v.inside) at t) in
+      let z = rw (s, suffix-top a k v.inside) at v.made in
+      let r : k + lasts_of w left < most_pairs = omega (arith, v.inside, v.room, lasts-le-one w left) in
+      put_last (stored a.pairs k w left) (k + lasts_of w left) 0 _ r (length-stored a.pairs k w left ∙ l)
+      (put-capped a.pairs k w left (omega (arith, v.inside, v.room)) l ∙ z) (cap-facts m (pairs_of a) q.list.canonical).canonical

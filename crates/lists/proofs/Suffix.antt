@@ -85,6 +85,15 @@ kept l p (suc i) h =
 pub suffix-canonical : (l : Listed) → Proper l → (i : ℕ) → i < l.len → Canonical (suffix l i)
 suffix-canonical l p i h = (kept l p i h).canonical
 
+-- a pair before the last is finite
+pub inner-count : (l : Listed) → Proper l → (i : ℕ) → suc i < l.len → 0 < count_at l.pairs i
+unfolding Canonical
+inner-count l p i h = (rw (suffix-inner l i h) at (suffix-canonical l p i (omega arith))).0
+
+-- the last is for ever
+pub last-count : (l : Listed) → Proper l → (i : ℕ) → l.len - 1 ≡ i → count_at l.pairs i ≡ 0
+last-count l p i e = rw e at p.ends
+
 pub value_low : (l : Listed) → Proper l → (i : ℕ) → i < l.len → value_at l.pairs i ≤ top (pairs_of l)
 value_low l p i h = omega (arith, (kept l p i h).low, suffix-top l i h)
 

@@ -1,6 +1,6 @@
 -- The turns and the end of a sum of first members.
-use mathlib.Core.Path.{◌∙◌, ◌≡◌, ap, refl, sym}
-use mathlib.Core.Bool.{Bool, false, true}
+use mathlib.Core.Path.{◌≡◌, ap, refl}
+use mathlib.Core.Bool.{false}
 use Prim.Native.Nat.{◌*◌, ◌+◌, ◌-◌, ◌<◌, ◌^◌, ◌≤◌, suc, ℕ}
 use native.Mathlib.Nat.{mul-le-mul_left}
 use native.Mathlib.Numerals.{add-one}
@@ -11,7 +11,7 @@ use Rattle.lists.specs.Operations.{count}
 use Rattle.lists.specs.Operations.{first}
 use Rattle.lists.specs.Laws.Expand.{ever-first, run_past, run-within}
 use Rattle.lists.specs.Reading.{Summable, count_at, pairs_of, passes_of, value_at}
-use Rattle.lists.proofs.Caps.{passes-false, passes-true}
+use Rattle.lists.proofs.Caps.{passes-false}
 use Rattle.lists.proofs.Suffix.{more, suffix, suffix-canonical, suffix-count, suffix-inner, suffix-top, suffix-whole, value_low}
 
 -- all but `left` of the first n members are in the sum, and the rest starts at pair k; c is its count
@@ -37,13 +37,12 @@ module _ {a : Listed} {n k left sum c : ℕ} (t : Totalling a n k left sum c) wh
   low : {v : ℕ} → v ≡ value_at a.pairs k → v ≤ top (pairs_of a)
   low e = rw e (value_low a q.list k t.inside)
 
-  pub total-turn : {b : Bool} {v d : ℕ} → b ≡ passes_of c left → b ≡ true → v ≡ value_at a.pairs k → d ≡ count_at a.pairs (k + 1) → Totalling a n (k + 1) (left - c) (sum + c * v) d
+  pub total-turn : {v d : ℕ} → 0 < c → c < left → v ≡ value_at a.pairs k → d ≡ count_at a.pairs (k + 1) → Totalling a n (k + 1) (left - c) (sum + c * v) d
   total-turn {v = v} p e g h =
-      let f = passes-true c left p e in
-      let i : suc k < a.len = more a q.list k t.inside (rw t.next at f.0) in
+      let i : suc k < a.len = more a q.list k t.inside (rw t.next at p) in
       let w = top (pairs_of a) in
       let j : ℕ = left - c in
-      let e₁ : c + j ≡ left = omega (arith, f.1) in
+      let e₁ : c + j ≡ left = omega (arith, e) in
       let e₂ : (c + j) * w ≡ left * w = ap (λ x. x * w) e₁ in
       let z = rw (suffix-inner a k i, ← t.next, ← e₁, ← g) at t.made in
       record {
@@ -57,8 +56,8 @@ module _ {a : Listed} {n k left sum c : ℕ} (t : Totalling a n k left sum c) wh
   pub total-fits : {v : ℕ} → v ≡ value_at a.pairs k → sum + left * v < 2 ^ 64
   total-fits g = omega (arith, t.fits, mul-le-mul_left left (low g), q.low)
 
-  pub total-last : {b : Bool} {v : ℕ} → b ≡ passes_of c left → b ≡ false → v ≡ value_at a.pairs k → sum + left * v ≡ first (pairs_of a) n
-  total-last p e g =
-      let e₁ = rw (t.next, ← suffix-count a q.list k t.inside) at (sym p ∙ e) in
+  pub total-last : {v : ℕ} → passes_of c left ≡ false → v ≡ value_at a.pairs k → sum + left * v ≡ first (pairs_of a) n
+  total-last e g =
+      let e₁ = rw (t.next, ← suffix-count a q.list k t.inside) at e in
       let f = rw (suffix-top a k t.inside, ← g) at (first-stop (suffix a k) left (suffix-canonical a q.list k t.inside) e₁) in
       omega (arith, t.made, f)

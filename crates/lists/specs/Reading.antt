@@ -98,3 +98,10 @@ passes_of c left = not (eqb c 0) && ltb c left
 unfoldable pub lasts_of : ℕ → ℕ → ℕ
 lasts_of zero left = 0
 lasts_of (suc v) left = some left
+
+-- limit: the list that ends in pair k, whose value comes `left` times, and is 0 after
+unfoldable pub ended : Listed → ℕ → ℕ → Listed
+ended l k left =
+    let v = value_at l.pairs k in
+    let end = k + lasts_of v left in
+    list_in (stored (stored l.pairs k v left) end 0 0) (end + 1)

@@ -1,4 +1,4 @@
-// The endless list that never rises (document 01, "Evaluation"), as pairs of value and count, and its operations in lent arrays.
+// The endless list that never rises (document 01, "Evaluation"), as pairs of value and count in an array, and its operations.
 #![tactic(auto)]
 
 ghost use Rattle.std.specs.Prelude.{◌≡◌, ◌*◌, ◌+◌, ◌<◌, ◌^◌, ◌≤◌, suc, length};
@@ -12,13 +12,13 @@ ghost use Rattle.lists.specs.Reading.{
   Proper,
   Summable,
   count_at,
+  ended,
   head_of,
   lasts_of,
   list_in,
   most_pairs,
   pairs_of,
   passed,
-  passes_of,
   stored,
   value_at,
 };
@@ -27,8 +27,10 @@ ghost use Rattle.lists.specs.Reading.{
 pub const MOST_PAIRS: usize = 256;
 
 // Pair k is at 2 * k, a value, and 2 * k + 1, how often it comes. Values fall strictly, and the last count is 0, for ever.
+// No struct for a pair: the list call hands these numbers out as they stand.
 pub type Numbers = [u64; 2 * MOST_PAIRS];
 
+// The first `len` pairs are the list. No invariant says that they are one: what an operation writes over may hold anything.
 #[derive(Clone, Copy)]
 pub struct List {
     pub pairs: Numbers,
@@ -61,6 +63,8 @@ pub struct Turn {
     pub sum: u64,
 }
 
+// ---- Pairs
+
 impl List {
     // The list of zeros.
     pub const ZERO: List = List {
@@ -75,65 +79,69 @@ impl List {
         List::ZERO
     }
 
-    // The list that repeats one value.
-    pub fn constant(v: u64) -> List
-        ensures { Is result (ever v) }
+    // The value of pair k.
+    pub fn value_at(&self, k: usize) -> u64
+        requires { k < most_pairs }
+        ensures { result ≡ value_at self.now.pairs k }
     {
-        let mut r = List::zero();
-        put_pair(&mut r.pairs, 0, v, 0);
-        r.len = 1;
-        r
+        self.pairs[2 * k]
     }
 
-    // The list in a lent array, and how many pairs it has: only these are copied.
-    pub fn store(self, out: &mut Numbers) -> usize
-        requires { (Proper self) × (length out.old ≡ 2 * most_pairs) }
-        ensures { Is (list_in out.new result) (pairs_of self) }
+    // How often it comes.
+    pub fn count_at(&self, k: usize) -> u64
+        requires { k < most_pairs }
+        ensures { result ≡ count_at self.now.pairs k }
     {
-        let n = self.len;
-        copy_onto(&self.pairs, n, out);
-        n
+        self.pairs[2 * k + 1]
+    }
+
+    // Stores pair k.
+    pub fn put_pair(&mut self, k: usize, v: u64, c: u64)
+        requires { k < most_pairs }
+        ensures { self.new ≡ list_in (stored self.old.pairs k v c) self.old.len }
+    {
+        self.pairs[2 * k] = v;
+        self.pairs[2 * k + 1] = c;
+    }
+
+    // Becomes the list that repeats one value.
+    pub fn repeat(&mut self, v: u64)
+        ensures { Is self.new (ever v) }
+    {
+        self.put_pair(0, v, 0);
+        self.len = 1;
+    }
+
+    // Becomes one value once, and another, which is not above it, for ever: a single pair where they are the same.
+    pub fn once_then(&mut self, first: u64, later: u64)
+        requires { later ≤ first }
+        ensures { Is self.new (in_front first (ever later)) }
+    {
+        let k = some_of(first - later);
+        self.put_pair(0, first, 1);
+        self.put_pair(k, later, 0);
+        self.len = k + 1;
+    }
+
+    // Becomes the same list as another: as much is copied as that has pairs.
+    pub fn copy_from(&mut self, other: &List)
+        requires { Proper other.now }
+        ensures { Is self.new (pairs_of other.now) }
+    {
+        let used = 2 * other.len;
+        self.pairs[..used].copy_from_slice(&other.pairs[..used]);
+        self.len = other.len;
     }
 }
 
-// The value of pair k.
-pub fn value_at(ps: &Numbers, k: usize) -> u64
-    requires { k < most_pairs }
-    ensures { result ≡ value_at ps.now k }
+// One, or none of none.
+pub fn some_of(x: u64) -> usize
+    ensures { result ≡ some x }
 {
-    ps[2 * k]
+    usize::from(x != 0)
 }
 
-// How often it comes.
-pub fn count_at(ps: &Numbers, k: usize) -> u64
-    requires { k < most_pairs }
-    ensures { result ≡ count_at ps.now k }
-{
-    ps[2 * k + 1]
-}
-
-// Stores pair k.
-pub fn put_pair(out: &mut Numbers, k: usize, v: u64, c: u64)
-    requires fact_1 { k < most_pairs }
-    requires fact_2 { length out.old ≡ 2 * most_pairs }
-    ensures { out.new ≡ stored out.old k v c }
-{
-    out[2 * k] = v;
-    out[2 * k + 1] = c;
-}
-
-// The same list in another array: as much is copied as the list has pairs.
-pub fn copy_onto(a: &Numbers, al: usize, out: &mut Numbers)
-    requires fact_1 { Proper (list_in a.now al) }
-    requires fact_2 { length out.old ≡ 2 * most_pairs }
-    ensures { Is (list_in out.new al) (pairs_of (list_in a.now al)) }
-{
-    let mut k = 0;
-    while k < al {
-        put_pair(out, k, value_at(a, k), count_at(a, k));
-        k += 1;
-    }
-}
+// ---- Sequence
 
 // The shorter of two counts, 0 meaning for ever.
 fn shorter_of(c: u64, d: u64) -> u64
@@ -145,55 +153,59 @@ fn shorter_of(c: u64, d: u64) -> u64
     if d == 0 {
         return c;
     }
-    if c <= d { c } else { d }
+    c.min(d)
 }
 
-// The place after m members, which lie within a pair.
-fn pass(ps: &Numbers, at: usize, left: u64, m: u64) -> Place
-    requires { 0 < left → suc at < most_pairs }
-    ensures { result ≡ passed ps.now at left m }
-{
-    if left == 0 {
-        return Place { at: at, left: 0 };
+impl List {
+    // The place after m members, which lie within a pair.
+    fn pass(&self, at: usize, left: u64, m: u64) -> Place
+        requires { 0 < left → suc at < most_pairs }
+        ensures { result ≡ passed self.now.pairs at left m }
+    {
+        if left == 0 {
+            return Place { at: at, left: 0 };
+        }
+        if left <= m {
+            return Place {
+                at: at + 1,
+                left: self.count_at(at + 1),
+            };
+        }
+        Place {
+            at: at,
+            left: left - m,
+        }
     }
-    if left <= m {
-        return Place {
-            at: at + 1,
-            left: count_at(ps, at + 1),
-        };
-    }
-    Place {
-        at: at,
-        left: left - m,
+
+    // Sequence: place by place. A list ends at its count of 0; its length is for the contract, here and below.
+    // A turn moves on in one list or in both, as far as the counts say, so no `for` over either list's pairs serves.
+    pub fn add_onto(&self, other: &List, out: &mut List)
+        requires { Addable self.now other.now }
+        ensures { Is out.new (add_pairs (pairs_of self.now) (pairs_of other.now)) }
+    {
+        let mut n = 0;
+        let mut i = 0;
+        let mut j = 0;
+        let mut x = self.count_at(0);
+        let mut y = other.count_at(0);
+        let mut m = shorter_of(x, y);
+        while m != 0 {
+            out.put_pair(n, self.value_at(i) + other.value_at(j), m);
+            n += 1;
+            let p = self.pass(i, x, m);
+            let q = other.pass(j, y, m);
+            i = p.at;
+            x = p.left;
+            j = q.at;
+            y = q.left;
+            m = shorter_of(x, y);
+        }
+        out.put_pair(n, self.value_at(i) + other.value_at(j), 0);
+        out.len = n + 1;
     }
 }
 
-// Sequence: place by place. A list ends at its count of 0; its length is for the contract, here and below.
-pub fn add_onto(a: &Numbers, al: usize, b: &Numbers, bl: usize, out: &mut Numbers) -> usize
-    requires fact_1 { Addable (list_in a.now al) (list_in b.now bl) }
-    requires fact_2 { length out.old ≡ 2 * most_pairs }
-    ensures { Is (list_in out.new result) (add_pairs (pairs_of (list_in a.now al)) (pairs_of (list_in b.now bl))) }
-{
-    let mut n = 0;
-    let mut i = 0;
-    let mut j = 0;
-    let mut x = count_at(a, 0);
-    let mut y = count_at(b, 0);
-    let mut m = shorter_of(x, y);
-    while m != 0 {
-        put_pair(out, n, value_at(a, i) + value_at(b, j), m);
-        n += 1;
-        let p = pass(a, i, x, m);
-        let q = pass(b, j, y, m);
-        i = p.at;
-        x = p.left;
-        j = q.at;
-        y = q.left;
-        m = shorter_of(x, y);
-    }
-    put_pair(out, n, value_at(a, i) + value_at(b, j), 0);
-    n + 1
-}
+// ---- Choice
 
 // How often a value comes that comes x times in one list and y times in the other: for ever where either is.
 fn joined_of(x: u64, y: u64) -> u64
@@ -210,16 +222,16 @@ fn joined_of(x: u64, y: u64) -> u64
 }
 
 // The first pair of the union of two lists from these pairs on.
-fn first_pair(a: &Numbers, i: usize, b: &Numbers, j: usize) -> Head
+fn first_pair(a: &List, i: usize, b: &List, j: usize) -> Head
     requires fact_1 { i < most_pairs }
     requires fact_2 { j < most_pairs }
-    requires fact_3 { count_at a.now i + count_at b.now j < 2 ^ 64 }
-    ensures { result ≡ head_of (value_at a.now i) (count_at a.now i) (value_at b.now j) (count_at b.now j) }
+    requires fact_3 { count_at a.now.pairs i + count_at b.now.pairs j < 2 ^ 64 }
+    ensures { result ≡ head_of (value_at a.now.pairs i) (count_at a.now.pairs i) (value_at b.now.pairs j) (count_at b.now.pairs j) }
 {
-    let v = value_at(a, i);
-    let c = count_at(a, i);
-    let w = value_at(b, j);
-    let d = count_at(b, j);
+    let v = a.value_at(i);
+    let c = a.count_at(i);
+    let w = b.value_at(j);
+    let d = b.count_at(j);
     if w < v {
         return Head {
             value: v,
@@ -244,52 +256,30 @@ fn first_pair(a: &Numbers, i: usize, b: &Numbers, j: usize) -> Head
     }
 }
 
-// Choice: the members of both lists, largest first.
-pub fn merge_onto(a: &Numbers, al: usize, b: &Numbers, bl: usize, out: &mut Numbers) -> usize
-    requires fact_1 { Mergeable (list_in a.now al) (list_in b.now bl) }
-    requires fact_2 { length out.old ≡ 2 * most_pairs }
-    ensures { Is (list_in out.new result) (merge_pairs (pairs_of (list_in a.now al)) (pairs_of (list_in b.now bl))) }
-{
-    let mut n = 0;
-    let mut i = 0;
-    let mut j = 0;
-    let mut h = first_pair(a, 0, b, 0);
-    while h.count != 0 {
-        put_pair(out, n, h.value, h.count);
-        n += 1;
-        i += h.left;
-        j += h.right;
-        h = first_pair(a, i, b, j);
+impl List {
+    // Choice: the members of both lists, largest first.
+    // A turn moves on in one list or in both, as their values say, so no `for` over either list's pairs serves.
+    pub fn merge_onto(&self, other: &List, out: &mut List)
+        requires { Mergeable self.now other.now }
+        ensures { Is out.new (merge_pairs (pairs_of self.now) (pairs_of other.now)) }
+    {
+        let mut n = 0;
+        let mut i = 0;
+        let mut j = 0;
+        let mut h = first_pair(self, 0, other, 0);
+        while h.count != 0 {
+            out.put_pair(n, h.value, h.count);
+            n += 1;
+            i += h.left;
+            j += h.right;
+            h = first_pair(self, i, other, j);
+        }
+        out.put_pair(n, h.value, 0);
+        out.len = n + 1;
     }
-    put_pair(out, n, h.value, 0);
-    n + 1
 }
 
-// One, or none of none.
-pub fn some_of(x: u64) -> usize
-    ensures { result ≡ some x }
-{
-    if x == 0 { 0 } else { 1 }
-}
-
-// One value once, and another, which is not above it, for ever: a single pair where they are the same.
-pub fn once_then(first: u64, later: u64, out: &mut Numbers) -> usize
-    requires fact_1 { later ≤ first }
-    requires fact_2 { length out.old ≡ 2 * most_pairs }
-    ensures { Is (list_in out.new result) (in_front first (ever later)) }
-{
-    let k = some_of(first - later);
-    put_pair(out, 0, first, 1);
-    put_pair(out, k, later, 0);
-    k + 1
-}
-
-// Does a pair of count c end before the limit?
-fn passes(c: u64, left: u64) -> bool
-    ensures { result ≡ passes_of c left }
-{
-    (c != 0) & (c < left)
-}
+// ---- Limit, and the first members
 
 // Does a pair remain of a limit?
 fn lasts(v: u64, left: u64) -> usize
@@ -301,51 +291,53 @@ fn lasts(v: u64, left: u64) -> usize
     some_of(left)
 }
 
-// Limit, in place: the first m members, and 0 after. Nothing remains of a limit of 0.
-pub fn cap_in(ps: &mut Numbers, len: usize, m: u64) -> usize
-    requires { Cappable (list_in ps.old len) }
-    ensures { Is (list_in ps.new result) (cap_pairs m (pairs_of (list_in ps.old len))) }
-{
-    if m == 0 {
-        return List::zero().store(ps);
+impl List {
+    // The list ends in pair k, whose value comes `left` times, and is 0 after.
+    fn end_at(&mut self, k: usize, left: u64)
+        requires { suc k < most_pairs }
+        ensures { self.new ≡ ended self.old k left }
+    {
+        let v = self.value_at(k);
+        self.put_pair(k, v, left);
+        let end = k + lasts(v, left);
+        self.put_pair(end, 0, 0);
+        self.len = end + 1;
     }
-    cap_from(ps, len, m)
-}
 
-// The same for any m, pair by pair. For 0 it would write the zero list too, but that is the list type's constant.
-fn cap_from(ps: &mut Numbers, len: usize, m: u64) -> usize
-    requires { Cappable (list_in ps.old len) }
-    ensures { Is (list_in ps.new result) (cap_pairs m (pairs_of (list_in ps.old len))) }
-{
-    let mut k = 0;
-    let mut left = m;
-    let mut c = count_at(ps, 0);
-    while passes(c, left) {
-        left -= c;
-        k += 1;
-        c = count_at(ps, k);
+    // Limit: the first m members, and 0 after.
+    pub fn cap(&mut self, m: u64)
+        requires { Cappable self.old }
+        ensures { Is self.new (cap_pairs m (pairs_of self.old)) }
+    {
+        let last = self.len - 1;
+        let mut left = m;
+        for k in 0..last {
+            let c = self.count_at(k);
+            if left <= c {
+                self.end_at(k, left);
+                return;
+            }
+            left -= c;
+        }
+        self.end_at(last, left);
     }
-    let v = value_at(ps, k);
-    put_pair(ps, k, v, left);
-    k += lasts(v, left);
-    put_pair(ps, k, 0, 0);
-    k + 1
-}
 
-// The sum of the first n members: the first group of n, and the whole of a loop that its body names.
-pub fn total_of(a: &Numbers, al: usize, n: u64) -> u64
-    requires { Summable (list_in a.now al) n }
-    ensures { result ≡ first (pairs_of (list_in a.now al)) n }
-{
-    let mut k = 0;
-    let mut left = n;
-    let mut sum = 0;
-    let mut c = count_at(a, 0);
-    while passes(c, left) {
-        sum += c * value_at(a, k);
-        left -= c;
-        k += 1;
-        c = count_at(a, k);
+    // The sum of the first n members: the first group of n, and the whole of a loop that its body names.
+    pub fn total_of(&self, n: u64) -> u64
+        requires { Summable self.now n }
+        ensures { result ≡ first (pairs_of self.now) n }
+    {
+        let last = self.len - 1;
+        let mut left = n;
+        let mut sum = 0;
+        for k in 0..last {
+            let c = self.count_at(k);
+            if left <= c {
+                return sum + left * self.value_at(k);
+            }
+            sum += c * self.value_at(k);
+            left -= c;
+        }
+        sum + left * self.value_at(last)
     }
-    sum + left * value_at(a, k)
 }

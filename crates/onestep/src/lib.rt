@@ -35,8 +35,8 @@ fn rule1_at(table: &[u8], marks: &[u8], out: &mut [u8]) -> usize
     }
     let zeros = [0; 0];
     let mut list = List::zero();
-    walking::evaluate(table, &zeros, &mut list.pairs);
-    let time = Number::Plain(lists::value_at(&list.pairs, 0));
+    walking::evaluate(table, &zeros, &mut list);
+    let time = Number::Plain(list.value_at(0));
     let block = Node {
         kind: Kind::Block(time),
         limit: Limit::Unlimited,

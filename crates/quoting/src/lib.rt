@@ -6,13 +6,13 @@ ghost use Rattle.table.specs.Checking.{refusal};
 ghost use Rattle.table.specs.Numbers.{how_many_values, list_room, most_records, record_length};
 ghost use Rattle.quoting.specs.Branches.{BranchPromises};
 ghost use Rattle.quoting.specs.Promises.{ListPromises, NeverLowered, Promises};
-ghost use Rattle.evaluate.specs.Shown.{Roomy};
 ghost use Rattle.values.specs.Flags.{flag_free};
 ghost use Rattle.quoting.specs.Lent.{Walked};
 ghost use Rattle.writing.specs.Over.{over};
 ghost use Rattle.quoting.specs.Answers.{check_answer, figure_answer, list_answer, list_writes, quoted_figure, quoted_refusal};
 
 use evaluate::Valued;
+use lists::List;
 use table::{HOW_MANY_VALUES, RECORD_LENGTH};
 
 // The values, and their triangular numbers.
@@ -56,11 +56,10 @@ pub fn check(table: &[u8]) -> Checked
 
 // The walk of an accepted table. Only where a limit is under flag 4 are triangular numbers looked up, before the walk and behind the values: with the
 // look-up in it, every node of every table took longer.
-fn walk(table: &[u8], values: &[u64], free: bool, out: &mut [u64; LIST_ROOM]) -> Valued
+fn walk(table: &[u8], values: &[u64], free: bool, out: &mut List) -> Option<Valued>
     requires fact_1 { length table.now ≤ record_length * most_records }
     requires fact_2 { length values.now ≡ how_many_values }
     requires fact_3 { free ≡ flag_free table.now }
-    requires fact_4 { Roomy out.old }
     ensures { Walked table.now values.now result out.new }
 {
     if free {
@@ -93,14 +92,12 @@ pub fn quote_checked(table: &[u8], values: &[u64]) -> Quote
     if question != 0 {
         return Quote::Refused(question);
     }
-    let mut list = [0; LIST_ROOM];
-    let found = walk(table, values, free, &mut list);
-    if found.fits {
-        let first = list[0];
-        Quote::Figure(first, found.branch as u64)
-    } else {
-        Quote::Refused(10)
-    }
+    let mut list = List::zero();
+    let Some(found) = walk(table, values, free, &mut list) else {
+        return Quote::Refused(10);
+    };
+    let first = list.value_at(0);
+    Quote::Figure(first, found.branch as u64)
 }
 
 // The figure of a table's tree under a desk's values: questions 1 to 7, 9, 13, 14 and 10.
@@ -135,13 +132,11 @@ pub fn list(table: &[u8], values: &[u64], out: &mut [u64]) -> Listed
     if question != 0 {
         return Listed::Refused(question);
     }
-    let mut list = [0; LIST_ROOM];
-    let found = walk(table, values, free, &mut list);
-    if found.fits {
-        let n = found.len;
-        write_front(&list, 2 * n, out);
-        Listed::Pairs(n)
-    } else {
-        Listed::Refused(10)
-    }
+    let mut list = List::zero();
+    let Some(_) = walk(table, values, free, &mut list) else {
+        return Listed::Refused(10);
+    };
+    let n = list.len;
+    write_front(&list.pairs, 2 * n, out);
+    Listed::Pairs(n)
 }

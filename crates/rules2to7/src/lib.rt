@@ -235,10 +235,10 @@ fn settled_value(table: &[u8], i: usize) -> u64
         MOST_DEPTH,
         kind,
         count,
-        &mut list.pairs,
-        &mut spare.pairs,
+        &mut list,
+        &mut spare,
     );
-    lists::value_at(&list.pairs, 0)
+    list.value_at(0)
 }
 
 // 4. A symbol-free node, not a block, whose children are each closed once limits naming that node itself are set aside, becomes a block of its first

@@ -9,7 +9,8 @@ ghost use Rattle.writing.specs.Over.{over};
 ghost use Rattle.simplifying.specs.Demand.{Asked, Demand3, quoted_numbers, simplified_numbers};
 ghost use Rattle.simplifying.specs.Answers.{ending_of, made, made_answer, simplified_length, simplify_answer, simplify_writes};
 
-use quoting::{Checked, LIST_ROOM, Quote};
+use lists::List;
+use quoting::{Checked, Quote};
 use subtrees::MARKS;
 use table::{MOST_RECORDS, RECORD_LENGTH};
 
@@ -76,13 +77,11 @@ pub fn simplify(table: &[u8], allowance: u64, out: &mut [u8]) -> Simplified
         return Simplified::Refused(8);
     }
     let zeros = [0; 0];
-    let mut list = [0; LIST_ROOM];
-    let found = walking::evaluate(table, &zeros, &mut list);
-    if found.fits {
-        make_steps(table, allowance, out)
-    } else {
-        Simplified::Refused(10)
-    }
+    let mut list = List::zero();
+    let Some(_) = walking::evaluate(table, &zeros, &mut list) else {
+        return Simplified::Refused(10);
+    };
+    make_steps(table, allowance, out)
 }
 
 // ---- The calls together

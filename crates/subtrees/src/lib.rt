@@ -81,7 +81,7 @@ fn with_child(found: Below, records: usize, symbols: u8, named: u8, reach: u8) -
     Below {
         records: found.records + records,
         symbols: larger_of(found.symbols, symbols),
-        named: evaluate::inner_of(found.named, named),
+        named: found.named.min(named),
         reach: larger_of(found.reach, reach),
     }
 }
@@ -152,7 +152,7 @@ fn with_name(name: u8, named: u8) -> u8
     if name == 0 {
         return named;
     }
-    evaluate::inner_of(name, named)
+    name.min(named)
 }
 
 // The outermost loop that the node's own limit names, 0 for none: a block of a paired symbol stands as a limit on the whole run does.

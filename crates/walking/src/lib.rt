@@ -5,9 +5,9 @@ ghost use Rattle.std.specs.Prelude.{◌*◌, ◌≤◌, length};
 ghost use Rattle.table.specs.Numbers.{most_depth, most_records, record_length};
 ghost use Rattle.evaluate.specs.Evaluate.{values_of};
 ghost use Rattle.evaluate.specs.Evaluator.{evaluate_node};
-ghost use Rattle.evaluate.specs.Shown.{Roomy, Shows, evaluate_children};
+ghost use Rattle.evaluate.specs.Shown.{Shows, evaluate_children};
 
-use evaluate::{Pairs, Valued};
+use evaluate::Valued;
 use lists::List;
 use table::{Kind, MOST_DEPTH, RECORD_LENGTH, WHOLE_RUN};
 
@@ -17,21 +17,21 @@ fn evaluate_node(
     table: &[u8],
     values: &[u64],
     depth: usize,
-    out: &mut Pairs,
-    spare: &mut Pairs,
-) -> Valued
-    requires { (length table.now ≤ record_length * most_records) × ((Roomy out.old) × (Roomy spare.old)) }
-    ensures { (Shows result out.new (evaluate_node (values_of values.now) depth table.now)) × (Roomy spare.new) }
+    out: &mut List,
+    spare: &mut List,
+) -> Option<Valued>
+    requires { length table.now ≤ record_length * most_records }
+    ensures { Shows result out.new (evaluate_node (values_of values.now) depth table.now) }
 {
     if depth == 0 {
-        return Valued::UNFIT;
+        return None;
     }
     if table.len() < RECORD_LENGTH {
-        return Valued::UNFIT;
+        return None;
     }
     let kind = table::read_kind(table);
     if let Kind::Block(time) = kind {
-        let below = evaluate::block_in(time, values, out);
+        let below = evaluate::block_in(time, values, out)?;
         return evaluate::limit_in(table::read_limit(table), values, below, out);
     }
     let count = table::child_count(table);
@@ -43,12 +43,12 @@ fn evaluate_node(
         count,
         out,
         spare,
-    );
+    )?;
     evaluate::limit_in(table::read_limit(table), values, below, out)
 }
 
 // The `count` children at the front of `table` of a node of this kind, each at most `depth` nodes deep.
-// Their list grows in `out`, and each child's own stands in an array of this call.
+// Their list grows in `out`, and each child's own stands in a list of this call.
 // A child that does not fit ends the walk: it tells no place for the next, and so no record is read twice.
 #[cycle(evaluate_children_evaluate_node)]
 pub fn evaluate_children(
@@ -57,43 +57,34 @@ pub fn evaluate_children(
     depth: usize,
     kind: Kind,
     count: usize,
-    out: &mut Pairs,
-    spare: &mut Pairs,
-) -> Valued
-    requires { (length table.now ≤ record_length * most_records) × ((Roomy out.old) × (Roomy spare.old)) }
-    ensures { (Shows result out.new (evaluate_children (values_of values.now) depth kind count table.now)) × (Roomy spare.new) }
+    out: &mut List,
+    spare: &mut List,
+) -> Option<Valued>
+    requires { length table.now ≤ record_length * most_records }
+    ensures { Shows result out.new (evaluate_children (values_of values.now) depth kind count table.now) }
 {
     let mut list = List::zero();
-    let mut done = evaluate::repeat_in(0, WHOLE_RUN, 0, 0, out);
+    out.repeat(0);
+    let mut done = Valued {
+        named: WHOLE_RUN,
+        records: 0,
+        branch: 0,
+    };
     let mut seen_as = kind;
-    let mut number = 0;
-    while number < count {
+    for number in 0..count {
         let at = RECORD_LENGTH * done.records;
-        let child = evaluate_node(&table[at..], values, depth, &mut list.pairs, spare);
-        done = evaluate::take_child(
-            seen_as,
-            values,
-            number,
-            done,
-            out,
-            child,
-            &mut list.pairs,
-            spare,
-        );
-        if !done.fits {
-            return Valued::UNFIT;
-        }
+        let child = evaluate_node(&table[at..], values, depth, &mut list, spare)?;
+        done = evaluate::take_child(seen_as, values, number, done, out, child, &mut list, spare)?;
         seen_as = evaluate::rest_of(seen_as);
-        number += 1;
     }
-    done
+    Some(done)
 }
 
 // The tree of a table, as deep as question 5 allows.
-pub fn evaluate(table: &[u8], values: &[u64], out: &mut Pairs) -> Valued
-    requires { (length table.now ≤ record_length * most_records) × (Roomy out.old) }
+pub fn evaluate(table: &[u8], values: &[u64], out: &mut List) -> Option<Valued>
+    requires { length table.now ≤ record_length * most_records }
     ensures { Shows result out.new (evaluate_node (values_of values.now) most_depth table.now) }
 {
     let mut spare = List::zero();
-    evaluate_node(table, values, MOST_DEPTH, out, &mut spare.pairs)
+    evaluate_node(table, values, MOST_DEPTH, out, &mut spare)
 }

@@ -15,13 +15,10 @@ returns-then-not-is_paired c =
     let unpaired = sym c.is_paired.ensures ∙ not-true _ (ap not c.if-not-is_paired.true) in
     rw (time-single _ _ unpaired, ← c.amount_of-first.ensures) c.repeat_in.ensures
 
-pub once_then-len-requires-clause-fact_1 : goal.once_then-len-requires-clause-fact_1
-once_then-len-requires-clause-fact_1 c = omega (arith, c.amount_of-first.ensures, c.later_of.ensures, later-le (values_of c.args.values.now) c.args.time)
-
-pub once_then-len-requires-clause-fact_2 : goal.once_then-len-requires-clause-fact_2
-once_then-len-requires-clause-fact_2 c = c.requires
+pub once_then-requires : goal.once_then-requires
+once_then-requires c = omega (arith, c.amount_of-first.ensures, c.later_of.ensures, later-le (values_of c.args.values.now) c.args.time)
 
 pub returns : goal.returns
 unfolding time_pairs
 returns c =
-    rw (← c.amount_of-first.ensures, ← c.later_of.ensures, ← c.once_then-len.ensures.pairs) c.check_top.ensures
+    rw (← c.amount_of-first.ensures, ← c.later_of.ensures, ← c.once_then.ensures.pairs) c.check_top.ensures

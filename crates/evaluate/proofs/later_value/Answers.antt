@@ -11,4 +11,4 @@ returns-then-symbol-ge-HOW_MANY_SYMBOLS c = c.value_of-first.ensures ∙ sym (la
 
 pub returns : goal.returns
 returns c =
-    rw (later-lower _ _ c.if-symbol-lt-FIRST_PAIRED_SYMBOL.false c.if-symbol-ge-HOW_MANY_SYMBOLS.false, ← c.value_of-first.ensures, ← c.value_of.ensures) c.lower_of.ensures
+    rw (later-lower _ _ c.if-symbol-lt-FIRST_PAIRED_SYMBOL.false c.if-symbol-ge-HOW_MANY_SYMBOLS.false, ← c.value_of-first.ensures, ← c.value_of.ensures) c.min.ensures

@@ -2,5 +2,4 @@
 use Rattle.evaluate.proofs.repeat_in.Goals as goal
 
 pub returns : goal.returns
-returns c =
-    rw (← c.constant.ensures.pairs, ← c.store-len.ensures.pairs) c.check_top.ensures
+returns c = rw (← c.repeat.ensures.pairs) c.check_top.ensures

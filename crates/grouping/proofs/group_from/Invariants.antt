@@ -1,11 +1,7 @@
 -- Invariant of the loop of `group_from`: the pairs stored, and then the groups of the list from pair k on, are the groups (`Grouping`).
-use Prim.Native.Nat.{◌-◌}
-use Rattle.lists.specs.Reading.{list_in}
+use Rattle.lists.specs.Reading.{count_at}
 use Rattle.grouping.proofs.Groups.{Grouping}
 use Rattle.grouping.proofs.group_from.Given as goal
 
-abbrev pub invariant-loop-c : goal.invariant-loop-c
-invariant-loop-c l = Grouping l.n (list_in l.a l.al) l.out l.o l.k l.held l.sum l.c
-
-abbrev pub decreases-loop-c : goal.decreases-loop-c
-decreases-loop-c l = l.al - l.k
+abbrev pub invariant-loop-k : goal.invariant-loop-k
+invariant-loop-k l = Grouping l.n l.list l.out.pairs l.o l.k l.held l.sum (count_at l.list.pairs l.k)

@@ -1,19 +1,17 @@
 -- By the other list: one value for ever, one run and 0 after, or any.
 use native.Mathlib.Omega.{arith}
-use Rattle.lists.specs.Reading.{list_in}
 use Rattle.inplace.proofs.InPlace.{copied, ever-is, low_first, room-run, run_is}
 use Rattle.inplace.proofs.add_in.Goals as goal
 
 pub raise_in-requires : goal.raise_in-requires
-raise_in-requires c = record { fact_1 = c.requires.fact_1.left; fact_2 = low_first c.requires.fact_1 c.value_at-v.ensures }
+raise_in-requires c = record { fact_1 = c.requires.left; fact_2 = low_first c.requires c.value_at-v.ensures }
 
-pub returns-then-bl-eq1 : goal.returns-then-bl-eq1
-returns-then-bl-eq1 c =
-    record { fact_1 = rw (ever-is (list_in _ _) c.if-bl-eq1.true, ← c.value_at-v.ensures) c.raise_in.ensures; fact_2 = c.requires.fact_2 }
+pub returns-then-other-eq1 : goal.returns-then-other-eq1
+returns-then-other-eq1 c = rw (ever-is c.args.other.now c.if-other-eq1.true, ← c.value_at-v.ensures) c.raise_in.ensures
 
 pub raise_front-requires : goal.raise_front-requires
 raise_front-requires c =
-    let q = c.requires.fact_1 in
+    let q = c.requires in
     let r = run_is q.right c.is_run.ensures c.if-is_run.true in
     record {
       fact_1 = q.left;
@@ -25,11 +23,9 @@ raise_front-requires c =
 
 pub returns-then-is_run : goal.returns-then-is_run
 returns-then-is_run c =
-    let q = c.requires.fact_1 in
+    let q = c.requires in
     let r = run_is q.right c.is_run.ensures c.if-is_run.true in
-    record { fact_1 = rw (r.pairs, ← c.value_at-v.ensures, ← c.count_at.ensures) c.raise_front.ensures; fact_2 = c.requires.fact_2 }
+    rw (r.pairs, ← c.value_at-v.ensures, ← c.count_at.ensures) c.raise_front.ensures
 
 pub returns : goal.returns
-returns c =
-    let h = c.add_onto-n.ensures in
-    record { fact_1 = copied h c.copy_onto.ensures; fact_2 = h.proper.long }
+returns c = copied c.add_onto.ensures c.copy_from.ensures

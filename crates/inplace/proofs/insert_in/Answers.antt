@@ -1,14 +1,10 @@
+-- The pairs from k on are copied one place further, and pair k is stored over.
 use mathlib.Core.Path.{refl}
-use Rattle.inplace.proofs.InPlace.{insert-last, insert-start, insert-turn}
+use borrow.Author.Rules.{rules}
+use Rattle.inplace.proofs.InPlace.{inserted}
 use Rattle.inplace.proofs.insert_in.Goals as goal
-
-pub loop-j-init : goal.loop-j-init
-loop-j-init c = insert-start c.requires.fact_1 c.requires.fact_2 c.requires.fact_3
-
-pub loop-j-preserved : goal.loop-j-preserved
-loop-j-preserved c =
-    rw c.put_pair.ensures (insert-turn c.loop-j.invariant c.loop-j-test.true c.value_at-x.ensures c.count_at-y.ensures)
 
 pub returns : goal.returns
 returns c =
-    record { fact_1 = rw c.put_pair-2.ensures (insert-last c.loop-j.invariant c.loop-j-test.false); fact_2 = refl }
+    let i = c.copy_within.ensures.by_index in
+    rw c.put_pair.ensures (record { fact_1 = inserted c.copy_within.new.self c.requires.fact_1 c.requires.fact_2 (search rules) i.0 i.1; fact_2 = refl })

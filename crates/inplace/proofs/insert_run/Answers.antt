@@ -1,7 +1,7 @@
 -- Nothing changes where no value is below v; else v comes more often, or is one more pair.
 use mathlib.Core.Path.{◌∙◌, sym}
 use native.Mathlib.Omega.{arith}
-use Rattle.inplace.proofs.InPlace.{insert-none, lower, more-often, one_more, times-fit}
+use Rattle.inplace.proofs.InPlace.{as_list, insert-none, lower, more-often, one_more, times-fit}
 use Rattle.inplace.proofs.insert_run.Goals as goal
 
 pub returns-then-v-value_at : goal.returns-then-v-value_at
@@ -27,5 +27,5 @@ returns-then-value_at-v c =
 pub returns : goal.returns
 returns c =
     let q = c.requires in
-    rw c.insert_in.ensures.fact_2
+    as_list c.insert_in.new.list c.insert_in.ensures.fact_2
     (one_more q.fact_1 c.find_in-k.ensures q.fact_5 q.fact_4 (lower c.value_at-2.ensures c.if-value_at-v.false c.find_in-k.ensures.under) q.fact_2 c.insert_in.ensures.fact_1)

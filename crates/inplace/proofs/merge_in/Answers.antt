@@ -1,19 +1,17 @@
 -- By the other list: one value for ever, one run and 0 after, or any.
 use native.Mathlib.Omega.{arith}
-use Rattle.lists.specs.Reading.{list_in}
 use Rattle.inplace.proofs.InPlace.{copied, ever-is, few-run, room-run, run_is}
 use Rattle.inplace.proofs.merge_in.Goals as goal
 
 pub floor_in-requires : goal.floor_in-requires
-floor_in-requires c = c.requires.fact_1.left
+floor_in-requires c = c.requires.left
 
-pub returns-then-bl-eq1 : goal.returns-then-bl-eq1
-returns-then-bl-eq1 c =
-    record { fact_1 = rw (ever-is (list_in _ _) c.if-bl-eq1.true, ← c.value_at-v.ensures) c.floor_in.ensures; fact_2 = c.requires.fact_2 }
+pub returns-then-other-eq1 : goal.returns-then-other-eq1
+returns-then-other-eq1 c = rw (ever-is c.args.other.now c.if-other-eq1.true, ← c.value_at-v.ensures) c.floor_in.ensures
 
 pub insert_run-requires : goal.insert_run-requires
 insert_run-requires c =
-    let q = c.requires.fact_1 in
+    let q = c.requires in
     let r = run_is q.right c.is_run.ensures c.if-is_run.true in
     record {
       fact_1 = q.left;
@@ -25,11 +23,9 @@ insert_run-requires c =
 
 pub returns-then-is_run : goal.returns-then-is_run
 returns-then-is_run c =
-    let q = c.requires.fact_1 in
+    let q = c.requires in
     let r = run_is q.right c.is_run.ensures c.if-is_run.true in
-    record { fact_1 = rw (r.pairs, ← c.value_at-v.ensures, ← c.count_at.ensures) c.insert_run.ensures; fact_2 = c.requires.fact_2 }
+    rw (r.pairs, ← c.value_at-v.ensures, ← c.count_at.ensures) c.insert_run.ensures
 
 pub returns : goal.returns
-returns c =
-    let h = c.merge_onto-n.ensures in
-    record { fact_1 = copied h c.copy_onto.ensures; fact_2 = h.proper.long }
+returns c = copied c.merge_onto.ensures c.copy_from.ensures

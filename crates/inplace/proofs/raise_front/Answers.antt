@@ -1,47 +1,49 @@
-use mathlib.Core.Path.{◌∙◌}
-use native.Mathlib.Nat.{le_of_lt}
+use mathlib.Core.Path.{◌∙◌, ◌≡◌, refl}
+use Prim.Native.Nat.{◌-◌}
 use native.Mathlib.Omega.{arith}
-use Rattle.lists.proofs.Stored.{length-stored}
-use Rattle.inplace.proofs.InPlace.{front-done, front-last, front-start, front-turn, raise-fits, reaches-false, reaches-true}
+use Rattle.lists.specs.Reading.{count_at}
+use Rattle.lists.proofs.Suffix.{inner-count, last-count}
+use Rattle.inplace.proofs.InPlace.{front-ends, front-start, front-turn, raise-fits}
+use Rattle.inplace.proofs.raise_front.Goals.{After-count_at-c, After-loop-k}
 use Rattle.inplace.proofs.raise_front.Goals as goal
 
-pub loop-ps-init : goal.loop-ps-init
-loop-ps-init c =
+-- the count that was read
+read : (c : After-count_at-c) → c.count_at-c.result ≡ count_at c.args.list.now.pairs c.loop-k.k
+read c = c.count_at-c.ensures ∙ c.loop-k.invariant.0.raising.counts c.loop-k.k (omega arith)
+
+-- the last pair
+last : (c : After-loop-k) → c.args.list.now.len - 1 ≡ c.loop-k.k
+last c = omega (arith, c.loop-k.auto.k-end, c.loop-k-test.false)
+
+pub loop-k-init : goal.loop-k-init
+loop-k-init c =
     let q = c.requires in
-    front-start q.fact_1 q.fact_2 q.fact_3 q.fact_4 q.fact_5 c.count_at-c.ensures
+    (front-start q.fact_1 q.fact_2 q.fact_3 q.fact_4 q.fact_5 refl, refl)
+
+pub raise_part-requires-clause-fact_3 : goal.raise_part-requires-clause-fact_3
+raise_part-requires-clause-fact_3 c = raise-fits c.loop-k.invariant.0.raising refl
+
+pub returns-then-left-c : goal.returns-then-left-c
+returns-then-left-c c =
+    let (t, e) = c.loop-k.invariant in
+    front-ends t e (λ h. rw (read (goal.at.returns-then-left-c c).After-count_at-c) at c.if-left-c.true) c.raise_part.ensures
 
 pub overflow_add-x : goal.overflow_add-x
-overflow_add-x c = omega (arith, raise-fits c.loop-ps.invariant.raising c.value_at-x.ensures)
+overflow_add-x c = omega (arith, raise-fits c.loop-k.invariant.0.raising c.value_at-x.ensures)
 
-pub overflow_sub-left : goal.overflow_sub-left
-overflow_sub-left c =
-    omega (arith, (reaches-true c.loop-ps.c c.loop-ps.left c.reaches.ensures c.loop-ps-test.true).1)
+pub loop-k-preserved : goal.loop-k-preserved
+loop-k-preserved c =
+    let (t, e) = c.loop-k.invariant in
+    let count = read (goal.at.loop-k-preserved c).After-count_at-c in
+    let some = inner-count c.args.list.now c.requires.fact_1 c.loop-k.k (omega (arith, c.loop-k-test.true)) in
+    rw (c.put_pair.ensures, count) (front-turn t some (rw count at c.if-left-c.false) c.value_at-x.ensures refl, e)
 
-pub loop-ps-smaller : goal.loop-ps-smaller
-loop-ps-smaller c = let i = c.loop-ps.invariant.raising in omega (arith, i.inside)
-
-pub loop-ps-preserved : goal.loop-ps-preserved
-loop-ps-preserved c =
-    rw c.put_pair.ensures
-    (front-turn c.loop-ps.invariant c.reaches.ensures c.loop-ps-test.true c.value_at-x.ensures (rw c.put_pair.ensures at c.count_at-c-in-loop-ps.ensures))
-
-pub returns-then-left-eq0 : goal.returns-then-left-eq0
-returns-then-left-eq0 c = front-done c.loop-ps.invariant c.if-left-eq0.true
-
-pub after_of-requires : goal.after_of-requires
-after_of-requires c =
-    λ h. le_of_lt (reaches-false c.loop-ps.c c.loop-ps.left c.reaches.ensures c.loop-ps-test.false h)
-
-pub overflow_add-x-2 : goal.overflow_add-x-2
-overflow_add-x-2 c =
-    omega (arith, raise-fits c.loop-ps.invariant.raising c.value_at-x-2.ensures)
-
-pub insert_in-requires : goal.insert_in-requires
-insert_in-requires c =
-    let v = c.loop-ps.invariant in
-    record { fact_1 = rw c.put_pair-2.ensures (length-stored _ _ _ _ ∙ v.raising.long); fact_2 = v.raising.inside; fact_3 = v.room }
+pub raise_part-requires-2-clause-fact_3 : goal.raise_part-requires-2-clause-fact_3
+raise_part-requires-2-clause-fact_3 c = rw (last (goal.at.raise_part-requires-2-clause-fact_3 c).After-loop-k) (raise-fits c.loop-k.invariant.0.raising refl)
 
 pub returns : goal.returns
 returns c =
-    rw c.insert_in.ensures.fact_2
-    (front-last c.loop-ps.invariant c.reaches.ensures c.loop-ps-test.false c.value_at-x-2.ensures c.after_of.ensures c.if-left-eq0.false (rw c.put_pair-2.ensures at c.insert_in.ensures.fact_1))
+    let (t, e) = c.loop-k.invariant in
+    let z = last (goal.at.returns c).After-loop-k in
+    let forever = last-count c.args.list.now c.requires.fact_1 _ z in
+    front-ends t e (λ h. absurd (omega (arith, forever))) (rw z at c.raise_part-2.ensures)

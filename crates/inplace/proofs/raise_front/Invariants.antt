@@ -1,11 +1,8 @@
 -- Invariant of the loop of `raise_front`: k pairs are raised, and `left` members are still to be (`Fronting`).
-use Prim.Native.Nat.{◌-◌}
-use Rattle.lists.specs.Reading.{list_in}
+use Rattle.std.specs.Prelude.{◌≡◌}
+use Rattle.lists.specs.Reading.{count_at}
 use Rattle.inplace.proofs.InPlace.{Fronting}
 use Rattle.inplace.proofs.raise_front.Given as goal
 
-abbrev pub invariant-loop-ps : goal.invariant-loop-ps
-invariant-loop-ps l = Fronting (list_in l.initial.ps l.len) l.v l.m l.ps l.k l.left l.c
-
-abbrev pub decreases-loop-ps : goal.decreases-loop-ps
-decreases-loop-ps l = l.len - l.k
+abbrev pub invariant-loop-k : goal.invariant-loop-k
+invariant-loop-k l = let a = l.initial.list in Fronting a l.v l.m l.list.pairs l.k l.left (count_at a.pairs l.k) × (l.list.len ≡ a.len)

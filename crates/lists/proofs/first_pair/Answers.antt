@@ -8,7 +8,7 @@ use Rattle.lists.proofs.first_pair.Goals as goal
 -- by what was read
 read : (c : After-count_at-d) → let s = c in
     head_of c.value_at-v.result c.count_at-c.result c.value_at-w.result c.count_at-d.result
-    ≡ head_of (value_at s.args.a.now s.args.i) (count_at s.args.a.now s.args.i) (value_at s.args.b.now s.args.j) (count_at s.args.b.now s.args.j)
+    ≡ head_of (value_at s.args.a.now.pairs s.args.i) (count_at s.args.a.now.pairs s.args.i) (value_at s.args.b.now.pairs s.args.j) (count_at s.args.b.now.pairs s.args.j)
 read c = rw (c.value_at-v.ensures, c.count_at-c.ensures, c.value_at-w.ensures, c.count_at-d.ensures)
 
 pub returns-then-w-v : goal.returns-then-w-v

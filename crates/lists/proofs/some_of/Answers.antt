@@ -1,11 +1,17 @@
 -- `some_of` is 0 at 0 alone.
-use mathlib.Core.Path.{sym}
+use mathlib.Core.Path.{◌≡◌, refl}
+use mathlib.Core.Bool.{Bool, false, not, true}
+use lib.Dec.{eqb}
+use mir.Val.{bool_byte}
+use borrow.Author.Tests.{eqb-false, eqb-true}
+use Rattle.lists.specs.Operations.{some}
 use Rattle.lists.specs.Laws.Add.{positive}
 use Rattle.lists.specs.Laws.Group.{some-none, some_one}
 use Rattle.lists.proofs.some_of.Goals as goal
 
-pub returns-then-x-eq0 : goal.returns-then-x-eq0
-returns-then-x-eq0 c = sym (some-none _ c.if-x-eq0.true)
-
-pub returns-else-x-eq0 : goal.returns-else-x-eq0
-returns-else-x-eq0 c = sym (some_one _ (positive _ c.if-x-eq0.false))
+pub returns : goal.returns
+returns c = rw c.from.ensures (go (eqb c.args.x 0) refl)
+  where
+    go : (b : Bool) → eqb c.args.x 0 ≡ b → bool_byte (not b) ≡ some c.args.x
+    go true e = rw (some-none _ (eqb-true _ _ e)) refl
+    go false e = rw (some_one _ (positive _ (eqb-false _ _ e))) refl

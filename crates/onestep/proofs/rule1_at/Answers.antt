@@ -1,7 +1,6 @@
 -- By the two tests; the evaluator gives the block's time.
 use mathlib.Core.Path.{◌∙◌}
 use native.Mathlib.Omega.{arith}
-use Rattle.lists.specs.Reading.{value_at}
 use Rattle.table.proofs.Laws.Tables.{length-is, not-long}
 use Rattle.onestep.specs.Laws.Whole.{block_written, first-is, has-symbol, some-record, that-already}
 use Rattle.onestep.proofs.rule1_at.Goals as goal
@@ -21,15 +20,13 @@ returns-then-is_bare c =
     that-already _ c.requires.fact_1 _ _ c.is_bare.ensures c.if-is_bare.true
 
 pub evaluate-requires : goal.evaluate-requires
-evaluate-requires c =
-    (not-long _ c.requires.fact_1.table, c.zero-list.ensures.proper.long)
+evaluate-requires c = not-long _ c.requires.fact_1.table
 
 pub put_node-requires : goal.put_node-requires
 put_node-requires c =
     omega (arith, c.requires.fact_4, length-is _ c.requires.fact_1.table, some-record _ c.requires.fact_1)
 
 pub returns : goal.returns
-unfolding value_at
 returns c =
     block_written _ c.requires.fact_1 _ _ _ _ _ c.requires.fact_2 c.if-marks-ne0.false c.is_bare.ensures c.if-is_bare.false
-    (c.value_at.ensures ∙ first-is _ c.requires.fact_1 c.evaluate.ensures) c.put_node.ensures.0 c.put_node.ensures.1
+    (c.value_at.ensures ∙ first-is _ c.requires.fact_1 _ _ c.evaluate.ensures) c.put_node.ensures.0 c.put_node.ensures.1

@@ -1,5 +1,6 @@
 -- Rule 1: the whole table as one block; and a step, by rule 1 or by the search.
 use Rattle.std.specs.Prelude.{◌≡◌, Bool, not, true, List, [], ◌++◌, ℕ, ◌+◌, ◌*◌, ◌<◌, ◌≤◌, eqb, drop, get_or, length}
+use Rattle.std.specs.Prelude.{Option as Answer}
 use Rattle.std.proofs.Math.Path.{refl, ap, sym}
 use Rattle.std.proofs.Common.{◌∙◌, append-nil, drop_of_length-le}
 use Rattle.std.proofs.Math.Bool.{false}
@@ -17,9 +18,11 @@ use Rattle.evaluate.specs.Evaluator.{evaluate_node}
 use Rattle.evaluate.specs.Shown.{Shows}
 use Rattle.evaluate.proofs.Laws.Alike.{zeros-alike}
 use Rattle.evaluate.proofs.Laws.Evaluator.{Evaluated, evaluated}
-use Rattle.evaluate.proofs.Laws.Shown.{first-top}
+use Rattle.evaluate.proofs.Laws.Shown.{first-top, shown-fits}
 use Rattle.evaluate.specs.declared.Valued.{Valued}
+use Rattle.lists.specs.declared.List.{List as Listed}
 use Rattle.lists.specs.Pairs.{top as top_pair}
+use Rattle.lists.specs.Reading.{value_at}
 use Rattle.simplify.specs.Rules.{bare, leaf, rule1, when}
 use Rattle.simplify.specs.Steps.{also, inside, inside_in, or_else, step}
 use Rattle.subtrees.specs.Facts.{Extents, MarkedAt, symbols}
@@ -61,13 +64,13 @@ module _ (b : List ℕ) (s : Simplifiable b) where
       no true = unfold ◌and◌ in refl
       no false = unfold ◌and◌ in refl
 
-  pub first-is : {r : Valued} {a : List ℕ} → Shows r a (evaluate_node zeros most_depth b) → get_or a 0 0 ≡ figure zeros (decode b)
-  first-is {r} {a} w =
+  pub first-is : (r : Answer Valued) (a : Listed) → Shows r a (evaluate_node zeros most_depth b) → value_at a.pairs 0 ≡ figure zeros (decode b)
+  first-is r a w =
       let t = s.table.accepted in
       let e : Evaluated zeros (decode b) (evaluate_node zeros most_depth b) =
       evaluated zeros zeros (λ k l. refl) (λ k q. omega arith) (decode b) 0 most_depth b [] (sym (append-nil (encode (decode b)) ∙ s.table.back))
       (record { listed = t.listed; nested = t.nested; named = t.named; weighed = t.weighed }) (zeros-alike (decode b) t.listed) t.deep in
-      let is = w.list (w.fits ∙ (e.holds s.fits).fits) in
+      let is = shown-fits r a _ w (e.holds s.fits).fits in
       sym (first-top is.proper) ∙ ap top_pair is.pairs ∙ e.figure s.fits
 
   pub block_written : (marks out : List ℕ) (x : Bool) (v r : ℕ) → MarkedAt b marks 0 → get_or marks 0 0 ≡ 0 → x ≡ bare (subtree b 0) → x ≡ false → v ≡ figure zeros (decode b)

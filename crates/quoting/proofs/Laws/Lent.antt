@@ -1,5 +1,5 @@
 -- The walk of a table without flag 4 needs no triangular number; where a limit is under flag 4, each is behind the values.
-use Rattle.std.specs.Prelude.{◌≡◌, refl, cond, true, List, ℕ, ◌+◌, T, eqb, ltb, length}
+use Rattle.std.specs.Prelude.{◌≡◌, refl, cond, true, List, Option, ℕ, ◌+◌, T, eqb, ltb, length}
 use Rattle.std.proofs.Math.Path.{ap}
 use Rattle.std.proofs.Common.{sym, subst, ◌∙◌, arith, eq-eqb, lt-ltb}
 use Rattle.std.proofs.Math.Dec.{eqb_refl, ltb→lt}
@@ -10,6 +10,7 @@ use Rattle.table.specs.Questions.{most_in_range}
 use Rattle.table.specs.Table.{decode, record_count}
 use Rattle.table.specs.declared.Most.{Most}
 use Rattle.table.proofs.Laws.Limits.{each-follows, no_flag, ranged-limits, table-limits}
+use Rattle.lists.specs.declared.List.{List as Listed}
 use Rattle.triangular.specs.Triangular.{triangular}
 use Rattle.triangular.specs.Entries.{Triangles}
 use Rattle.evaluate.specs.Evaluate.{Values, allowed, values_of}
@@ -27,9 +28,9 @@ symbol-alike : (v : Values) (s : ℕ) → alike v v (Most.Symbol s) ≡ true
 unfolding alike looked allowed
 symbol-alike v s = eq-eqb (v s) (v s) refl
 
-pub free-walked : (b vs : List ℕ) {r : Valued} {out : List ℕ} → flag_free b ≡ true → Shows r out (evaluate_node (values_of vs) most_depth b) → Walked b vs r out
+pub free-walked : (b vs : List ℕ) (r : Option Valued) (out : Listed) → flag_free b ≡ true → Shows r out (evaluate_node (values_of vs) most_depth b) → Walked b vs r out
 unfolding flag_free
-free-walked b vs e s =
+free-walked b vs r out e s =
     let v = values_of vs in record {
       lent = v;
       agree = λ k l. refl;
@@ -50,8 +51,8 @@ module _ (vs ns : List ℕ) (long : length vs ≡ how_many_values) (t : Triangle
       let behind : get_or ns (how_many_values + k) 0 ≡ triangular (get_or vs k 0) = ap (λ n. get_or ns (n + k) 0) (sym long) ∙ t.behind k (omega arith) in
       is_T (eqb (cond (ltb k how_many_symbols) (get_or ns (how_many_values + k) 0) 0) (triangular (get_or vs k 0))) (rw (lt-ltb k how_many_symbols (omega arith)) (eq-eqb _ _ behind))
 
-  pub lent-walked : (b : List ℕ) {r : Valued} {out : List ℕ} → Shows r out (evaluate_node (values_of ns) most_depth b) → Walked b vs r out
-  lent-walked b s = record {
+  pub lent-walked : (b : List ℕ) (r : Option Valued) (out : Listed) → Shows r out (evaluate_node (values_of ns) most_depth b) → Walked b vs r out
+  lent-walked b r out s = record {
     lent = values_of ns;
     agree = lent-agree;
     same = λ i. ranged-limits (λ k m. alike (values_of ns) (values_of vs) m) (λ k m. lent_alike m) (decode b) i.accepted.listed;

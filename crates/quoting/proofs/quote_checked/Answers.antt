@@ -1,9 +1,10 @@
 -- Each return has the answers to the questions before it; the last two have what the walk found.
-use mathlib.Core.Path.{sym, ap₂, ◌∙◌}
+use mathlib.Core.Path.{ap, sym, ap₂, ◌∙◌}
 use native.Mathlib.Omega.{arith}
 use Rattle.table.specs.Bytes.{AreBytes}
 use Rattle.table.proofs.Laws.Refusal.{accepted-short}
-use Rattle.lists.specs.Laws.Numbers.{list-top}
+use Rattle.lists.specs.Pairs.{top}
+use Rattle.evaluate.proofs.Laws.Shown.{first-top}
 use Rattle.quoting.specs.declared.Quote.{Quote}
 use Rattle.quoting.proofs.Laws.Evaluated.{figure-found, figure-no, quote-large}
 use Rattle.quoting.proofs.Laws.Figures.{quote-values}
@@ -14,29 +15,30 @@ pub returns-then-question-ne0 : goal.returns-then-question-ne0
 returns-then-question-ne0 c =
     figure-no _ _ c.requires (quote-values _ _ c.values_refusal-question.ensures c.if-question-ne0.true) c.if-question-ne0.true
 
-pub walk-found-requires-clause-fact_1 : goal.walk-found-requires-clause-fact_1
-walk-found-requires-clause-fact_1 c =
+pub walk-requires-clause-fact_1 : goal.walk-requires-clause-fact_1
+walk-requires-clause-fact_1 c =
     let bytes : AreBytes c.args.table.now = λ i. omega (arith, c.type_inv.table i) in
     accepted-short _ bytes c.requires
 
-pub walk-found-requires-clause-fact_2 : goal.walk-found-requires-clause-fact_2
-walk-found-requires-clause-fact_2 c = values-long _ _ (sym c.values_refusal-question.ensures ∙ c.if-question-ne0.false)
+pub walk-requires-clause-fact_2 : goal.walk-requires-clause-fact_2
+walk-requires-clause-fact_2 c = values-long _ _ (sym c.values_refusal-question.ensures ∙ c.if-question-ne0.false)
 
-pub walk-found-requires-clause-fact_3 : goal.walk-found-requires-clause-fact_3
-walk-found-requires-clause-fact_3 c = c.flag_free-free.ensures
+pub walk-requires-clause-fact_3 : goal.walk-requires-clause-fact_3
+walk-requires-clause-fact_3 c = c.flag_free-free.ensures
 
-pub returns-then-found : goal.returns-then-found
-returns-then-found c =
+pub returns : goal.returns
+returns c =
     let bytes : AreBytes c.args.table.now = λ i. omega (arith, c.type_inv.table i) in
-    let walk = c.walk-found.ensures in
-    ap₂ Quote.Figure (list-top _ _ (walk.shows.list c.if-found.true)) walk.shows.branch
-    ∙ figure-found _ _ c.requires bytes (sym c.values_refusal-question.ensures ∙ c.if-question-ne0.false) _ walk.agree walk.same (sym walk.shows.fits ∙ c.if-found.true)
+    let walk = c.in-Some.ensures in
+    let (proper, found) = walk.shows in
+    ap₂ Quote.Figure (c.value_at-first.ensures ∙ sym (first-top proper) ∙ sym (ap (λ e. top e.pairs) found)) (sym (ap (λ e. e.branch) found))
+    ∙ figure-found _ _ c.requires bytes (sym c.values_refusal-question.ensures ∙ c.if-question-ne0.false) _ walk.agree walk.same (ap (λ e. e.fits) found)
 
-pub returns-else-found : goal.returns-else-found
-returns-else-found c =
+pub returns-in_default : goal.returns-in_default
+returns-in_default c =
     let bytes : AreBytes c.args.table.now = λ i. omega (arith, c.type_inv.table i) in
-    let walk = c.walk-found.ensures in
+    let walk = c.in_default.ensures in
     let no = c.requires in
     figure-no _ _ no
-    (quote-large _ _ no bytes (sym c.values_refusal-question.ensures ∙ c.if-question-ne0.false) _ walk.agree walk.same (sym walk.shows.fits ∙ c.if-found.false))
+    (quote-large _ _ no bytes (sym c.values_refusal-question.ensures ∙ c.if-question-ne0.false) _ walk.agree walk.same (ap (λ e. e.fits) walk.shows))
     (λ z. omega (arith, z))

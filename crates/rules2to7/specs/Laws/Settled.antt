@@ -1,5 +1,6 @@
 -- The value that rule 4 puts in a node's place, and when the rule fits.
 use Rattle.std.specs.Prelude.{◌≡◌, Bool, ◌&&◌, List, ◌++◌, ℕ, ◌+◌, ◌*◌, ◌-◌, ◌<◌, ◌≤◌, eqb, leb, drop, length, take}
+use Rattle.std.specs.Prelude.{Option as Answer}
 use Rattle.std.proofs.Math.Path.{refl, ap, sym, subst}
 use Rattle.std.proofs.Common.{◌∙◌, append-nil, arith, length-drop, drop-drop}
 use Rattle.std.proofs.Math.Bool.{true, false, not}
@@ -14,14 +15,16 @@ use Rattle.table.specs.Table.{child_byte, encode, encodes, first_node, record_by
 use Rattle.table.specs.Trees.{Forest, node, ◌▸◌, records, records_in, size}
 use Rattle.table.proofs.Laws.Reading.{part-from}
 use Rattle.table.proofs.Laws.RoundTrip.{drop-bytes}
+use Rattle.lists.specs.declared.List.{List as Listed}
 use Rattle.lists.specs.Pairs.{top}
+use Rattle.lists.specs.Reading.{value_at}
 use Rattle.lists.specs.Streams.{const}
 use Rattle.evaluate.specs.Closed.{closed_in, symbol_free}
 use Rattle.evaluate.specs.Evaluate.{fits, fits_in, start, zeros}
 use Rattle.evaluate.specs.Shown.{Shows, evaluate_children}
 use Rattle.evaluate.proofs.Laws.Alike.{zeros-alike}
 use Rattle.evaluate.proofs.Laws.Evaluator.{children-found}
-use Rattle.evaluate.proofs.Laws.Shown.{first-top}
+use Rattle.evaluate.proofs.Laws.Shown.{first-top, shown-fits}
 use Rattle.evaluate.specs.declared.Valued.{Valued}
 use Rattle.simplify.specs.Rules.{is_block, leaf, rule4, when}
 use Rattle.simplify.specs.Steps.{also}
@@ -54,18 +57,18 @@ module _ (b : List ℕ) (s : Simplifiable b) (i : ℕ) (l : i < record_count b) 
   pub short-part : (n : ℕ) → length (take (length b - n) (drop n b)) ≤ record_length * most_records
   short-part n = rw (part-from, length-drop) (omega (arith, length-is b s.table, few-records b s.table))
 
-  pub settled : block_at (trees_at b i) ≡ false → {r : Valued} {a : List ℕ} {n : Node} {c : ℕ} → n ≡ first_node (drop (record_length * i) b) → c ≡ child_byte (drop (record_length * i) b)
+  pub settled : block_at (trees_at b i) ≡ false → (r : Answer Valued) (a : Listed) {n : Node} {c : ℕ} → n ≡ first_node (drop (record_length * i) b) → c ≡ child_byte (drop (record_length * i) b)
       → let m = record_length * i + record_length in Shows r a (evaluate_children zeros most_depth n.kind c (take (length b - m) (drop m b)))
-      → get_or a 0 0 ≡ before_at (trees_at b i)
+      → value_at a.pairs 0 ≡ before_at (trees_at b i)
   unfolding block_at before_at depth fits
-  settled e {r} {a} {n} {c} p q w =
+  settled e r a {n} {c} p q w =
       let h = here-at b s.table i l in
       let fit = subst (λ g. T (fits_in zeros g)) h.here (fits-at b s i) in
       let no : is_block h.own.kind ≡ false = sym (ap block_at h.here) ∙ e in
       let t = h.sound in
       let (all, first) = children-found zeros zeros (λ k l. refl) (λ k q. omega arith) h.own h.kids t.around most_depth _ (encodes h.later) refl t.fair (zeros-alike _ t.fair.listed) (omega (arith, t.deep)) (starts-at-zero h.own.kind no) (both _ _ fit).0 in
       let v : Shows r a (evaluate_children zeros most_depth h.own.kind (size h.kids) (encodes h.kids ++ encodes h.later)) = rw (p ∙ node_at b i h, q ∙ count_at b i h, part-from, rest_at b i h) at w in
-      let is = v.list (v.fits ∙ all) in
+      let is = shown-fits r a _ v all in
       sym (first-top is.proper) ∙ ap top is.pairs ∙ first ∙ sym (ap before_at h.here)
 
 -- ---- when the rule fits

@@ -1,7 +1,6 @@
 -- Each question put in its order; what is left is the steps.
-use mathlib.Core.Path.{◌≡◌, sym, ◌∙◌}
+use mathlib.Core.Path.{◌≡◌, ap, sym, ◌∙◌}
 use native.Mathlib.Omega.{arith}
-use borrow.Author.Rules.{rules}
 use Rattle.table.specs.Bytes.{AreBytes}
 use Rattle.table.specs.Checking.{refusal}
 use Rattle.table.proofs.Laws.Refusal.{accepted-short}
@@ -18,31 +17,31 @@ returns-then-out-table c =
     let k = simplify-short _ _ _ (sym c.refusal_of-number.ensures ∙ c.if-number-ne0.false) c.if-out-table.true in
     record { answer = k.0; written = k.1 }
 
-pub evaluate-found-requires : goal.evaluate-found-requires
-evaluate-found-requires c =
+pub evaluate-requires : goal.evaluate-requires
+evaluate-requires c =
     let bytes : AreBytes c.args.table.now = λ i. omega (arith, c.type_inv.table i) in
     let no : refusal c.args.table.now ≡ 0 = sym c.refusal_of-number.ensures ∙ c.if-number-ne0.false in
-    (accepted-short _ bytes no, search rules)
+    accepted-short _ bytes no
 
 pub make_steps-requires : goal.make_steps-requires
 make_steps-requires c =
     let bytes : AreBytes c.args.table.now = λ i. omega (arith, c.type_inv.table i) in
     let no : refusal c.args.table.now ≡ 0 = sym c.refusal_of-number.ensures ∙ c.if-number-ne0.false in
     record {
-      fact_1 = simplify-able _ c.args.allowance c.args.out.now no c.if-out-table.false bytes (sym c.evaluate-found.ensures.fits ∙ c.if-found.true);
+      fact_1 = simplify-able _ c.args.allowance c.args.out.now no c.if-out-table.false bytes (ap (λ e. e.fits) c.in-Some.ensures.1);
       fact_2 = c.if-out-table.false;
     }
 
-pub returns-then-found : goal.returns-then-found
-returns-then-found c =
+pub returns : goal.returns
+returns c =
     let bytes : AreBytes c.args.table.now = λ i. omega (arith, c.type_inv.table i) in
     let no : refusal c.args.table.now ≡ 0 = sym c.refusal_of-number.ensures ∙ c.if-number-ne0.false in
-    let k = simplify-made _ _ _ no c.if-out-table.false bytes (sym c.evaluate-found.ensures.fits ∙ c.if-found.true) c.make_steps.ensures in
+    let k = simplify-made _ _ _ no c.if-out-table.false bytes (ap (λ e. e.fits) c.in-Some.ensures.1) c.make_steps.ensures in
     record { answer = k.0; written = k.1 }
 
-pub returns-else-found : goal.returns-else-found
-returns-else-found c =
+pub returns-in_default : goal.returns-in_default
+returns-in_default c =
     let bytes : AreBytes c.args.table.now = λ i. omega (arith, c.type_inv.table i) in
     let no : refusal c.args.table.now ≡ 0 = sym c.refusal_of-number.ensures ∙ c.if-number-ne0.false in
-    let k = simplify-large _ _ _ no c.if-out-table.false bytes (sym c.evaluate-found.ensures.fits ∙ c.if-found.false) in
+    let k = simplify-large _ _ _ no c.if-out-table.false bytes (ap (λ e. e.fits) c.in_default.ensures) in
     record { answer = k.0; written = k.1 }

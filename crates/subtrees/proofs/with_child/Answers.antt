@@ -6,6 +6,6 @@ pub returns : goal.returns
 returns c = λ i. record {
   records = c.args.found.records + c.args.records;
   symbols = c.larger_of.ensures i;
-  named = c.inner_of.ensures i;
+  named = c.min.ensures i;
   reach = c.larger_of-2.ensures i;
 }
