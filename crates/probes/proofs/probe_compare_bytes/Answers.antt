@@ -1,6 +1,6 @@
-use Rattle.std.proofs.Common.{refl, arith}
+use Rattle.std.proofs.Common.{refl}
 use Rattle.probes.specs.Probes.{ProbedBytes}
-use Rattle.probes.specs.Laws.Bytes.{all-equal, one_more}
+use Rattle.probes.specs.Laws.Bytes.{all-equal}
 use Rattle.probes.proofs.probe_compare_bytes.Goals as goal
 
 pub returns-then-a-b : goal.returns-then-a-b
@@ -10,9 +10,6 @@ returns-then-a-b c = (c.if-a-b.true, refl)
 pub returns-then-a-k : goal.returns-then-a-k
 unfolding ProbedBytes
 returns-then-a-k c = (c.if-a-b.false, (c.loop-k.invariant, c.if-a-k.true))
-
-pub loop-k-preserved : goal.loop-k-preserved
-loop-k-preserved c = one_more _ _ c.loop-k.k (omega (arith, c.loop-k-test.true)) (omega (arith, c.loop-k-test.true, c.if-a-b.false)) c.loop-k.invariant c.if-a-k.false
 
 pub returns : goal.returns
 unfolding ProbedBytes

@@ -1,12 +1,9 @@
 use Rattle.std.proofs.Common.{add-one, arith}
-use Rattle.values.proofs.Laws.Values.{none-asked, one-asked, one-over, all_asked, other_length}
+use Rattle.values.proofs.Laws.Values.{one-asked, one-over, all_asked, other_length}
 use Rattle.values.proofs.values_allowed.Goals as goal
 
 pub returns-then-values-ne-HOW_MANY_VALUES : goal.returns-then-values-ne-HOW_MANY_VALUES
 returns-then-values-ne-HOW_MANY_VALUES c = other_length _ c.if-values-ne-HOW_MANY_VALUES.true
-
-pub loop-i-init : goal.loop-i-init
-loop-i-init c = none-asked _
 
 pub returns-then-ceiling_of-value : goal.returns-then-ceiling_of-value
 returns-then-ceiling_of-value c =
