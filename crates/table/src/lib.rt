@@ -46,7 +46,7 @@ pub const MOST_DEPTH: usize = 32;
 // ---- The node: a record without its number of children
 
 // A time or bound: a plain number, or a symbol by its number.
-#[derive(Clone, Copy)]
+#[derive(Clone, Copy, PartialEq, Eq)]
 pub enum Number {
     Plain(u64),
     Symbol(u64),
@@ -68,7 +68,7 @@ pub enum Limit {
 }
 
 // A block with its time, a sequence, a choice, a loop with its bound.
-#[derive(Clone, Copy)]
+#[derive(Clone, Copy, PartialEq, Eq)]
 pub enum Kind {
     Block(Number),
     Sequence,
