@@ -12,64 +12,39 @@ ghost use Rattle.subtrees.specs.Parts.{subtree};
 
 use table::{Kind, Limit, Number};
 
+#[tactic(auto, unfolding(simplify::specs::Rules::is_block))]
 pub fn is_block(kind: Kind) -> bool
     ensures { result ≡ is_block kind }
 {
-    match kind {
-        Kind::Block(_) => true,
-        Kind::Sequence => false,
-        Kind::Choice => false,
-        Kind::Loop(_) => false,
-    }
+    matches!(kind, Kind::Block(_))
 }
 
+#[tactic(auto, unfolding(simplify::specs::Rules::is_sum))]
 pub fn is_sum(kind: Kind) -> bool
     ensures { result ≡ is_sum kind }
 {
-    match kind {
-        Kind::Block(_) => false,
-        Kind::Sequence => true,
-        Kind::Choice => true,
-        Kind::Loop(_) => false,
-    }
+    matches!(kind, Kind::Sequence | Kind::Choice)
 }
 
+#[tactic(auto, unfolding(evaluate::specs::Closed::is_unlimited))]
 pub fn is_unlimited(limit: Limit) -> bool
     ensures { result ≡ is_unlimited limit }
 {
-    match limit {
-        Limit::Unlimited => true,
-        Limit::AtMost(_, _) => false,
-    }
+    matches!(limit, Limit::Unlimited)
 }
 
 pub fn same_kind(a: Kind, b: Kind) -> bool
     ensures { result ≡ same_kind a b }
 {
-    let x = writing::value_of(a);
-    let y = writing::value_of(b);
-    (writing::kind_byte(a) == writing::kind_byte(b))
-        & (writing::flag_of(x) == writing::flag_of(y))
-        & (writing::raw_of(x) == writing::raw_of(y))
-}
-
-fn is_plain(number: Number) -> bool
-    ensures { result ≡ is_plain number }
-{
-    match number {
-        Number::Plain(_) => true,
-        Number::Symbol(_) => false,
-    }
+    a == b
 }
 
 fn is_plain_block(kind: Kind) -> bool
     ensures { result ≡ (is_block kind and plain_kind kind) }
 {
     match kind {
-        Kind::Block(time) => is_plain(time),
-        Kind::Sequence => false,
-        Kind::Choice => false,
-        Kind::Loop(_) => false,
+        Kind::Block(time) => matches!(time, Number::Plain(_)),
+        _ => false,
     }
 }
 

@@ -18,38 +18,34 @@ use Rattle.table.specs.declared.Number.TheVariants.{Plain, Symbol}
 use Rattle.table.specs.declared.Kind.{Kind}
 use Rattle.table.specs.declared.Kind.TheVariants.{Block, Sequence, Choice, Loop}
 use Rattle.table.specs.declared.Node.{Node}
+use Rattle.table.specs.contracts.KindPartialEq.TheImpl as kinds
 
--- ---- the same kind, by its byte, flag and field
+-- ---- the same kind: what the derived == says of two kinds
 
-same-fields : (k j : Kind)
-    → (eqb (kind_byte k) (kind_byte j) && eqb (flag (value_num k)) (flag (value_num j)) && eqb (raw (value_num k)) (raw (value_num j))) ≡ same_kind k j
-unfolding kind_byte value_num flag same_kind same_number
-same-fields (Block (Plain m)) (Block (Plain n)) = refl
-same-fields (Block (Plain m)) (Block (Symbol n)) = refl
-same-fields (Block (Symbol m)) (Block (Plain n)) = refl
-same-fields (Block (Symbol m)) (Block (Symbol n)) = refl
-same-fields (Block v) Sequence = refl
-same-fields (Block v) Choice = refl
-same-fields (Block v) (Loop w) = refl
-same-fields Sequence (Block w) = refl
-same-fields Sequence Sequence = refl
-same-fields Sequence Choice = refl
-same-fields Sequence (Loop w) = refl
-same-fields Choice (Block w) = refl
-same-fields Choice Sequence = refl
-same-fields Choice Choice = refl
-same-fields Choice (Loop w) = refl
-same-fields (Loop v) (Block w) = refl
-same-fields (Loop v) Sequence = refl
-same-fields (Loop v) Choice = refl
-same-fields (Loop (Plain m)) (Loop (Plain n)) = refl
-same-fields (Loop (Plain m)) (Loop (Symbol n)) = refl
-same-fields (Loop (Symbol m)) (Loop (Plain n)) = refl
-same-fields (Loop (Symbol m)) (Loop (Symbol n)) = refl
-
-pub same_parts : (k j : Kind) {a b f g v w : ℕ} → a ≡ kind_byte k → b ≡ kind_byte j → f ≡ flag (value_num k) → g ≡ flag (value_num j)
-    → v ≡ raw (value_num k) → w ≡ raw (value_num j) → (eqb a b && eqb f g && eqb v w) ≡ same_kind k j
-same_parts k j ea eb ef eg ev ew = rw (ea, eb, ef, eg, ev, ew) (same-fields k j)
+pub equal-kinds : (a b : Kind) → (kinds.ghosts).eq a b ≡ same_kind a b
+unfolding same_kind same_number
+equal-kinds (Block (Plain m)) (Block (Plain n)) = refl
+equal-kinds (Block (Plain m)) (Block (Symbol n)) = refl
+equal-kinds (Block (Symbol m)) (Block (Plain n)) = refl
+equal-kinds (Block (Symbol m)) (Block (Symbol n)) = refl
+equal-kinds (Block v) Sequence = refl
+equal-kinds (Block v) Choice = refl
+equal-kinds (Block v) (Loop w) = refl
+equal-kinds Sequence (Block w) = refl
+equal-kinds Sequence Sequence = refl
+equal-kinds Sequence Choice = refl
+equal-kinds Sequence (Loop w) = refl
+equal-kinds Choice (Block w) = refl
+equal-kinds Choice Sequence = refl
+equal-kinds Choice Choice = refl
+equal-kinds Choice (Loop w) = refl
+equal-kinds (Loop v) (Block w) = refl
+equal-kinds (Loop v) Sequence = refl
+equal-kinds (Loop v) Choice = refl
+equal-kinds (Loop (Plain m)) (Loop (Plain n)) = refl
+equal-kinds (Loop (Plain m)) (Loop (Symbol n)) = refl
+equal-kinds (Loop (Symbol m)) (Loop (Plain n)) = refl
+equal-kinds (Loop (Symbol m)) (Loop (Symbol n)) = refl
 
 -- ---- an unlimited plain block, by its kind and limit: it has no child
 
