@@ -7,7 +7,6 @@ ghost use Rattle.table.specs.Checking.{IsTable};
 ghost use Rattle.table.specs.Table.{record_count};
 ghost use Rattle.evaluate.specs.Closed.{is_plain, is_unlimited, plain_kind};
 ghost use Rattle.simplify.specs.Rules.{bare, is_block, is_sum};
-ghost use Rattle.simplify.specs.Same.{same_kind};
 ghost use Rattle.subtrees.specs.Parts.{subtree};
 
 use table::{Kind, Limit, Number};
@@ -33,12 +32,6 @@ pub fn is_unlimited(limit: Limit) -> bool
     matches!(limit, Limit::Unlimited)
 }
 
-pub fn same_kind(a: Kind, b: Kind) -> bool
-    ensures { result ≡ same_kind a b }
-{
-    a == b
-}
-
 fn is_plain_block(kind: Kind) -> bool
     ensures { result ≡ (is_block kind and plain_kind kind) }
 {
@@ -55,7 +48,5 @@ pub fn is_bare(table: &[u8], p: usize) -> bool
     ensures { result ≡ bare (subtree table.now p) }
 {
     let node = table::node_at(table, p);
-    let kind = node.kind;
-    let limit = node.limit;
-    is_plain_block(kind) & is_unlimited(limit)
+    is_plain_block(node.kind) & is_unlimited(node.limit)
 }

@@ -1,4 +1,4 @@
--- Tests of the tree at a record, and the first child that passes one.
+-- Tests of the tree at a record.
 use Rattle.std.specs.Prelude.{◌≡◌, refl, Bool, true, false, ◌&&◌, ◌||◌, List, ℕ, suc, ◌+◌, ◌*◌, ◌-◌, ◌<◌, ◌≤◌, T, eqb, leb, drop, get_or}
 use Rattle.std.proofs.Math.Path.{ap, sym}
 use Rattle.std.proofs.Common.{◌∙◌, add_assoc, add-zero, arith, leb→le}
@@ -13,11 +13,9 @@ use Rattle.evaluate.specs.Closed.{is_unlimited}
 use Rattle.simplify.specs.Rules.{bare, gives, is_zero, time_of, time_of_kind}
 use Rattle.simplify.specs.Same.{same_kind}
 use Rattle.subtrees.specs.Parts.{subtree, trees_at}
-use Rattle.subtrees.specs.Facts.{Extents}
-use Rattle.subtrees.specs.Laws.Parts.{Here, Next, Row, here-at, kids-row, next_row, row-end, top-at}
+use Rattle.subtrees.specs.Laws.Parts.{Here, top-at}
 use Rattle.subtrees.specs.Laws.Records.{count_at, node_at}
 use Rattle.rules2to7.specs.Nodes.{Block, Choice, Kind, Loop, Node, Plain, Sequence, Symbol}
-use Rattle.rules2to7.specs.Children.{any, child_at, offset}
 
 -- ---- tests of the tree at a record
 
@@ -50,38 +48,3 @@ module _ (b : List ℕ) (p : ℕ) (h : Here b p) where
   gives_at k c e d ex ey ez =
       rw (ex, ey, ez, e ∙ node_at b p h, d ∙ count_at b p h, top-at b p h.here)
       (and-three (same_kind h.own.kind k) (is_unlimited h.own.limit) (leb (c + size h.kids) (suc most_children)))
-
--- ---- one child after another
-
--- the children left, from record p on: the first that passes the test among them is the first of all
-pub record Looking (b extents : List ℕ) (i : ℕ) (q : Tree → Bool) (left p : ℕ) : Type 0 where
-  pub sizes : Extents b extents
-  pub row : Row b p left
-  pub value : child_at q i (trees_at b i) ≡ cond (any q row.trees) (p + offset q row.trees) 0
-
-pub look-first : (b extents : List ℕ) (i : ℕ) (q : Tree → Bool) (left : ℕ) → Extents b extents → i < record_count b → left ≡ child_byte (drop (record_length * i) b)
-    → Looking b extents i q left (i + 1)
-unfolding child_at
-look-first b extents i q left s l e =
-    let h = here-at b s.table i l in
-    rw (e ∙ count_at b i h) (record { sizes = s; row = kids-row b s.table i h; value = ap (child_at q i) h.here })
-
-module _ (b extents : List ℕ) (i : ℕ) (q : Tree → Bool) (left p : ℕ) (w : Looking b extents i q left p) where
-  module _ (l : 0 < left) where
-    pub look-turn : Next b extents p left w.row
-    look-turn = next_row b extents w.sizes p left w.row l
-
-    look-value : let f = look-turn.others.trees in
-        child_at q i (trees_at b i) ≡ cond (q (subtree b p) || any q f) (p + cond (q (subtree b p)) 0 (records (subtree b p) + offset q f)) 0
-    unfolding any offset
-    look-value = w.value ∙ ap (λ (f : Forest). cond (any q f) (p + offset q f) 0) look-turn.are
-
-    pub look-next : {r : Bool} → r ≡ q (subtree b p) → r ≡ false → Looking b extents i q (left - 1) (p + get_or extents p 0)
-    look-next e z = record { sizes = w.sizes; row = look-turn.others; value = look-value ∙ rw (sym e ∙ z, look-turn.extent, add_assoc) refl }
-
-    pub look-found : {r : Bool} → r ≡ q (subtree b p) → r ≡ true → p ≡ child_at q i (trees_at b i)
-    look-found e z = sym (look-value ∙ rw (sym e ∙ z, add-zero) refl)
-
-  pub look_none : left ≤ 0 → 0 ≡ child_at q i (trees_at b i)
-  unfolding any
-  look_none l = sym (w.value ∙ rw (row-end w.row l) refl)
