@@ -28,7 +28,7 @@ impl Facts {
     // What stands in a buffer of facts before a survey.
     pub const NONE: Facts = Facts {
         records: 0,
-        symbol_free: true,
+        symbol_free: false,
         named: 0,
         reach: 0,
         reach_below: 0,
