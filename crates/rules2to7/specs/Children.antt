@@ -1,10 +1,10 @@
 -- What rules make of a node's children: the first that passes a test gives way to its own, or the only one takes a limit.
-use Rattle.std.specs.Prelude.{◌≡◌, Bool, cond, false, ◌||◌, List, ◌++◌, ℕ, ◌+◌, ◌-◌}
+use Rattle.std.specs.Prelude.{◌≡◌, Bool, cond, List, ◌++◌, ℕ, ◌+◌, ◌-◌}
 use Rattle.std.proofs.Math.Option.{Option, none, some}
 use Rattle.table.specs.Table.{record_count}
-use Rattle.table.specs.Trees.{Forest, Tree, nil, node, ◌▸◌, ◌⧺◌, records}
+use Rattle.table.specs.Trees.{Forest, Tree, nil, ◌▸◌, ◌⧺◌}
 use Rattle.evaluate.specs.Closed.{is_unlimited}
-use Rattle.simplify.specs.Rules.{bare, children, gives, is_zero, limit_of, relimit}
+use Rattle.simplify.specs.Rules.{children, limit_of, relimit}
 use Rattle.rules2to7.specs.Nodes.{Limit}
 use Rattle.writing.specs.Records.{front, slice}
 

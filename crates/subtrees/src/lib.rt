@@ -89,8 +89,16 @@ fn next_child(found: Below, body: bool, child: Facts) -> Below
     requires { found.records + child.records ≤ most_records }
     ensures { result ≡ child_in body found child }
 {
-    let named = if body { evaluate::outward_of(child.named) } else { child.named };
-    let reach = if body { outer_of(child.reach) } else { child.reach };
+    let named = if body {
+        evaluate::outward_of(child.named)
+    } else {
+        child.named
+    };
+    let reach = if body {
+        outer_of(child.reach)
+    } else {
+        child.reach
+    };
     Below {
         records: found.records + child.records,
         symbol_free: found.symbol_free & child.symbol_free,

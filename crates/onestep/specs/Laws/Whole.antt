@@ -1,5 +1,5 @@
 -- Rule 1: the whole table as one block; and a step, by rule 1 or by the search.
-use Rattle.std.specs.Prelude.{◌≡◌, Bool, not, true, List, [], ◌++◌, ℕ, ◌+◌, ◌*◌, ◌<◌, ◌≤◌, eqb, drop, get_or, length, Some, None}
+use Rattle.std.specs.Prelude.{◌≡◌, Bool, not, true, List, [], ◌++◌, ℕ, ◌+◌, ◌*◌, ◌<◌, ◌≤◌, drop, get_or, length, Some, None}
 use Rattle.std.specs.declared.option.Option.{Option as Maybe}
 use Rattle.searching.specs.declared.Spot.{Spot}
 use Rattle.std.proofs.Math.Path.{refl, ap, sym}
@@ -7,7 +7,6 @@ use Rattle.std.proofs.Common.{◌∙◌, append-nil, drop_of_length-le}
 use Rattle.std.proofs.Math.Bool.{false}
 use Rattle.std.proofs.Math.Option.{Option, none, some}
 use native.Mathlib.Omega.{arith}
-use borrow.Author.Tests.{eq-eqb, ne_eqb}
 use Rattle.booleans.specs.Tests.{◌and◌}
 use Rattle.table.specs.Numbers.{most_depth, record_length}
 use Rattle.table.specs.Table.{decode, encode, encodes, record_bytes, record_count}

@@ -1,11 +1,11 @@
 -- What the rules share: the trees at a table's records, and what is written of them.
-use Rattle.std.specs.Prelude.{◌≡◌, refl, Bool, cond, true, false, not, List, ℕ, zero, suc, ◌+◌, ◌*◌, ◌-◌, ◌<◌, eqb, leb, drop, length, Some, None}
+use Rattle.std.specs.Prelude.{◌≡◌, refl, Bool, cond, true, false, List, ℕ, zero, suc, ◌+◌, ◌*◌, ◌-◌, ◌<◌, eqb, leb, drop, length, Some, None}
 use Rattle.std.specs.declared.option.Option.{Option as Maybe}
 use Rattle.std.proofs.lemmas.Option.{none-some, same_Some}
 use Rattle.std.proofs.Math.Path.{ap}
 use Rattle.std.proofs.Common.{ap₂, sym, ◌∙◌, subst, append-nil, arith, ne_eqb}
 use Rattle.std.proofs.Math.Option.{Option, none, some}
-use Rattle.std.proofs.lemmas.Bool.{lt-leb, not-false, not-true}
+use Rattle.std.proofs.lemmas.Bool.{lt-leb}
 use Rattle.table.specs.Numbers.{record_length}
 use Rattle.table.specs.Table.{encode, encodes, first_node, record_count}
 use Rattle.table.specs.Trees.{Forest, Tree, nil, node, ◌▸◌, ◌⧺◌, records, records_in, size}

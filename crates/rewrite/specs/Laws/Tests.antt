@@ -1,12 +1,12 @@
 -- Tests of the node at a record.
-use Rattle.std.specs.Prelude.{◌≡◌, refl, Bool, false, ◌&&◌, List, ℕ, suc, ◌*◌, T, eqb, drop}
+use Rattle.std.specs.Prelude.{◌≡◌, refl, Bool, false, ◌&&◌, List, ℕ, suc, ◌*◌, T, drop}
 use Rattle.std.proofs.Common.{◌∙◌, subst}
 use Rattle.std.proofs.Math.Dec.{eqb-suc-zero}
 use Rattle.booleans.specs.Tests.{◌and◌}
 use Rattle.booleans.specs.Laws.{and_is, both}
 use Rattle.table.specs.Numbers.{record_length}
 use Rattle.table.specs.Questions.{arity, listed}
-use Rattle.table.specs.Table.{first_node, flag, kind_byte, raw, value_num}
+use Rattle.table.specs.Table.{first_node}
 use Rattle.table.specs.Trees.{Forest, nil, node, ◌▸◌, size}
 use Rattle.evaluate.specs.Closed.{is_unlimited, plain_kind}
 use Rattle.simplify.specs.Rules.{bare, is_block}

@@ -1,5 +1,5 @@
 -- The first unlimited plain block of time 0 is dissolved, and it has no children; where there is none, the rule does not fit.
-use Rattle.std.proofs.Common.{◌≡◌, Some, arith, rules}
+use Rattle.std.proofs.Common.{arith, rules}
 use Rattle.simplify.specs.Rules.{is_zero, rule5}
 use Rattle.rewrite.specs.Laws.Records.{no-sum}
 use Rattle.rules2to7.specs.Laws.Dissolving.{few-zero, none-zero, rule5-no-sum, zero-child, zero-gone}

@@ -1,12 +1,11 @@
 -- A node of one child, in trees and in records: rule 3.
-use Rattle.std.specs.Prelude.{◌≡◌, Bool, false, cond, not, List, ◌++◌, ℕ, ◌+◌, ◌*◌, ◌-◌, ◌<◌, drop, Some, None}
+use Rattle.std.specs.Prelude.{◌≡◌, Bool, false, cond, List, ◌++◌, ℕ, ◌+◌, ◌*◌, ◌-◌, ◌<◌, drop, Some, None}
 use Rattle.std.specs.declared.option.Option.{Option as Maybe}
 use Rattle.std.proofs.Math.Path.{refl, ap, ap₂}
 use Rattle.std.proofs.Common.{sym, ◌∙◌}
 use Rattle.std.proofs.Math.Bool.{true}
 use Rattle.std.proofs.Math.Option.{Option, none, some}
 use native.Mathlib.Omega.{arith}
-use borrow.Author.Tests.{not-false, not-true}
 use Rattle.table.specs.Numbers.{record_length}
 use Rattle.table.specs.Table.{child_byte, first_node, record_bytes, record_count}
 use Rattle.table.specs.Trees.{Forest, Tree, nil, node, ◌▸◌, ◌⧺◌, records, records_in, size}

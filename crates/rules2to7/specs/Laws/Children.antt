@@ -1,18 +1,17 @@
 -- Tests of the tree at a record.
-use Rattle.std.specs.Prelude.{◌≡◌, refl, Bool, true, false, ◌&&◌, ◌||◌, List, ℕ, suc, ◌+◌, ◌*◌, ◌-◌, ◌<◌, ◌≤◌, T, eqb, leb, drop, get_or}
+use Rattle.std.specs.Prelude.{◌≡◌, refl, Bool, ◌&&◌, List, ℕ, suc, ◌+◌, ◌*◌, ◌≤◌, T, eqb, leb, drop}
 use Rattle.std.proofs.Math.Path.{ap, sym}
-use Rattle.std.proofs.Common.{◌∙◌, add_assoc, add-zero, arith, leb→le}
-use Rattle.std.proofs.Math.Bool.{cond}
+use Rattle.std.proofs.Common.{◌∙◌, arith, leb→le}
 use Rattle.booleans.specs.Tests.{◌and◌}
 use Rattle.booleans.specs.Laws.{and_is, both}
 use Rattle.table.specs.Numbers.{most_children, most_time, record_length}
 use Rattle.table.specs.Questions.{kind_in_range, listed, time_in_range}
-use Rattle.table.specs.Table.{child_byte, first_node, record_count}
-use Rattle.table.specs.Trees.{Forest, Tree, records, size}
+use Rattle.table.specs.Table.{child_byte, first_node}
+use Rattle.table.specs.Trees.{Tree, size}
 use Rattle.evaluate.specs.Closed.{is_unlimited}
 use Rattle.simplify.specs.Rules.{bare, gives, is_zero, time_of, time_of_kind}
 use Rattle.simplify.specs.Same.{same_kind}
-use Rattle.subtrees.specs.Parts.{subtree, trees_at}
+use Rattle.subtrees.specs.Parts.{subtree}
 use Rattle.subtrees.specs.Laws.Parts.{Here, top-at}
 use Rattle.subtrees.specs.Laws.Records.{count_at, node_at}
 use Rattle.rules2to7.specs.Nodes.{Block, Choice, Kind, Loop, Node, Plain, Sequence, Symbol}

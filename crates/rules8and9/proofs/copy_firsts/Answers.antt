@@ -1,4 +1,4 @@
-use Rattle.std.proofs.Common.{◌-◌, ◌<◌, arith, rules}
+use Rattle.std.proofs.Common.{◌-◌, arith, rules}
 use Rattle.std.proofs.Math.Nat.{sub-zero}
 use Rattle.table.proofs.Laws.Tables.{few-records}
 use Rattle.rules8and9.specs.Laws.Sharing.{TurnAt, copying-all, copying-next, copying-none, copying-room, copying-turn}

@@ -1,5 +1,5 @@
 -- Each test is one of the definition's: a choice of at least two (`ChoiceAt`), a pair first (`PairAt`), a closed second child, the same in all.
-use Rattle.std.proofs.Common.{ap, not, sym, ◌∙◌, ◌+◌, arith}
+use Rattle.std.proofs.Common.{ap, not, sym, ◌∙◌, arith}
 use Rattle.table.proofs.Laws.Tables.{few-records}
 use Rattle.rewrite.specs.Laws.Tests.{equal-kinds}
 use Rattle.rules8and9.specs.Laws.Sharing.{ChoiceAt, choice-at, first-no-pair, no-choice, other-read, pair-at, second-open, second-other, second-shared}

@@ -1,12 +1,11 @@
 -- Two subtrees compared: by the words of each record before its address.
-use Rattle.std.specs.Prelude.{◌≡◌, Bool, true, false, not, ℕ, zero, suc, ◌+◌, ◌*◌, ◌-◌, ◌<◌, ◌≤◌, drop, get_or, length, take}
+use Rattle.std.specs.Prelude.{◌≡◌, Bool, true, false, ℕ, zero, suc, ◌+◌, ◌*◌, ◌-◌, ◌<◌, ◌≤◌, drop, length, take}
 use Rattle.std.proofs.Math.Path.{refl, sym, subst}
 use Rattle.std.proofs.Common.{ap, ap₂, ◌∙◌, add-zero, suc-add, zero-add, add_assoc, eqb→eq, length-append, length-drop, length-take, drop_at, length-take-le, take_at}
 use mathlib.Core.List.{List, [], ◌∷◌, ◌++◌, append_assoc, append-nil}
 use Rattle.std.proofs.Math.Nat.{sub-zero}
 use native.Mathlib.Omega.{arith}
 use Rattle.std.proofs.Math.Dec.{T, eqb_refl}
-use Rattle.std.proofs.lemmas.Bool.{not-false, not-true}
 use Rattle.booleans.specs.Laws.{T-is, both, join-and, same_test}
 use Rattle.booleans.specs.Tests.{◌and◌}
 use Rattle.table.specs.Bytes.{to_bytes}

@@ -6,7 +6,7 @@ use Rattle.std.proofs.Common.{◌∙◌, append_assoc, append-nil, arith, leb→
 use Rattle.std.proofs.Math.Option.{none, some}
 use Prim.Native.Nat.{ℕ, suc, ◌+◌, ◌*◌, ◌-◌, ◌<◌, ◌≤◌}
 use Rattle.std.proofs.Math.Dec.{T}
-use borrow.Author.Tests.{eq-eqb, le-leb, lt-leb, ltb-false, ltb-true, ne_eqb, not-false, not-true}
+use borrow.Author.Tests.{eq-eqb, le-leb, lt-leb, ltb-false, ltb-true, ne_eqb}
 use Rattle.booleans.specs.Laws.{T-is, and-false, and_is, both, is_T, join-and}
 use Rattle.booleans.specs.Tests.{◌and◌}
 use Rattle.evaluate.specs.Closed.{closed, is_unlimited}

@@ -27,7 +27,6 @@ use Rattle.subtrees.specs.Laws.Records.{node_at}
 use Rattle.writing.specs.Records.{front}
 use Rattle.rewrite.specs.Wrote.{Wrote, rule_at}
 use Rattle.rewrite.specs.Laws.Records.{none-wrote}
-use Rattle.searching.specs.declared.Spot.{Spot}
 use Rattle.table.specs.declared.Number.{Number}
 use Rattle.table.specs.declared.Limit.{Limit}
 use Rattle.table.specs.declared.Kind.{Kind}

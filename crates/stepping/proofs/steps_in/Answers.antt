@@ -1,4 +1,4 @@
-use Rattle.std.proofs.Common.{◌≡◌, ◌≤◌, refl, length, take, arith, rules, length-take-le}
+use Rattle.std.proofs.Common.{◌≤◌, refl, arith, rules, length-take-le}
 use Rattle.stepping.specs.Laws.Budget.{stage-fewer, stage-finished, stage-next, stage-short, stage-used, stage_made, stage_start}
 use Rattle.stepping.proofs.steps_in.Goals.{At-loop-taken}
 use Rattle.stepping.proofs.steps_in.Goals as goal

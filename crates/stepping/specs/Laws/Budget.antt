@@ -1,10 +1,9 @@
 -- Steps up to an allowance, one after the other, each an edit of the table's bytes.
-use Rattle.std.specs.Prelude.{◌≡◌, refl, Bool, true, false, not, ◌&&◌, List, ◌++◌, ℕ, ◌+◌, ◌*◌, ◌-◌, ◌<◌, ◌≤◌, suc, zero, T, eqb, ltb, drop, length, take, is_some, Some, None}
+use Rattle.std.specs.Prelude.{◌≡◌, refl, Bool, true, false, not, List, ◌++◌, ℕ, ◌+◌, ◌*◌, ◌-◌, ◌<◌, ◌≤◌, suc, zero, T, drop, length, take, is_some, Some, None}
 use Rattle.std.specs.declared.option.Option.{Option as Maybe}
-use Rattle.std.proofs.Common.{ap, sym, subst, ◌∙◌, append-nil, add-zero, zero-add, arith, length-take-le, eqb-true, ltb-false, ltb-true}
+use Rattle.std.proofs.Common.{ap, sym, subst, ◌∙◌, append-nil, add-zero, zero-add, arith, length-take-le}
 use Rattle.std.proofs.Math.Option.{Option, none, some}
 use Rattle.std.proofs.Math.Nat.{sub-zero}
-use Rattle.std.proofs.lemmas.Bool.{eqb-false}
 use Rattle.table.specs.Checking.{IsTable}
 use Rattle.table.specs.Numbers.{record_length}
 use Rattle.table.specs.Questions.{Accepted}

@@ -1,8 +1,6 @@
-use Rattle.std.proofs.Common.{◌≡◌, ◌+◌, ◌-◌, false, arith, rules, subst}
+use Rattle.std.proofs.Common.{arith, rules}
 use Rattle.std.proofs.Math.Nat.{sub-zero}
-use Rattle.subtrees.specs.Parts.{trees_at}
-use Rattle.subtrees.specs.Facts.{below_at, extent_at}
-use Rattle.subtrees.specs.Laws.Survey.{Walk, walk_end, walk-few, walk-next, walk-past, walk_start}
+use Rattle.subtrees.specs.Laws.Survey.{walk_end, walk-few, walk-next, walk-past, walk_start}
 use Rattle.subtrees.proofs.below_of.Goals as goal
 
 pub loop-init : goal.loop-init

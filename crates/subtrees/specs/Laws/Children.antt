@@ -1,9 +1,9 @@
 -- The walk that finds the first child that passes a test.
 use Rattle.std.specs.Prelude.{◌≡◌, Bool, cond, false, true, ◌||◌, List, ℕ, ◌+◌, ◌*◌, ◌-◌, ◌<◌, ◌≤◌, drop, Some, None}
-use Rattle.std.proofs.Common.{refl, ap, sym, ◌∙◌, add_assoc, add-zero, arith}
+use Rattle.std.proofs.Common.{refl, ap, sym, ◌∙◌, add_assoc, add-zero}
 use Rattle.table.specs.Numbers.{record_length}
 use Rattle.table.specs.Table.{child_byte, record_count}
-use Rattle.table.specs.Trees.{Forest, Tree, records}
+use Rattle.table.specs.Trees.{Tree, records}
 use Rattle.subtrees.specs.Parts.{subtree, trees_at}
 use Rattle.subtrees.specs.Facts.{Surveyed, extent_at}
 use Rattle.subtrees.specs.Children.{Tells, any, child_at, offset}

@@ -1,17 +1,17 @@
 -- The pass over a table that finds the facts of every record, from the last to the first.
-use Rattle.std.specs.Prelude.{◌≡◌, Bool, cond, true, ◌&&◌, List, ℕ, ◌+◌, ◌*◌, ◌-◌, ◌<◌, ◌≤◌, max, zero, suc, T, eqb, ltb, drop, get_or, set}
+use Rattle.std.specs.Prelude.{◌≡◌, Bool, true, ◌&&◌, List, ℕ, ◌+◌, ◌*◌, ◌-◌, ◌<◌, ◌≤◌, max, zero, suc, T, eqb, ltb, drop, set}
 use Rattle.std.proofs.Math.Path.{refl, ap, sym}
 use Rattle.std.proofs.Common.{subst, ◌∙◌, add-one, ltb-false, ltb-true, ne_eqb}
 use Rattle.std.proofs.Math.Bool.{false}
 use native.Mathlib.Omega.{arith}
-use Rattle.std.proofs.Math.ListN.{length, length-set}
+use Rattle.std.proofs.Math.ListN.{length}
 use Rattle.std.proofs.Math.Seq.{get_or-set_other, get_or-set_same}
 use Rattle.booleans.specs.Laws.{and_is, both}
 use Rattle.booleans.specs.Tests.{◌and◌}
 use Rattle.table.specs.Numbers.{most_records, record_length}
 use Rattle.table.specs.Table.{child_byte, first_node, flag, flagless, limit_num, loop_byte, record_bytes, record_count, value_num, most_flags}
 use Rattle.table.specs.Questions.{limit_in_range, listed}
-use Rattle.table.specs.Trees.{Forest, Tree, node, ◌▸◌, records, records_in}
+use Rattle.table.specs.Trees.{Forest, node, ◌▸◌, records, records_in}
 use Rattle.evaluate.specs.Closed.{is_plain, plain_kind, plain_limit, symbol_free, symbol_free_in, plain_most}
 use Rattle.evaluate.specs.Evaluate.{inner, name, name_in}
 use Rattle.subtrees.specs.Nodes.{AtMost, Block, Choice, Kind, Limit, Loop, Node, Number, Plain, Sequence, Symbol, Unlimited, Most}

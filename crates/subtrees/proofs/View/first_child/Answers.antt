@@ -1,8 +1,7 @@
-use Rattle.std.proofs.Common.{◌≡◌, ◌+◌, ◌-◌, arith, rules, subst}
+use Rattle.std.proofs.Common.{arith, rules}
 use Rattle.std.proofs.Math.Nat.{sub-zero}
 use Rattle.table.proofs.Laws.Tables.{few-records}
-use Rattle.subtrees.specs.Facts.{extent_at}
-use Rattle.subtrees.specs.Laws.Children.{Looking, look-first, look-found, look-next, look-turn, look_none}
+use Rattle.subtrees.specs.Laws.Children.{look-first, look-found, look-next, look-turn, look_none}
 use Rattle.subtrees.proofs.View.first_child.Goals as goal
 
 pub loop-init : goal.loop-init
