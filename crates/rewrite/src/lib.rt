@@ -1,13 +1,14 @@
 // What the rules of document 01's simplification share: tests of a node. What a rule writes of a table is defined in specs/Wrote.antt.
 #![tactic(auto)]
 
-ghost use Rattle.std.specs.Prelude.{◌≡◌, ◌<◌};
-ghost use Rattle.booleans.specs.Tests.{◌and◌};
+ghost use Rattle.std.specs.Prelude.{◌≡◌, ◌<◌, ◌≤◌, IfSome};
+ghost use Rattle.table.specs.Numbers.{most_time};
 ghost use Rattle.table.specs.Checking.{IsTable};
 ghost use Rattle.table.specs.Table.{record_count};
-ghost use Rattle.evaluate.specs.Closed.{is_plain, is_unlimited, plain_kind};
+ghost use Rattle.evaluate.specs.Closed.{is_unlimited};
 ghost use Rattle.simplify.specs.Rules.{bare, is_block, is_sum};
 ghost use Rattle.subtrees.specs.Parts.{subtree};
+ghost use Rattle.rewrite.specs.Bare.{bare_time, plain_time};
 
 use table::{Kind, Limit, Number};
 
@@ -32,21 +33,38 @@ pub fn is_unlimited(limit: Limit) -> bool
     matches!(limit, Limit::Unlimited)
 }
 
-fn is_plain_block(kind: Kind) -> bool
-    ensures { result ≡ (is_block kind and plain_kind kind) }
+#[tactic(auto, unfolding(crate::specs::Bare::plain_time))]
+fn plain_time(kind: Kind) -> Option<u64>
+    ensures { result ≡ plain_time kind }
 {
-    match kind {
-        Kind::Block(time) => matches!(time, Number::Plain(_)),
-        _ => false,
+    let Kind::Block(time) = kind else {
+        return None;
+    };
+    match time {
+        Number::Plain(n) => Some(n),
+        Number::Symbol(_) => None,
     }
 }
 
-// Is the tree at record p an unlimited plain block?
+// The time of the tree at record p, where that is an unlimited plain block.
+pub fn bare_time(table: &[u8], p: usize) -> Option<u64>
+    requires fact_1 { IsTable table.now }
+    requires fact_2 { p < record_count table.now }
+    ensures value { result ≡ bare_time (subtree table.now p) }
+    ensures low { IfSome result (λ x. x ≤ most_time) }
+{
+    let node = table::node_at(table, p);
+    if !is_unlimited(node.limit) {
+        return None;
+    }
+    plain_time(node.kind)
+}
+
+// Is it one?
 pub fn is_bare(table: &[u8], p: usize) -> bool
     requires fact_1 { IsTable table.now }
     requires fact_2 { p < record_count table.now }
     ensures { result ≡ bare (subtree table.now p) }
 {
-    let node = table::node_at(table, p);
-    is_plain_block(node.kind) & is_unlimited(node.limit)
+    bare_time(table, p).is_some()
 }

@@ -9,7 +9,7 @@ ghost use Rattle.table.specs.Numbers.{most_children, most_time, record_length};
 ghost use Rattle.table.specs.Table.{encodes, record_bytes, record_count};
 ghost use Rattle.table.specs.Trees.{records_in};
 ghost use Rattle.writing.specs.Records.{Appended};
-ghost use Rattle.simplify.specs.Rules.{gives, is_zero, rule2, rule3, rule4, rule5, rule6, rule7, time_of, time_of_kind};
+ghost use Rattle.simplify.specs.Rules.{gives, is_zero, rule2, rule3, rule4, rule5, rule6, rule7};
 ghost use Rattle.subtrees.specs.Parts.{Simplifiable, subtree, trees_at};
 ghost use Rattle.rewrite.specs.Wrote.{Wrote, rule_at};
 ghost use Rattle.rules2to7.specs.Children.{Left, relimited};
@@ -44,43 +44,16 @@ fn gives_way(table: &[u8], p: usize, kind: Kind, count: usize) -> bool
     (own.kind == kind) & rewrite::is_unlimited(own.limit) & has_room(count, more)
 }
 
-#[tactic(auto, unfolding(simplify::specs::Rules::time_of_kind))]
-fn plain_time(time: Number) -> u64
-    ensures { result ≡ time_of_kind (Kind.Block time) }
-{
-    match time {
-        Number::Plain(n) => n,
-        Number::Symbol(_) => 0,
-    }
-}
-
-// A plain block's time.
-#[tactic(auto, unfolding(simplify::specs::Rules::time_of_kind))]
-fn time_of(kind: Kind) -> u64
-    ensures { result ≡ time_of_kind kind }
-{
-    match kind {
-        Kind::Block(time) => plain_time(time),
-        _ => 0,
-    }
-}
-
-// The time of the tree at record p, where that is a plain block.
-fn time_at(table: &[u8], p: usize) -> u64
-    requires fact_1 { IsTable table.now }
-    requires fact_2 { p < record_count table.now }
-    ensures { (result ≡ time_of (subtree table.now p)) × (result ≤ most_time) }
-{
-    time_of(table::node_at(table, p).kind)
-}
-
 // Is the tree at record p an unlimited plain block of time 0?
 fn is_zero(table: &[u8], p: usize) -> bool
     requires fact_1 { IsTable table.now }
     requires fact_2 { p < record_count table.now }
     ensures { result ≡ is_zero (subtree table.now p) }
 {
-    rewrite::is_bare(table, p) & (time_at(table, p) == 0)
+    match rewrite::bare_time(table, p) {
+        Some(time) => time == 0,
+        None => false,
+    }
 }
 
 // What the table becomes from record i on where the child at record p gives way to its own children: the node's record, with another number of
@@ -255,10 +228,9 @@ fn with_child(found: Bares, table: &[u8], p: usize) -> Bares
     requires fact_3 { (found.count < p) × (found.total ≤ most_time * found.count) }
     ensures { (result ≡ with_child found (subtree table.now p)) × (result.count ≤ p) × (result.total ≤ most_time * result.count) }
 {
-    if !rewrite::is_bare(table, p) {
+    let Some(time) = rewrite::bare_time(table, p) else {
         return found;
-    }
-    let time = time_at(table, p);
+    };
     Bares {
         count: found.count + 1,
         total: found.total + time,

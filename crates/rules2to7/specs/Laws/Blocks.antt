@@ -27,6 +27,7 @@ use Rattle.subtrees.specs.Laws.Records.{count_at, node_at}
 use Rattle.rules2to7.specs.Blocks.{Parted, Standing, bares_at, kept_records, merged, no_bares, spanning, two_bares, with_child}
 use Rattle.rules2to7.specs.Nodes.{Block, Choice, Kind, Node, Plain, Sequence, Unlimited}
 use Rattle.writing.specs.Records.{Appended, front, node_of, slice}
+use Rattle.rewrite.specs.Bare.{bare_time}
 use Rattle.rewrite.specs.Wrote.{Wrote, rule_at}
 use Rattle.rewrite.specs.Laws.Records.{none-no, some-yes, subtree-bytes, wrote_none, ⧺-assoc}
 use Rattle.rules2to7.specs.declared.Bares.{Bares}
@@ -74,14 +75,14 @@ none_left b p e s l = go s.trees s.long
 
 -- ---- what a walk finds
 
-pub child-not : (s : Bares) (t : Tree) (r : Bool) → r ≡ bare t → r ≡ false → s ≡ with_child s t
-unfolding with_child
-child-not s t r e h = rw (← e, h) refl
+pub child-not : (s : Bares) (t : Tree) → None ≡ bare_time t → s ≡ with_child s t
+unfolding with_child bare_time
+child-not s t e = rw (none-no (bare t) (time_of t) e) refl
 
-pub child-bare : (s : Bares) (t : Tree) (r : Bool) (x l : ℕ) → r ≡ bare t → r ≡ true → x ≡ time_of t → l ≡ max s.largest x
+pub child-bare : (s : Bares) (t : Tree) (x l : ℕ) → Some x ≡ bare_time t → l ≡ max s.largest x
     → record { count = s.count + 1; total = s.total + x; largest = l } ≡ with_child s t
-unfolding with_child
-child-bare s t r x l e h y m = rw (m, y, ← e, h) refl
+unfolding with_child bare_time
+child-bare s t x l e m = let (b, d) = some-yes (bare t) (time_of t) e in rw (m, b, d) refl
 
 pub kept-none : (t : Tree) (r : Bool) → r ≡ bare t → r ≡ true → 0 ≡ kept_records t
 unfolding kept_records
