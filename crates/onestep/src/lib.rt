@@ -46,7 +46,7 @@ fn rule1_at(view: View, out: &mut [u8]) -> Option<usize>
 }
 
 // A step: rule 1 for the whole table, or the earliest record where a rule fits and there the lowest. `at` is the record from which on the last step changed
-// the table, 0 where nothing is known.
+// the table, 0 before the first.
 pub fn step_onto(view: View, at: usize, out: &mut [u8]) -> Option<Spot>
     requires simplifiable { Simplifiable view.table.now }
     requires settled { Settled view.table.now view.facts.now at }

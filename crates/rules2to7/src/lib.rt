@@ -191,7 +191,8 @@ pub fn rule4_at(view: View, i: usize, out: &mut [u8]) -> Option<usize>
 
 // ---- Rule 5
 
-// 5. In a sequence or choice of at least two children, the first unlimited plain block of time 0 goes.
+// 5. In a sequence or choice of at least two children, the first unlimited plain block of time 0 goes. As in rule 2 a child is found and dissolved, by the same
+// two functions: the tests before and the number of children that is left are others.
 pub fn rule5_at(view: View, i: usize, out: &mut [u8]) -> Option<usize>
     requires inside { i < record_count view.table.now }
     requires room { length view.table.now ≤ length out.old }
@@ -250,7 +251,7 @@ fn bares_in(view: View, i: usize) -> Bares
         total: 0,
         largest: 0,
     };
-    // no `for`: the children's extents are the steps
+    // no `for`: the children's extents are the steps, and no closure: it would change what was found
     while p < end {
         found = with_child(found, view.table, p);
         p += view.facts[p].records;
@@ -292,7 +293,7 @@ fn copy_others(view: View, start: usize, end: usize, out: &mut [u8], at: usize) 
 {
     let mut p = start;
     let mut to = at;
-    // no `for`: the trees' extents are the steps
+    // no `for`: the trees' extents are the steps, and no closure: what it wrote would not be known after it
     while p < end {
         let n = kept(view, p);
         to = writing::copy_records(view.table, p, n, out, to);

@@ -132,6 +132,7 @@ fn copy_firsts(view: View, p: usize, n: usize, out: &mut [u8], at: usize) -> usi
 {
     let mut q = p;
     let mut to = at;
+    // no closure: what it wrote would not be known after it
     for _ in 0..n {
         let first = q + 1;
         to = writing::copy_records(view.table, first, view.facts[first].records, out, to);

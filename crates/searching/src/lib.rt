@@ -62,8 +62,8 @@ fn later_rule_at(view: View, i: usize, out: &mut [u8]) -> Option<usize>
     rules8and9::rule9_at(view, i, out)
 }
 
-// The earliest record where one of rules 2 to 9 fits. `at` is the record from which on the last step changed the table, 0 where nothing is known: a subtree
-// that ends there or before is passed over.
+// The earliest record where one of rules 2 to 9 fits. `at` is the record from which on the last step changed the table: a subtree that ends there or before is
+// passed over, so none is before the first step, where it is 0.
 pub fn find(view: View, at: usize, out: &mut [u8]) -> Option<Spot>
     requires room { length view.table.now ≤ length out.old }
     requires simplifiable { Simplifiable view.table.now }

@@ -1,5 +1,5 @@
 -- Facts of a subtree that rules ask for, and how the program keeps those of every record.
-use Rattle.std.specs.Prelude.{◌≡◌, Bool, cond, false, true, ◌&&◌, List, ℕ, ◌+◌, ◌-◌, ◌<◌, ◌≤◌, max, min, leb, get_or, length}
+use Rattle.std.specs.Prelude.{◌≡◌, Bool, cond, false, true, ◌&&◌, List, ℕ, ◌+◌, ◌-◌, ◌<◌, ◌≤◌, max, min, eqb, leb, get_or, length}
 use Rattle.table.specs.Numbers.{whole_run}
 use Rattle.table.specs.Questions.{paired_block}
 use Rattle.table.specs.Table.{loop_byte, record_count}
@@ -70,6 +70,10 @@ child_in body s c = record {
 }
 
 -- ---- the facts kept of every record
+
+-- the loop that a limit names, 0 for none, and the one that the children name
+abbrev pub limited_name : (name named : ℕ) → ℕ
+limited_name l k = cond (eqb l 0) k (min l k)
 
 -- a tree's own: how many records it has, whether it has no symbol, the loop that its list names, the outermost that a limit names, and that without its
 -- own limit

@@ -7,14 +7,14 @@ ghost use Rattle.table.specs.Table.{record_count};
 ghost use Rattle.table.specs.Checking.{IsTable};
 ghost use Rattle.table.specs.Trees.{Tree};
 ghost use Rattle.subtrees.specs.Parts.{trees_at};
-ghost use Rattle.subtrees.specs.Facts.{Known, Outdated, OwnBefore, Surveyed, Unchanged, below_at, child_in, is_loop, outer, paired_reach};
-ghost use Rattle.subtrees.specs.Marks.{limited_name};
+ghost use Rattle.subtrees.specs.Facts.{Known, Outdated, OwnBefore, Surveyed, Unchanged, below_at, child_in, is_loop, limited_name, outer, paired_reach};
 ghost use Rattle.subtrees.specs.Children.{Tells, child_at};
 
 use table::{Kind, RECORD_LENGTH, WHOLE_RUN};
 
 // What is kept of a subtree: how many records it has, whether no symbol stands in it, the loop that its list names, the outermost loop that a limit in it
-// names, and the same without its top's own limit and time.
+// names, and the same without its top's own limit and time. Loops are numbered as in a table's byte 3, 0 for none, 1 and on outward, 255 for the whole run: so
+// the outermost is the largest number, with no case of its own for none.
 #[derive(Clone, Copy)]
 pub struct Facts {
     pub records: usize,
@@ -118,6 +118,7 @@ fn below_of(table: &[u8], i: usize, facts: &[Facts]) -> Below
     let mut found = Below::NONE;
     let mut body = is_loop(table::node_at(table, i).kind);
     let mut p = i + 1;
+    // no view: the facts of this record and of earlier ones are still to be found
     for _ in 0..table::children_at(table, i) {
         let child = facts[p];
         found = next_child(found, body, child);

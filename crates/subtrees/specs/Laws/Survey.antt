@@ -15,10 +15,9 @@ use Rattle.table.specs.Trees.{Forest, node, ◌▸◌, records, records_in}
 use Rattle.evaluate.specs.Closed.{is_plain, plain_kind, plain_limit, symbol_free, symbol_free_in, plain_most}
 use Rattle.evaluate.specs.Evaluate.{inner, name, name_in}
 use Rattle.subtrees.specs.Nodes.{AtMost, Block, Choice, Kind, Limit, Loop, Node, Number, Plain, Sequence, Symbol, Unlimited, Most}
-use Rattle.subtrees.specs.Facts.{Known, Outdated, Own, OwnBefore, Surveyed, Unchanged, below_at, below_of, child_in, extent_at, fact_at, facts_of, is_loop, no_child, paired_reach, reach, reach_below, reach_in}
+use Rattle.subtrees.specs.Facts.{Known, Outdated, Own, OwnBefore, Surveyed, Unchanged, below_at, below_of, child_in, extent_at, fact_at, facts_of, is_loop, limited_name, no_child, paired_reach, reach, reach_below, reach_in}
 use Rattle.subtrees.specs.declared.Facts.{Facts}
 use Rattle.std.specs.List.{CopiedTo, SameBelow}
-use Rattle.subtrees.specs.Marks.{limited_name}
 use Rattle.table.specs.Checking.{IsTable}
 use Rattle.subtrees.specs.Parts.{subtree, trees_at}
 use Rattle.subtrees.specs.declared.Below.{Below}
