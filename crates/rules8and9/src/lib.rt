@@ -15,7 +15,6 @@ ghost use Rattle.rules8and9.specs.Sharing.{PairsAt, RoomFor, RowAppended, fields
 
 use subtrees::View;
 use table::{FIELDS_LENGTH, Kind, Limit, Node, Number, RECORD_LENGTH, WHOLE_RUN};
-use words::Comparison;
 
 // ---- Rule 8
 
@@ -30,10 +29,7 @@ fn same_fields(table: &[u8], a: usize, b: usize) -> bool
         &table[one..one + FIELDS_LENGTH],
         &table[other..other + FIELDS_LENGTH],
     );
-    match compared {
-        Comparison::Differ(_) => false,
-        Comparison::Equal => true,
-    }
+    compared.is_none()
 }
 
 // Are the n records from record a on the same, but for their addresses, as those from record b on?

@@ -1,5 +1,5 @@
 -- Two subtrees compared: by the words of each record before its address.
-use Rattle.std.specs.Prelude.{◌≡◌, Bool, true, false, ℕ, zero, suc, ◌+◌, ◌*◌, ◌-◌, ◌<◌, ◌≤◌, drop, length, take}
+use Rattle.std.specs.Prelude.{Option as Answer, None, Some, is_some, not, ◌≡◌, Bool, true, false, ℕ, zero, suc, ◌+◌, ◌*◌, ◌-◌, ◌<◌, ◌≤◌, drop, length, take}
 use Rattle.std.proofs.Math.Path.{refl, sym, subst}
 use Rattle.std.proofs.Common.{ap, ap₂, ◌∙◌, add-zero, suc-add, zero-add, add_assoc, eqb→eq, length-append, length-drop, length-take, drop_at, length-take-le, take_at}
 use mathlib.Core.List.{List, [], ◌∷◌, ◌++◌, append_assoc, append-nil}
@@ -26,8 +26,6 @@ use Rattle.subtrees.specs.Parts.{subtree}
 use Rattle.subtrees.specs.Laws.Parts.{back_at, here-at, past-inside, sized, top-at}
 use Rattle.rewrite.specs.Laws.Records.{subtree-sound}
 use Rattle.words.specs.Words.{Compared, SameWords, word}
-use Rattle.words.specs.declared.Comparison.{Comparison}
-use Rattle.words.specs.declared.Comparison.TheVariants.{Differ, Equal}
 use Rattle.writing.specs.Records.{node_of}
 use Rattle.rules8and9.specs.Sharing.{fields_at, records_from, same_bytes, same_records}
 
@@ -65,17 +63,10 @@ module _ (b : List ℕ) (i j : ℕ) where
   pub whole_words : i < record_count b → j < record_count b → SameWords (lent b i) (lent b j)
   whole_words l m = rw (lent_is b i, lent_is b j) (fields-long b i l ∙ sym (fields-long b j m), omega (arith, fields-long b i l))
 
-  pub words_same : {r : Comparison} → Compared (lent b i) (lent b j) r → r ≡ Equal → true ≡ same_bytes (fields_at b i) (fields_at b j)
+  pub words_tell : (r : Answer ℕ) → Compared (lent b i) (lent b j) r → not (is_some r) ≡ same_bytes (fields_at b i) (fields_at b j)
   unfolding Compared
-  words_same h e =
-      let q : lent b i ≡ lent b j = subst (Compared (lent b i) (lent b j)) e h in
-      sym (T-is _ (subst (λ x. T (same_bytes (fields_at b i) x)) (sym (lent_is b i) ∙ q ∙ lent_is b j) (bytes-self (fields_at b i))))
-
-  pub words-other : {r : Comparison} {k : ℕ} → Compared (lent b i) (lent b j) r → r ≡ Differ k → false ≡ same_bytes (fields_at b i) (fields_at b j)
-  unfolding Compared
-  words-other {k = k} h e =
-      let d : Compared (lent b i) (lent b j) (Differ k) = subst (Compared (lent b i) (lent b j)) e h in
-      never _ (λ t. d.1 (ap (word k) (lent_is b i ∙ bytes-are (fields_at b i) (fields_at b j) t ∙ sym (lent_is b j))))
+  words_tell None h = sym (T-is _ (subst (λ x. T (same_bytes (fields_at b i) x)) (sym (lent_is b i) ∙ h ∙ lent_is b j) (bytes-self (fields_at b i))))
+  words_tell (Some k) h = never _ (λ t. h.1 (ap (word k) (lent_is b i ∙ bytes-are (fields_at b i) (fields_at b j) t ∙ sym (lent_is b j))))
 
 -- ---- one record after the other
 
