@@ -3,14 +3,14 @@ use Rattle.std.specs.Prelude.{◌≡◌, List, ℕ, ◌≤◌, get_or, length, s
 use Rattle.table.specs.Table.{record_count}
 use Rattle.values.specs.Values.{ceiling}
 use Rattle.quoting.specs.Answers.{check_answer, figure_answer}
-use Rattle.quoting.specs.declared.Checked.{Checked}
+use Rattle.refusals.specs.Refusals.{Given}
 use Rattle.marking.specs.Marks.{mark_length}
 use Rattle.fill.specs.Answers.{filled_length, filled_refusal, open_answer, open_writes}
 use Rattle.fill.specs.declared.Filled.{Filled}
 
 pub record FillPromised (table : List ℕ) (symbol number : ℕ) (written marks : List ℕ) : Type 0 where
   -- checking accepts the written table, with as many records
-  pub checked : check_answer written ≡ Checked.Accepted (record_count table)
+  pub checked : check_answer written ≡ Given (record_count table)
   -- A filled table's figure is the open table's with that value: for all values, the symbol's own any in range, the figure call answers the same of both, in
   -- figure and branch and in refusals.
   pub figures : (values : List ℕ) → get_or values symbol 0 ≤ ceiling symbol → figure_answer written values ≡ figure_answer table (set values symbol number)
@@ -22,7 +22,7 @@ unfoldable pub FillPromises : (table : List ℕ) (symbol number : ℕ) (out mark
 FillPromises b s x out marks r = filled_refusal r ≡ 0 → FillPromised b s x (take (filled_length r) out) (take mark_length marks)
 
 pub record OpenPromised (table : List ℕ) (symbol number : ℕ) (written : List ℕ) : Type 0 where
-  pub checked : check_answer written ≡ Checked.Accepted (record_count table)
+  pub checked : check_answer written ≡ Given (record_count table)
   -- for all values with the symbol set to the number, the figure call answers the same of both
   pub figures : (values : List ℕ) → figure_answer written (set values symbol number) ≡ figure_answer table (set values symbol number)
 

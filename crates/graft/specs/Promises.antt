@@ -1,15 +1,15 @@
 -- Document 02, CR 1: what a written graft promises, said of the answers of checking and of the figure call.
 use Rattle.std.specs.Prelude.{◌≡◌, false, List, ℕ, T, set, take}
 use Rattle.table.specs.Table.{decode, record_count}
-use Rattle.quoting.specs.Answers.{check_answer, figure_answer, quoted_figure, quoted_refusal}
-use Rattle.quoting.specs.declared.Checked.{Checked}
+use Rattle.quoting.specs.Answers.{check_answer, figure_answer, quoted_figure}
+use Rattle.refusals.specs.Refusals.{Given, refused}
 use Rattle.splice.specs.Graft.{uses}
 use Rattle.graft.specs.Answers.{grafted_length, grafted_refusal}
 use Rattle.graft.specs.declared.Grafted.{Grafted}
 
 -- the figure call answers a figure
 abbrev pub Quoted : (table values : List ℕ) → Type 0
-Quoted b vs = quoted_refusal (figure_answer b vs) ≡ 0
+Quoted b vs = refused (figure_answer b vs) ≡ 0
 
 -- values with the symbol's set to the sent table's figure with these values
 abbrev pub host_values : (sent : List ℕ) (symbol : ℕ) (values : List ℕ) → List ℕ
@@ -17,7 +17,7 @@ host_values b s vs = set vs s (quoted_figure (figure_answer b vs))
 
 pub record GraftPromised (host sent : List ℕ) (symbol : ℕ) (written : List ℕ) : Type 0 where
   -- checking answers the written table's number of records
-  pub checked : check_answer written ≡ Checked.Accepted (record_count written)
+  pub checked : check_answer written ≡ Given (record_count written)
   -- a host that does not use the symbol is written as it is
   pub unused : uses symbol (decode host) ≡ false → written ≡ host
   -- the grafted figure equals the host's figure with the symbol set to the sent table's figure, wherever all three figures exist

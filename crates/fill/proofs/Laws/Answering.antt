@@ -12,7 +12,7 @@ use Rattle.table.proofs.Laws.Asking.{Yes, all_yes, answered, by-refusals, number
 use Rattle.table.proofs.Laws.Tables.{accepted-table}
 use Rattle.writing.specs.Over.{over}
 use Rattle.writing.specs.Laws.Over.{front-over}
-use Rattle.quoting.specs.declared.Checked.{Checked}
+use Rattle.refusals.specs.Refusals.{Given}
 use Rattle.quoting.proofs.Laws.Answers.{refuses, writes}
 use Rattle.quoting.proofs.Laws.Figures.{checked-accepted}
 use Rattle.marking.specs.Marks.{mark_length, marks_of}
@@ -63,7 +63,7 @@ module _ (b m : List ℕ) (s x : ℕ) (out : List ℕ) where
   module _ (h : AreBytes b) where
     open-promised : IsTable b → T (question15 b s x) → T (question16 b m s x) → OpenPromised b s x (opened b m s)
     open-promised t q o = record {
-      checked = checked-accepted _ (accepted-table _ (opened-table b m s x t q o)) ∙ ap Checked.Accepted (opened-count b m s t);
+      checked = checked-accepted _ (accepted-table _ (opened-table b m s x t q o)) ∙ ap Given (opened-count b m s t);
       figures = opened-quoted b m s x t q o;
     }
 
@@ -111,7 +111,7 @@ module _ (b : List ℕ) (s x : ℕ) (out marks : List ℕ) where
     fill-promised : IsTable b → T (question15 b s x) → FillPromised b s x (filled b s x) (marks_of s b)
     fill-promised t q =
         let c = filled-table b s x t q in record {
-          checked = checked-accepted _ (accepted-table _ c) ∙ ap Checked.Accepted (filled-count b s x t);
+          checked = checked-accepted _ (accepted-table _ c) ∙ ap Given (filled-count b s x t);
           figures = filled-quoted b s x t q;
           back = λ buffer l.
               let roomy = le-leb (length (filled b s x)) (length buffer) (omega (arith, filled-length b s x t)) in
