@@ -46,14 +46,14 @@ pub const MOST_DEPTH: usize = 32;
 // ---- The node: a record without its number of children
 
 // A time or bound: a plain number, or a symbol by its number.
-#[derive(Clone, Copy)]
+#[derive(Clone, Copy, PartialEq, Eq)]
 pub enum Number {
     Plain(u64),
     Symbol(u64),
 }
 
 // A limit's number: plain, a symbol's value, or the triangular number of a symbol's value.
-#[derive(Clone, Copy)]
+#[derive(Clone, Copy, PartialEq, Eq)]
 pub enum Most {
     Plain(u64),
     Symbol(u64),
@@ -61,14 +61,14 @@ pub enum Most {
 }
 
 // No limit, or the loop that it names (byte 3) and its number.
-#[derive(Clone, Copy)]
+#[derive(Clone, Copy, PartialEq, Eq)]
 pub enum Limit {
     Unlimited,
     AtMost(u8, Most),
 }
 
 // A block with its time, a sequence, a choice, a loop with its bound.
-#[derive(Clone, Copy)]
+#[derive(Clone, Copy, PartialEq, Eq)]
 pub enum Kind {
     Block(Number),
     Sequence,
@@ -76,7 +76,7 @@ pub enum Kind {
     Loop(Number),
 }
 
-#[derive(Clone, Copy)]
+#[derive(Clone, Copy, PartialEq, Eq)]
 pub struct Node {
     pub kind: Kind,
     pub limit: Limit,
