@@ -103,7 +103,7 @@ fn write_filled(table: &[u8], symbol: u64, number: u64, out: &mut [u8], marks: &
     let value = Number::Plain(number);
     let most = Most::Plain(number);
     filling::put_marked(table, &bytes, value, most, &mut out[0..n]);
-    writing::write_bytes(&bytes, MARK_LENGTH, marks);
+    writing::write_front(&bytes, MARK_LENGTH, marks);
 }
 
 // Writes the opened table over the front of `out`.

@@ -61,7 +61,7 @@ fn put_graft(host: &[u8], sent: &[u8], symbol: u64, out: &mut [u8]) -> Grafted
     if out.len() < len {
         return Grafted::Refused(8);
     }
-    writing::write_bytes(&work, len, out);
+    writing::write_front(&work, len, out);
     Grafted::Written(len)
 }
 

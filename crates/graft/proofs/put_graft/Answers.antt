@@ -31,4 +31,4 @@ pub returns : goal.returns
 returns c =
     let made = c.make_graft-n.ensures in
     let long = made-length _ _ _ _ _ made c.if-n-eq0.false in
-    all-written _ _ _ _ c.requires (sym (asked (goal.at.returns c).After-refusal) ∙ eq-eqb _ 0 c.if-refusal-ne0.false) _ _ _ (omega (arith, long, c.if-out-len.false)) (made.bytes c.if-n-eq0.false) (sym (length-take-le _ _ made.room)) c.write_bytes.ensures
+    all-written _ _ _ _ c.requires (sym (asked (goal.at.returns c).After-refusal) ∙ eq-eqb _ 0 c.if-refusal-ne0.false) _ _ _ (omega (arith, long, c.if-out-len.false)) (made.bytes c.if-n-eq0.false) (sym (length-take-le _ _ made.room)) c.write_front.ensures
