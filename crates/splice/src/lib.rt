@@ -18,25 +18,22 @@ const LOOP_ROOM: usize = 9;
 // ---- The symbol
 
 // Is this a block whose time is the symbol?
+#[tactic(auto, unfolding(crate::specs::Graft::is_symbol))]
 fn is_symbol(kind: Kind, symbol: u64) -> bool
     ensures { result ≡ is_symbol symbol kind }
 {
     match kind {
         Kind::Block(time) => table::number_has(time, symbol),
-        Kind::Sequence => false,
-        Kind::Choice => false,
-        Kind::Loop(_) => false,
+        Kind::Sequence | Kind::Choice | Kind::Loop(_) => false,
     }
 }
 
-// 1 where record i is a block with the symbol, else 0.
-fn occurs_at(table: &[u8], i: usize, symbol: u64) -> usize
+// Is record i a block with the symbol?
+fn is_place(table: &[u8], i: usize, symbol: u64) -> bool
     requires { i < record_count table.now }
-    ensures { (result ≡ occurs_first symbol (drop (record_length * i) table.now)) × (result ≤ 1) }
+    ensures { result ≡ is_symbol symbol (first_node (drop (record_length * i) table.now)).kind }
 {
-    let node = table::node_at(table, i);
-    let kind = node.kind;
-    if is_symbol(kind, symbol) { 1 } else { 0 }
+    is_symbol(table::node_at(table, i).kind, symbol)
 }
 
 // How many records are blocks with the symbol.
@@ -44,13 +41,7 @@ pub fn count_occurrences(table: &[u8], symbol: u64) -> usize
     ensures { (result ≡ occurrences_in symbol (record_count table.now) table.now) × (result ≤ record_count table.now) }
 {
     let n = table.len() / RECORD_LENGTH;
-    let mut count: usize = 0;
-    let mut i: usize = 0;
-    while i < n {
-        count = count + occurs_at(table, i, symbol);
-        i += 1;
-    }
-    count
+    (0..n).filter(|i| is_place(table, *i, symbol)).count()
 }
 
 // Is the record at the front of `b` neither a block with the symbol nor one with a paired symbol?
@@ -135,8 +126,7 @@ fn rename_next(
     ensures result_after { (stack ends.new result ≡ entered (first_node (drop (record_length * i) sent.now)).kind wanted (still_around wanted (stack ends.old outer))) × (result ≤ most_loops) }
     ensures out_after { front (at + 1) out.new ≡ front at out.old ++ renamed_record (length (still_around wanted (stack ends.old outer))) (drop (record_length * i) sent.now) }
 {
-    let node = table::node_at(sent, i);
-    let kind = node.kind;
+    let kind = table::node_at(sent, i).kind;
     let around = still_around(ends, outer, wanted);
     writing::copy_records(sent, i, 1, out, at);
     writing::put_name(out, at, renamed(table::name_at(sent, i), around));
@@ -153,44 +143,40 @@ fn put_renamed(sent: &[u8], out: &mut [u8], at: usize) -> usize
     let mut ends = [0; LOOP_ROOM];
     let mut outer: u8 = 0;
     let mut wanted: usize = 1;
-    let mut i: usize = 0;
-    while i < n {
+    for i in 0..n {
         outer = rename_next(sent, i, &mut ends, outer, wanted, out, at + i);
         wanted = wanted - 1 + table::children_at(sent, i);
-        i += 1;
     }
     at + n
 }
 
 // ---- The host, with the renamed sent table in place of the symbol
 
-// Puts the renamed sent table at the buffer's record `at`; answers the record after it. It is copied from record `last`, where it was put last; where that is 0
-// it was not put yet, and is renamed.
-fn put_sent(sent: &[u8], last: usize, out: &mut [u8], at: usize) -> usize
+// Puts the renamed sent table at the buffer's record `at`; answers the record after it. Where it was put before, it is copied from the record at which it was
+// put last.
+fn put_sent(sent: &[u8], last: Option<usize>, out: &mut [u8], at: usize) -> usize
     requires fact_1 { IsTable sent.now }
     requires fact_2 { Stands (renamed_table sent.now) last (front at out.old) }
     requires fact_3 { record_length * (at + record_count sent.now) ≤ length out.old }
     ensures { Appended at out.old (record_count sent.now) (renamed_table sent.now) result out.new }
 {
-    if last == 0 {
-        put_renamed(sent, out, at)
-    } else {
-        writing::repeat_records(out, last, sent.len() / RECORD_LENGTH, at)
+    match last {
+        None => put_renamed(sent, out, at),
+        Some(place) => writing::repeat_records(out, place, sent.len() / RECORD_LENGTH, at),
     }
 }
 
 // Puts what stands in place of a block at the buffer's record `at`: a loop with the block's limit and address, the renamed sent table, the zero block.
 // Answers the record after it.
-fn put_place(block: Node, sent: &[u8], last: usize, out: &mut [u8], at: usize) -> usize
+fn put_place(block: Node, sent: &[u8], last: Option<usize>, out: &mut [u8], at: usize) -> usize
     requires fact_1 { IsTable sent.now }
     requires fact_2 { Stands (renamed_table sent.now) last (front at out.old) }
     requires fact_3 { record_length * (at + (record_count sent.now + 2)) ≤ length out.old }
     ensures { Appended at out.old (record_count sent.now + 2) (place_bytes (renamed_table sent.now) block.limit block.address) result out.new }
 {
-    let limit = block.limit;
     let once = Node {
         kind: Kind::Loop(Number::Plain(1)),
-        limit: limit,
+        limit: block.limit,
         address: block.address,
     };
     let zero = Node {
@@ -208,11 +194,8 @@ fn next_place(host: &[u8], i: usize, symbol: u64) -> usize
     requires { 0 < occurrences_in symbol (record_count host.now - i) (drop (record_length * i) host.now) }
     ensures { NoPlace symbol host.now i result × (result < record_count host.now) × (occurs_first symbol (drop (record_length * result) host.now) ≡ 1) }
 {
-    let mut place = i;
-    while occurs_at(host, place, symbol) == 0 {
-        place += 1;
-    }
-    place
+    let n = host.len() / RECORD_LENGTH;
+    (i..n).find(|k| is_place(host, *k, symbol)).unwrap()
 }
 
 // Puts the host's records at the buffer's front, with what stands in place of the `count` blocks with the symbol; answers how many records that makes. The
@@ -223,17 +206,15 @@ pub fn put_all(host: &[u8], symbol: u64, count: usize, sent: &[u8], out: &mut [u
     requires fact_3 { record_length * splice_records symbol (record_count sent.now) (record_count host.now) host.now ≤ length out.old }
     ensures { (result ≡ splice_records symbol (record_count sent.now) (record_count host.now) host.now) × (front result out.new ≡ splice symbol (renamed_table sent.now) (record_count host.now) host.now) }
 {
-    let mut left = count;
-    let mut last: usize = 0;
+    let mut last = None;
     let mut at: usize = 0;
     let mut i: usize = 0;
-    while 0 < left {
+    for _k in 0..count {
         let place = next_place(host, i, symbol);
         let end = writing::copy_records(host, i, place - i, out, at);
         at = put_place(table::node_at(host, place), sent, last, out, end);
-        last = end + 1;
+        last = Some(end + 1);
         i = place + 1;
-        left -= 1;
     }
     writing::copy_rest(host, i, out, at)
 }

@@ -1,4 +1,4 @@
-use mathlib.Core.Path.{refl, sym}
+use mathlib.Core.Path.{refl}
 use native.Mathlib.Omega.{arith}
 use borrow.Author.Rules.{rules}
 use Rattle.splice.specs.Laws.Renaming.{all_renamed, next-renamed, none-renamed, some-wanted}
@@ -7,18 +7,6 @@ use Rattle.splice.proofs.put_renamed.Goals as goal
 
 pub loop-i-init : goal.loop-i-init
 loop-i-init c = none-renamed _ _ _ _ (search rules)
-
-pub slice_bounds-rename_next-end : goal.slice_bounds-rename_next-end
-slice_bounds-rename_next-end c = sym c.loop-i.invariant.roomy
-
-pub rename_next-outer-requires : goal.rename_next-outer-requires
-rename_next-outer-requires c =
-    let inv = c.loop-i.invariant in
-    record {
-      fact_1 = c.loop-i-test.true;
-      fact_2 = (inv.nested, omega (arith, inv.roomy));
-      fact_3 = omega (arith, inv.kept, c.requires.fact_2);
-    }
 
 pub overflow_sub-wanted : goal.overflow_sub-wanted
 overflow_sub-wanted c =
@@ -33,9 +21,6 @@ pub loop-i-preserved : goal.loop-i-preserved
 loop-i-preserved c =
     let next = c.rename_next-outer in
     next-renamed _ _ _ _ _ _ _ _ _ _ _ _ c.requires.fact_1 c.loop-i-test.true c.loop-i.invariant next.ensures.result_after next.ensures.out_after c.children_at.ensures next.auto.ends next.auto.out
-
-pub shape_of-out : goal.shape_of-out
-shape_of-out c = c.loop-i.invariant.kept
 
 pub returns : goal.returns
 returns c = (refl, all_renamed _ _ _ _ _ _ _ _ c.requires.fact_1 c.loop-i-test.false c.loop-i.invariant)
