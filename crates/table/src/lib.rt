@@ -2,6 +2,7 @@
 #![tactic(auto)]
 
 ghost use Rattle.std.specs.Prelude.{◌≡◌, ◌+◌, ◌*◌, ◌^◌, ◌<◌, ◌≤◌, drop, length};
+ghost use Rattle.refusals.specs.Refusals.{answer, refused};
 ghost use Rattle.table.specs.Numbers.{record_length, most_records};
 ghost use Rattle.table.specs.Table.{child_byte, field, first_node, flagless, kind_from, limit_from, loop_byte, most_from, num_from, record_count, without_four};
 ghost use Rattle.table.specs.Questions.{time_in_range, count_in_range, kind_in_range, most_in_range};
@@ -10,6 +11,8 @@ ghost use Rattle.table.specs.Numbers.{most_loops, most_depth};
 ghost use Rattle.table.specs.Trees.{around};
 ghost use Rattle.table.specs.Questions.{name_ok, number_has, paired, paired_block, paired_share};
 ghost use Rattle.table.specs.Survey.{most_share, node_share, name_share, listed_share, with_next, with_parent, Small, survey_node, survey_children, survey_refusal};
+
+use refusals::Refusal;
 
 // ---- Numbers, as in specs/Numbers.antt
 
@@ -571,6 +574,22 @@ impl Survey {
         }
     }
 
+    // Questions 5 to 7: the first that says no.
+    pub fn accept(self) -> Result<(), Refusal>
+        ensures { refused (answer result) ≡ survey_refusal self }
+    {
+        if !self.fits {
+            return Err(Refusal::Depth);
+        }
+        if !self.named {
+            return Err(Refusal::Names);
+        }
+        if MOST_WEIGHT < self.weight {
+            return Err(Refusal::Weight);
+        }
+        Ok(())
+    }
+
     // The first of questions 5 to 7 that says no, or 0.
     pub fn refusal(self) -> u64
         ensures { result ≡ survey_refusal self }
@@ -644,6 +663,25 @@ pub fn survey_table(table: &[u8]) -> Survey
 }
 
 // ---- Questions 1 to 7
+
+// The first question that says no: each is put to the whole table before the next.
+pub fn accept(table: &[u8]) -> Result<(), Refusal>
+    ensures { refused (answer result) ≡ refusal table.now }
+{
+    if !length_allowed(table) {
+        return Err(Refusal::Length);
+    }
+    if !records_listed(table) {
+        return Err(Refusal::Fields);
+    }
+    if !records_in_range(table) {
+        return Err(Refusal::Range);
+    }
+    if !one_tree(table) {
+        return Err(Refusal::Tree);
+    }
+    survey_table(table).accept()
+}
 
 // The number of the first question that says no, or 0: each is put to the whole table before the next.
 pub fn refusal_of(table: &[u8]) -> u64

@@ -2,11 +2,13 @@
 #![tactic(auto)]
 
 ghost use Rattle.std.specs.Prelude.{◌≡◌, ◌≤◌, length};
+ghost use Rattle.refusals.specs.Refusals.{answer, refused};
 ghost use Rattle.table.specs.Numbers.{record_length};
 ghost use Rattle.evaluate.specs.Evaluate.{values_of};
 ghost use Rattle.values.specs.Flags.{flag_free};
 ghost use Rattle.values.specs.Values.{ceiling, question13, question14, question9, record_small, triangle_small, values_refusal};
 
+use refusals::Refusal;
 use table::{
     FIRST_PAIRED_SYMBOL, FIRST_TIME_SYMBOL, HOW_MANY_SYMBOLS, HOW_MANY_VALUES, LATER_PLACE, Limit,
     MOST_COUNT, MOST_TIME, Most, RECORD_LENGTH,
@@ -117,6 +119,23 @@ fn laters_low(values: &[u64]) -> bool
         s += 1;
     }
     true
+}
+
+// The first question about a desk's values for a table that says no: each call that is lent both asks here.
+pub fn accept(table: &[u8], values: &[u64], free: bool) -> Result<(), Refusal>
+    requires { free ≡ flag_free table.now }
+    ensures { refused (answer result) ≡ values_refusal table.now values.now }
+{
+    if !values_allowed(values) {
+        return Err(Refusal::Values);
+    }
+    if !triangles_small(table, values, free) {
+        return Err(Refusal::Triangle);
+    }
+    if !laters_low(values) {
+        return Err(Refusal::Later);
+    }
+    Ok(())
 }
 
 // The first question about a desk's values for a table that says no, or 0: each call that is lent both asks here.

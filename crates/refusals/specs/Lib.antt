@@ -1,0 +1,3 @@
+-- Definitions, then what is proved of them.
+pub mod Refusals
+pub mod Laws
