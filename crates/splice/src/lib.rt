@@ -1,13 +1,13 @@
 // Grafting's passes over records, document 02's CR 1: the sent table renamed, and put in place of the blocks with a time symbol.
 #![tactic(auto)]
 
-ghost use Rattle.std.specs.Prelude.{◌≡◌, ◌++◌, ◌*◌, ◌+◌, ◌-◌, ◌<◌, ◌≤◌, drop, length};
+ghost use Rattle.std.specs.Prelude.{◌≡◌, ◌++◌, ◌*◌, ◌+◌, ◌-◌, ◌^◌, ◌<◌, ◌≤◌, drop, length};
 ghost use Rattle.table.specs.Numbers.{most_loops, record_length};
-ghost use Rattle.table.specs.Table.{each, first_node, record_count};
+ghost use Rattle.table.specs.Table.{child_byte, each, first_node, record_count};
 ghost use Rattle.table.specs.Checking.{IsTable};
 ghost use Rattle.writing.specs.Records.{Appended, front};
 ghost use Rattle.splice.specs.Graft.{is_symbol, renamed_name};
-ghost use Rattle.splice.specs.Renaming.{entered, renamed_record, renamed_table, still_around, stack};
+ghost use Rattle.splice.specs.Renaming.{entered, loop_room, renamed_record, renamed_table, still_around, stack};
 ghost use Rattle.splice.specs.Splice.{NoPlace, Stands, occurs_first, occurrences_in, place_bytes, sendable_first, splice, splice_records};
 
 use table::{Kind, Limit, MOST_LOOPS, Node, Number, RECORD_LENGTH, WHOLE_RUN};
@@ -79,58 +79,64 @@ fn renamed(name: u8, outer: u8) -> u8
     if name == WHOLE_RUN { outer + 1 } else { name }
 }
 
-// A pass over the sent table's records knows the loops around each of them. `wanted` is question 4's count of the trees still to come; `ends` has, for
+// What a pass over the sent table's records knows of the loops around each of them. `wanted` is question 4's count of the trees still to come; `ends` has, for
 // each of the `outer` loops around, the count at the loop's record, the innermost last: where it is met again the loop's body has ended.
-
-// The loops around the record that comes now, of those before it: the innermost is left where its body has ended.
-fn still_around(ends: &[usize], outer: u8, wanted: usize) -> u8
-    requires { outer ≤ length ends.now }
-    ensures { (stack ends.now result ≡ still_around wanted (stack ends.now outer)) × (result ≤ outer) }
-{
-    if outer == 0 {
-        return 0;
-    }
-    let last = outer - 1;
-    if ends[last as usize] == wanted {
-        last
-    } else {
-        outer
-    }
-}
-
-// The loops around what follows the record of a node of this kind, with `outer` of them around it. The place behind them is written for every kind, and
-// counts for a loop alone.
-fn enter(kind: Kind, ends: &mut [usize], outer: u8, wanted: usize) -> u8
-    requires { (outer ≤ most_loops) × (most_loops < length ends.old) }
-    ensures { (stack ends.new result ≡ entered kind wanted (stack ends.old outer)) × (result ≤ most_loops) }
-{
-    ends[outer as usize] = wanted;
-    let inside = table::loops_inside(kind, outer);
-    if inside <= MOST_LOOPS { inside } else { outer }
-}
-
-// Puts record i of the sent table, renamed, at the buffer's record `at`; answers the loops around what follows. Renaming changes byte 3 alone, so the
-// record is copied and not written anew from its node.
-fn rename_next(
-    sent: &[u8],
-    i: usize,
-    ends: &mut [usize],
+#[derive(Drop)]
+struct Around {
+    ends: [usize; LOOP_ROOM],
     outer: u8,
     wanted: usize,
-    out: &mut [u8],
-    at: usize,
-) -> u8
+    ghost nested: { outer ≤ most_loops },
+    ghost roomy: { length ends ≡ loop_room },
+}
+
+impl Around {
+    // Before a table's first record.
+    const FIRST: Around = Around {
+        ends: [0; LOOP_ROOM],
+        outer: 0,
+        wanted: 1,
+    };
+
+    // The loops around the record that comes now, of those before it: the innermost is left where its body has ended.
+    fn leave(&mut self)
+        ensures { (stack self.new.ends self.new.outer ≡ still_around self.old.wanted (stack self.old.ends self.old.outer)) × (self.new.wanted ≡ self.old.wanted) }
+    {
+        if self.outer == 0 {
+            return;
+        }
+        let last = self.outer - 1;
+        if self.ends[last as usize] == self.wanted {
+            self.outer = last;
+        }
+    }
+
+    // The loops around what follows the record of a node of this kind. The place behind them is written for every kind, and counts for a loop alone.
+    fn enter(&mut self, kind: Kind)
+        ensures { (stack self.new.ends self.new.outer ≡ entered kind self.old.wanted (stack self.old.ends self.old.outer)) × (self.new.wanted ≡ self.old.wanted) }
+    {
+        self.ends[self.outer as usize] = self.wanted;
+        let inside = table::loops_inside(kind, self.outer);
+        if inside <= MOST_LOOPS {
+            self.outer = inside;
+        }
+    }
+}
+
+// Puts record i of the sent table, renamed, at the buffer's record `at`. Renaming changes byte 3 alone, so the record is copied and not written anew from its
+// node.
+fn rename_next(sent: &[u8], i: usize, around: &mut Around, out: &mut [u8], at: usize)
     requires fact_1 { i < record_count sent.now }
-    requires fact_2 { (outer ≤ most_loops) × (most_loops < length ends.old) }
+    requires fact_2 { (0 < around.old.wanted) × (around.old.wanted + 256 < 2 ^ 64) }
     requires fact_3 { record_length * (at + 1) ≤ length out.old }
-    ensures result_after { (stack ends.new result ≡ entered (first_node (drop (record_length * i) sent.now)).kind wanted (still_around wanted (stack ends.old outer))) × (result ≤ most_loops) }
-    ensures out_after { front (at + 1) out.new ≡ front at out.old ++ renamed_record (length (still_around wanted (stack ends.old outer))) (drop (record_length * i) sent.now) }
+    ensures around_after { (stack around.new.ends around.new.outer ≡ entered (first_node (drop (record_length * i) sent.now)).kind around.old.wanted (still_around around.old.wanted (stack around.old.ends around.old.outer))) × (around.new.wanted ≡ around.old.wanted - 1 + child_byte (drop (record_length * i) sent.now)) }
+    ensures out_after { front (at + 1) out.new ≡ front at out.old ++ renamed_record (length (still_around around.old.wanted (stack around.old.ends around.old.outer))) (drop (record_length * i) sent.now) }
 {
-    let kind = table::node_at(sent, i).kind;
-    let around = still_around(ends, outer, wanted);
+    around.leave();
     writing::copy_records(sent, i, 1, out, at);
-    writing::put_name(out, at, renamed(table::name_at(sent, i), around));
-    enter(kind, ends, around, wanted)
+    writing::put_name(out, at, renamed(table::name_at(sent, i), around.outer));
+    around.enter(table::node_at(sent, i).kind);
+    around.wanted = around.wanted - 1 + table::children_at(sent, i);
 }
 
 // Puts the sent table, renamed, at the buffer's record `at`; answers the record after it.
@@ -140,12 +146,9 @@ fn put_renamed(sent: &[u8], out: &mut [u8], at: usize) -> usize
     ensures { Appended at out.old (record_count sent.now) (renamed_table sent.now) result out.new }
 {
     let n = sent.len() / RECORD_LENGTH;
-    let mut ends = [0; LOOP_ROOM];
-    let mut outer: u8 = 0;
-    let mut wanted: usize = 1;
+    let mut around = Around::FIRST;
     for i in 0..n {
-        outer = rename_next(sent, i, &mut ends, outer, wanted, out, at + i);
-        wanted = wanted - 1 + table::children_at(sent, i);
+        rename_next(sent, i, &mut around, out, at + i);
     }
     at + n
 }
