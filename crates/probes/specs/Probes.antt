@@ -1,12 +1,11 @@
 -- What the numbers of a probe say.
-use Rattle.std.specs.Prelude.{◌≡◌, List, ℕ, zero, suc, get_or, length, take}
+use Rattle.std.specs.Prelude.{◌≡◌, List, None, Some, ℕ, zero, suc, get_or, length, take}
 use Rattle.words.specs.Words.{Compared, SameWords}
-use Rattle.words.specs.declared.Comparison.TheVariants.{Differ, Equal}
 
 -- verdict and word: 0 equal, 1 the first word that differs, 2 where the stretches are not the same number of whole words
 unfoldable pub Probed : List ℕ → List ℕ → ℕ → ℕ → Type 0
-Probed a b zero k = SameWords a b × (Compared a b Equal × (k ≡ 0))
-Probed a b (suc zero) k = SameWords a b × Compared a b (Differ k)
+Probed a b zero k = SameWords a b × (Compared a b None × (k ≡ 0))
+Probed a b (suc zero) k = SameWords a b × Compared a b (Some k)
 Probed a b (suc (suc zero)) k = (SameWords a b → ⊥) × (k ≡ 0)
 Probed a b (suc (suc (suc n))) k = ⊥
 

@@ -3,8 +3,6 @@
 
 ghost use Rattle.probes.specs.Probes.{Probed, ProbedBytes};
 
-use words::Comparison;
-
 #[repr(C)]
 #[derive(Clone, Copy)]
 pub struct ProbeComparison {
@@ -27,13 +25,12 @@ pub extern "C" fn probe_compare(a: &[u8], b: &[u8]) -> ProbeComparison
     if a.len() % words::WORD_LENGTH != 0 {
         return NOT_COMPARED;
     }
-    let compared = words::compare(a, b);
-    match compared {
-        Comparison::Differ(k) => ProbeComparison {
+    match words::compare(a, b) {
+        Some(k) => ProbeComparison {
             verdict: 1,
             word: k as u64,
         },
-        Comparison::Equal => ProbeComparison {
+        None => ProbeComparison {
             verdict: 0,
             word: 0,
         },
@@ -52,22 +49,19 @@ pub struct ProbeByteComparison {
 pub extern "C" fn probe_compare_bytes(a: &[u8], b: &[u8]) -> ProbeByteComparison
     ensures { ProbedBytes a.now b.now result.verdict result.byte }
 {
-    let n = a.len();
-    if n != b.len() {
+    if a.len() != b.len() {
         return ProbeByteComparison {
             verdict: 2,
             byte: 0,
         };
     }
-    let mut k = 0;
-    while k < n {
+    for k in 0..a.len() {
         if a[k] != b[k] {
             return ProbeByteComparison {
                 verdict: 1,
                 byte: k as u64,
             };
         }
-        k += 1;
     }
     ProbeByteComparison {
         verdict: 0,

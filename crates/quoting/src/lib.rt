@@ -55,18 +55,6 @@ fn walk(table: &[u8], values: &[u64], free: bool, out: &mut [u64; LIST_ROOM]) ->
     walking::evaluate(table, &numbers, out)
 }
 
-// Writes the first n numbers of a list over the front of a buffer.
-fn write_front(list: &[u64; LIST_ROOM], n: usize, out: &mut [u64])
-    requires { (length list.now ≡ list_room) × (n ≤ list_room) × (list_room ≤ length out.old) }
-    ensures { out.new ≡ over (take n list.now) out.old }
-{
-    let mut i = 0;
-    while i < n {
-        out[i] = list[i];
-        i += 1;
-    }
-}
-
 // What the figure call answers for a table that checking accepts: questions 9, 13, 14 and 10.
 pub fn quote_checked(table: &[u8], values: &[u64]) -> Result<Quote, Refusal>
     requires { refusal table.now ≡ 0 }
@@ -114,7 +102,7 @@ pub fn list(table: &[u8], values: &[u64], out: &mut [u64]) -> Result<usize, Refu
     let found = walk(table, values, free, &mut list);
     if found.fits {
         let n = found.len;
-        write_front(&list, 2 * n, out);
+        writing::write_front(&list, 2 * n, out);
         Ok(n)
     } else {
         Err(Refusal::Ceiling)

@@ -70,7 +70,7 @@ fn quote_after(table: &[u8], place: usize, new: u64, values: &[u64]) -> Result<Q
 {
     let len = table.len();
     let mut work = [0; RECORD_LENGTH * MOST_RECORDS];
-    writing::write_bytes(table, len, &mut work);
+    writing::write_front(table, len, &mut work);
     writing::put_value(&mut work, place, new);
     quoting::quote_checked(&work[0..len], values)
 }

@@ -64,7 +64,7 @@ fn make_steps(table: &[u8], allowance: u64, out: &mut [u8]) -> Simplified
     let mut spare = [0; RECORD_LENGTH * MOST_RECORDS];
     let mut extents = [0; MOST_RECORDS];
     let mut marks = [0; MARKS * MOST_RECORDS];
-    writing::write_bytes(table, len, &mut work);
+    writing::write_front(table, len, &mut work);
     let run = stepping::steps_in(
         &mut work,
         len,
@@ -74,7 +74,7 @@ fn make_steps(table: &[u8], allowance: u64, out: &mut [u8]) -> Simplified
         &mut spare,
     );
     let n = run.len;
-    writing::write_bytes(&work, n, out);
+    writing::write_front(&work, n, out);
     Simplified {
         length: n,
         steps: run.steps,

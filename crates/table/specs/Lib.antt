@@ -6,6 +6,7 @@ pub mod Questions
 pub mod Limits
 pub mod Bytes
 pub mod Table
+pub mod Passes
 pub mod Asking
 pub mod Checking
 pub mod Survey

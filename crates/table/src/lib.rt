@@ -1,16 +1,17 @@
 // The reader of tree tables: the node of a record, and questions 1 to 7 of document 01.
 #![tactic(auto)]
 
-ghost use Rattle.std.specs.Prelude.{◌≡◌, ◌+◌, ◌*◌, ◌^◌, ◌<◌, ◌≤◌, drop, length};
+ghost use Rattle.std.specs.Prelude.{◌≡◌, Bool, IfSome, List, ℕ, ◌+◌, ◌*◌, ◌^◌, ◌<◌, ◌≤◌, drop, length};
 ghost use Rattle.refusals.specs.Refusals.{answer, refused};
 ghost use Rattle.table.specs.Numbers.{record_length, most_records};
-ghost use Rattle.table.specs.Table.{child_byte, field, first_node, flagless, kind_from, limit_from, loop_byte, most_from, num_from, record_count, without_four};
+ghost use Rattle.table.specs.Table.{child_byte, field, first_node, flagless, kind_from, limit_from, loop_byte, most_from, num_from, record_count, without_four, each};
+ghost use Rattle.table.specs.Passes.{TakesRecords, TestsRecords};
 ghost use Rattle.table.specs.Questions.{time_in_range, count_in_range, kind_in_range, most_in_range};
 ghost use Rattle.table.specs.Checking.{fill_listed, flags_listed, kind_listed, limit_count, limit_listed, question1, question2, question3, question4, record_in_range, record_listed, refusal};
 ghost use Rattle.table.specs.Numbers.{most_loops, most_depth};
 ghost use Rattle.table.specs.Trees.{around};
 ghost use Rattle.table.specs.Questions.{name_ok, number_has, paired, paired_block, paired_share};
-ghost use Rattle.table.specs.Survey.{most_share, node_share, name_share, listed_share, with_next, with_parent, Small, survey_node, survey_children, survey_refusal};
+ghost use Rattle.table.specs.Survey.{most_share, node_share, name_share, listed_share, with_next, with_parent, Small, survey_node, survey_children, fitting_refusal, survey_refusal};
 
 use refusals::Refusal;
 
@@ -49,14 +50,14 @@ pub const MOST_DEPTH: usize = 32;
 // ---- The node: a record without its number of children
 
 // A time or bound: a plain number, or a symbol by its number.
-#[derive(Clone, Copy)]
+#[derive(Clone, Copy, PartialEq, Eq)]
 pub enum Number {
     Plain(u64),
     Symbol(u64),
 }
 
 // A limit's number: plain, a symbol's value, or the triangular number of a symbol's value.
-#[derive(Clone, Copy)]
+#[derive(Clone, Copy, PartialEq, Eq)]
 pub enum Most {
     Plain(u64),
     Symbol(u64),
@@ -64,14 +65,14 @@ pub enum Most {
 }
 
 // No limit, or the loop that it names (byte 3) and its number.
-#[derive(Clone, Copy)]
+#[derive(Clone, Copy, PartialEq, Eq)]
 pub enum Limit {
     Unlimited,
     AtMost(u8, Most),
 }
 
 // A block with its time, a sequence, a choice, a loop with its bound.
-#[derive(Clone, Copy)]
+#[derive(Clone, Copy, PartialEq, Eq)]
 pub enum Kind {
     Block(Number),
     Sequence,
@@ -79,7 +80,7 @@ pub enum Kind {
     Loop(Number),
 }
 
-#[derive(Clone, Copy)]
+#[derive(Clone, Copy, PartialEq, Eq)]
 pub struct Node {
     pub kind: Kind,
     pub limit: Limit,
@@ -90,64 +91,49 @@ pub struct Node {
 pub fn number_has(number: Number, symbol: u64) -> bool
     ensures { result ≡ number_has symbol number }
 {
-    match number {
-        Number::Plain(_) => false,
-        Number::Symbol(s) => s == symbol,
-    }
+    number == Number::Symbol(symbol)
 }
 
 // Has this time two values, one for its block's first pass and one for the later ones?
 pub fn is_paired(time: Number) -> bool
     ensures { result ≡ paired time }
 {
-    match time {
-        Number::Plain(_) => false,
-        Number::Symbol(s) => (FIRST_PAIRED_SYMBOL <= s) & (s < HOW_MANY_SYMBOLS),
-    }
+    matches!(time, Number::Symbol(FIRST_PAIRED_SYMBOL..HOW_MANY_SYMBOLS))
 }
 
 // Is it a block with such a time?
 pub fn is_paired_block(kind: Kind) -> bool
     ensures { result ≡ paired_block kind }
 {
-    match kind {
-        Kind::Block(time) => is_paired(time),
-        Kind::Sequence => false,
-        Kind::Choice => false,
-        Kind::Loop(_) => false,
-    }
+    matches!(kind, Kind::Block(time) if is_paired(time))
 }
 
 // ---- Fields
-
-// A byte as a wider number.
-fn widen(x: u8) -> usize
-    ensures { (result ≡ x) × (result < 256) }
-{
-    x as usize
-}
-
-// The number that four bytes write, lowest first.
-fn four_bytes(b0: u8, b1: u8, b2: u8, b3: u8) -> u64
-    ensures { (result ≡ b0 + 256 * (b1 + 256 * (b2 + 256 * b3))) × (result < 2 ^ 32) }
-{
-    (b0 as u64) + 256 * ((b1 as u64) + 256 * ((b2 as u64) + 256 * (b3 as u64)))
-}
 
 // The field of four bytes that starts at `at`.
 pub fn read_u32(b: &[u8], at: usize) -> u64
     requires { at + 4 ≤ length b.now }
     ensures { (result ≡ field b.now at 4) × (result < 2 ^ 32) }
 {
-    four_bytes(b[at], b[at + 1], b[at + 2], b[at + 3])
+    u64::from(u32::from_le_bytes([b[at], b[at + 1], b[at + 2], b[at + 3]]))
 }
 
-// The field of eight bytes that starts at `at`.
+// The field of eight bytes that starts at `at`. Its bytes one by one, which the compiler makes one load: by `first_chunk` checking a table takes a fifth
+// more instructions.
 pub fn read_u64(b: &[u8], at: usize) -> u64
     requires { at + 8 ≤ length b.now }
     ensures { result ≡ field b.now at 8 }
 {
-    read_u32(b, at) + 4294967296 * read_u32(b, at + 4)
+    u64::from_le_bytes([
+        b[at],
+        b[at + 1],
+        b[at + 2],
+        b[at + 3],
+        b[at + 4],
+        b[at + 5],
+        b[at + 6],
+        b[at + 7],
+    ])
 }
 
 // ---- The node of a record
@@ -191,8 +177,7 @@ pub fn read_kind(b: &[u8]) -> Kind
     requires { record_length ≤ length b.now }
     ensures { result ≡ (first_node b.now).kind }
 {
-    let value = number_from(b[1] % 2, read_u64(b, 8));
-    kind_from(b[0], value)
+    kind_from(b[0], number_from(b[1] % 2, read_u64(b, 8)))
 }
 
 // Its limit, whose number is read only where there is one: most nodes have none.
@@ -221,11 +206,9 @@ pub fn read_node(b: &[u8]) -> Node
     requires { record_length ≤ length b.now }
     ensures { result ≡ first_node b.now }
 {
-    let kind = read_kind(b);
-    let limit = read_limit(b);
     Node {
-        kind: kind,
-        limit: limit,
+        kind: read_kind(b),
+        limit: read_limit(b),
         address: read_address(b),
     }
 }
@@ -235,7 +218,7 @@ pub fn child_count(b: &[u8]) -> usize
     requires { record_length ≤ length b.now }
     ensures { (result ≡ child_byte b.now) × (result < 256) }
 {
-    widen(b[2])
+    usize::from(b[2])
 }
 
 // Has the record at the front of `b` no flag 4, where question 2 says yes of it?
@@ -295,23 +278,28 @@ pub fn length_allowed(table: &[u8]) -> bool
 fn kind_listed(kind: u8, children: u8, flag: u8, value: u64) -> bool
     ensures { result ≡ kind_listed kind children flag value }
 {
-    (kind == 0) & (children == 0)
-        | (kind == 3) & (children == 2)
-        | ((kind == 1) | (kind == 2)) & (1 <= children) & (flag == 0) & (value == 0)
+    match kind {
+        0 => children == 0,
+        1 | 2 => (1 <= children) & (flag == 0) & (value == 0),
+        3 => children == 2,
+        _ => false,
+    }
 }
 
 fn limit_listed(named: u8, flags: u8, most: u64) -> bool
     ensures { result ≡ limit_listed named flags most }
 {
-    (1 <= named) & (named <= MOST_LOOPS)
-        | (named == WHOLE_RUN)
-        | (named == 0) & (flags == 0) & (most == 0)
+    match named {
+        0 => (flags == 0) & (most == 0),
+        1..=MOST_LOOPS | WHOLE_RUN => true,
+        _ => false,
+    }
 }
 
 fn flags_listed(flags: u8) -> bool
     ensures { result ≡ flags_listed flags }
 {
-    (flags != 2) & (flags <= 3)
+    matches!(flags, 0 | 1 | 3)
 }
 
 fn fill_listed(b20: u8, b21: u8, b22: u8, b23: u8) -> bool
@@ -332,20 +320,25 @@ fn record_listed(b: &[u8]) -> bool
     kind & limit & flags_listed(flags / 2) & fill
 }
 
+// Does every record pass the test? It is lent the part of the table that starts with its record.
+pub fn every_record<F: Fn(&[u8]) -> bool>(table: &[u8], test: F) -> bool
+    requires { TakesRecords F.Fn test }
+    ensures { (p : List ℕ → Bool) → TestsRecords F.Fn test p → result ≡ each p (record_count table.now) table.now }
+{
+    for i in 0..table.len() / RECORD_LENGTH {
+        let at = RECORD_LENGTH * i;
+        if !test(&table[at..]) {
+            return false;
+        }
+    }
+    true
+}
+
 // Are the fields of every record as listed?
 pub fn records_listed(table: &[u8]) -> bool
     ensures { result ≡ question2 table.now }
 {
-    let n = table.len() / RECORD_LENGTH;
-    let mut i: usize = 0;
-    while i < n {
-        let at = RECORD_LENGTH * i;
-        if !record_listed(&table[at..]) {
-            return false;
-        }
-        i += 1;
-    }
-    true
+    every_record(table, record_listed)
 }
 
 // ---- Question 3
@@ -383,8 +376,7 @@ fn kind_in_range(kind: Kind) -> bool
 {
     match kind {
         Kind::Block(time) => time_in_range(time),
-        Kind::Sequence => true,
-        Kind::Choice => true,
+        Kind::Sequence | Kind::Choice => true,
         Kind::Loop(bound) => count_in_range(bound),
     }
 }
@@ -411,16 +403,7 @@ fn record_in_range(b: &[u8]) -> bool
 pub fn records_in_range(table: &[u8]) -> bool
     ensures { result ≡ question3 table.now }
 {
-    let n = table.len() / RECORD_LENGTH;
-    let mut i: usize = 0;
-    while i < n {
-        let at = RECORD_LENGTH * i;
-        if !record_in_range(&table[at..]) {
-            return false;
-        }
-        i += 1;
-    }
-    true
+    every_record(table, record_in_range)
 }
 
 // ---- Question 4
@@ -430,28 +413,22 @@ pub fn one_tree(table: &[u8]) -> bool
     requires { length table.now ≤ record_length * most_records }
     ensures { result ≡ question4 table.now }
 {
-    let n = table.len() / RECORD_LENGTH;
     let mut wanted: usize = 1;
-    let mut i: usize = 0;
-    while i < n {
+    for i in 0..table.len() / RECORD_LENGTH {
         if wanted == 0 {
             return false;
         }
-        let at = RECORD_LENGTH * i;
-        wanted = wanted - 1 + child_count(&table[at..]);
-        i += 1;
+        wanted = wanted - 1 + children_at(table, i);
     }
     wanted == 0
 }
 
 // ---- Questions 5 to 7
 
-// What a walk finds of a tree, or of several in a row: how many records, whether they are as question 5 asks, whether question 6 says yes, and
-// question 7's sum. Of trees that are not as question 5 asks it finds nothing else.
+// What a walk finds of a tree that is as question 5 asks, or of several in a row: how many records, whether question 6 says yes, and question 7's sum.
 #[derive(Clone, Copy)]
 pub struct Survey {
     pub records: usize,
-    pub fits: bool,
     pub named: bool,
     pub weight: u64,
 }
@@ -462,9 +439,7 @@ pub fn loops_inside(kind: Kind, outer: u8) -> u8
     ensures { result ≡ around kind outer }
 {
     match kind {
-        Kind::Block(_) => outer,
-        Kind::Sequence => outer,
-        Kind::Choice => outer,
+        Kind::Block(_) | Kind::Sequence | Kind::Choice => outer,
         Kind::Loop(_) => outer + 1,
     }
 }
@@ -483,7 +458,7 @@ fn power_of_two(n: u8) -> u64
     requires { n ≤ most_loops }
     ensures { (result ≡ 2 ^ n) × (result ≤ most_share) }
 {
-    1 << (n as u64)
+    1 << n
 }
 
 // What a limit that names this loop adds to question 7's sum.
@@ -491,16 +466,11 @@ fn name_share(name: u8, outer: u8) -> u64
     requires { outer ≤ most_loops }
     ensures { (result ≡ name_share name outer) × (result ≤ most_share) }
 {
-    if name == WHOLE_RUN {
-        return power_of_two(outer);
+    match name {
+        WHOLE_RUN => power_of_two(outer),
+        1..=MOST_LOOPS => power_of_two(name - 1),
+        _ => 0,
     }
-    if name == 0 {
-        return 0;
-    }
-    if MOST_LOOPS < name {
-        return 0;
-    }
-    power_of_two(name - 1)
 }
 
 fn limit_share(limit: Limit, outer: u8) -> u64
@@ -526,30 +496,20 @@ fn paired_share(kind: Kind, outer: u8) -> u64
 }
 
 impl Survey {
-    // Of a tree that is not as question 5 asks.
-    const UNFIT: Survey = Survey {
-        records: 0,
-        fits: false,
-        named: false,
-        weight: 0,
-    };
-
     // Of no tree at all.
     const EMPTY: Survey = Survey {
         records: 0,
-        fits: true,
         named: true,
         weight: 0,
     };
 
-    // Trees that fit, and the next one, which fits too.
+    // Trees, and the next one.
     fn with_next(self, next: Survey) -> Survey
         requires { (self.records + next.records ≤ most_records) × (self.weight + next.weight ≤ node_share * most_records) }
         ensures { result ≡ with_next self next }
     {
         Survey {
             records: self.records + next.records,
-            fits: true,
             named: self.named & next.named,
             weight: self.weight + next.weight,
         }
@@ -560,27 +520,17 @@ impl Survey {
         requires { (outer ≤ most_loops) × (self.records ≤ most_records) × (self.weight ≤ node_share * self.records) }
         ensures { (result ≡ with_parent node outer self) × (result.records ≤ self.records + 1) × (result.weight ≤ node_share * result.records) }
     {
-        let kind = node.kind;
-        let limit = node.limit;
-        if self.fits {
-            Survey {
-                records: self.records + 1,
-                fits: true,
-                named: names_loop(limit, outer) & self.named,
-                weight: limit_share(limit, outer) + paired_share(kind, outer) + self.weight,
-            }
-        } else {
-            Survey::UNFIT
+        Survey {
+            records: self.records + 1,
+            named: names_loop(node.limit, outer) & self.named,
+            weight: limit_share(node.limit, outer) + paired_share(node.kind, outer) + self.weight,
         }
     }
 
-    // Questions 5 to 7: the first that says no.
+    // Questions 6 and 7: the first that says no.
     pub fn accept(self) -> Result<(), Refusal>
-        ensures { refused (answer result) ≡ survey_refusal self }
+        ensures { refused (answer result) ≡ fitting_refusal self }
     {
-        if !self.fits {
-            return Err(Refusal::Depth);
-        }
         if !self.named {
             return Err(Refusal::Names);
         }
@@ -589,77 +539,71 @@ impl Survey {
         }
         Ok(())
     }
-
-    // The first of questions 5 to 7 that says no, or 0.
-    pub fn refusal(self) -> u64
-        ensures { result ≡ survey_refusal self }
-    {
-        if self.fits {
-            if self.named {
-                if self.weight <= MOST_WEIGHT { 0 } else { 7 }
-            } else {
-                6
-            }
-        } else {
-            5
-        }
-    }
 }
 
 // The node at the front of `table` with everything below it, at most `depth` nodes deep, with `outer` loops around it.
 #[cycle(survey_children_survey_node)]
-fn survey_node(table: &[u8], depth: usize, outer: u8) -> Survey
+fn survey_node(table: &[u8], depth: usize, outer: u8) -> Option<Survey>
     requires { length table.now ≤ record_length * most_records }
     ensures value { result ≡ survey_node depth outer table.now }
-    ensures small { Small table.now result }
+    ensures small { IfSome result (Small table.now) }
 {
     if depth == 0 {
-        return Survey::UNFIT;
+        return None;
     }
     if table.len() < RECORD_LENGTH {
-        return Survey::UNFIT;
+        return None;
     }
     if MOST_LOOPS < outer {
-        return Survey::UNFIT;
+        return None;
     }
     let node = read_node(table);
-    let kind = node.kind;
     let count = child_count(table);
-    let first = loops_inside(kind, outer);
-    let below = survey_children(&table[RECORD_LENGTH..], depth - 1, first, outer, count);
-    below.with_parent(node, outer)
+    let first = loops_inside(node.kind, outer);
+    let below = survey_children(&table[RECORD_LENGTH..], depth - 1, first, outer, count)?;
+    Some(below.with_parent(node, outer))
 }
 
 // The `count` children at the front of `table`, each at most `depth` nodes deep, with `first` loops around the first and `others` around the others.
 // A child that does not fit ends the walk: it tells no place for the next, and so no record is read twice.
 #[cycle(survey_children_survey_node)]
-fn survey_children(table: &[u8], depth: usize, first: u8, others: u8, count: usize) -> Survey
+fn survey_children(
+    table: &[u8],
+    depth: usize,
+    first: u8,
+    others: u8,
+    count: usize,
+) -> Option<Survey>
     requires { length table.now ≤ record_length * most_records }
     ensures value { result ≡ survey_children depth first others count table.now }
-    ensures small { Small table.now result }
+    ensures small { IfSome result (Small table.now) }
 {
     let mut found = Survey::EMPTY;
     let mut outer = first;
-    let mut left = count;
-    while 0 < left {
+    for _i in 0..count {
         let at = RECORD_LENGTH * found.records;
-        let child = survey_node(&table[at..], depth, outer);
-        if !child.fits {
-            return Survey::UNFIT;
-        }
+        let child = survey_node(&table[at..], depth, outer)?;
         found = found.with_next(child);
         outer = others;
-        left = left - 1;
     }
-    found
+    Some(found)
 }
 
 // The tree of a table. Where questions 1 to 4 say yes, this answers 5 to 7.
-pub fn survey_table(table: &[u8]) -> Survey
+pub fn survey_table(table: &[u8]) -> Option<Survey>
     requires { length table.now ≤ record_length * most_records }
     ensures { result ≡ survey_node most_depth 0 table.now }
 {
     survey_node(table, MOST_DEPTH, 0)
+}
+
+// Questions 5 to 7 of a table of which 1 to 4 say yes: the first that says no.
+pub fn accept_tree(table: &[u8]) -> Result<(), Refusal>
+    requires { length table.now ≤ record_length * most_records }
+    ensures { refused (answer result) ≡ survey_refusal (survey_node most_depth 0 table.now) }
+{
+    let survey = survey_table(table).ok_or(Refusal::Depth)?;
+    survey.accept()
 }
 
 // ---- Questions 1 to 7
@@ -680,24 +624,15 @@ pub fn accept(table: &[u8]) -> Result<(), Refusal>
     if !one_tree(table) {
         return Err(Refusal::Tree);
     }
-    survey_table(table).accept()
+    accept_tree(table)
 }
 
-// The number of the first question that says no, or 0: each is put to the whole table before the next.
+// The number of the first question that says no, or 0.
 pub fn refusal_of(table: &[u8]) -> u64
     ensures { result ≡ refusal table.now }
 {
-    if !length_allowed(table) {
-        return 1;
+    match accept(table) {
+        Ok(()) => 0,
+        Err(refusal) => u64::from(refusal),
     }
-    if !records_listed(table) {
-        return 2;
-    }
-    if !records_in_range(table) {
-        return 3;
-    }
-    if !one_tree(table) {
-        return 4;
-    }
-    survey_table(table).refusal()
 }

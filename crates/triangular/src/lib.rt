@@ -1,9 +1,9 @@
-// Document 02's third request: the triangular numbers, as a constant table.
+// Document 02's third request: the triangular numbers, as a table.
 #![tactic(auto)]
 
-ghost use Rattle.std.specs.Prelude.{◌≡◌, ◌*◌, min, length};
-ghost use Rattle.triangular.specs.Triangular.{most_triangular, triangular};
-ghost use Rattle.triangular.specs.Entries.{Triangles, entries};
+ghost use Rattle.std.specs.Prelude.{◌≡◌, ◌*◌, length};
+ghost use Rattle.triangular.specs.Triangular.{triangular};
+ghost use Rattle.triangular.specs.Entries.{Triangles};
 
 // The largest number whose triangular number stands in the table.
 pub const MOST_TRIANGULAR: u64 = 1_000;
@@ -13,37 +13,22 @@ pub fn with_triangles(values: &[u64], out: &mut [u64])
     requires { length out.old ≡ 2 * length values.now }
     ensures { Triangles values.now out.new }
 {
-    let table = TRIANGULAR;
     let n = values.len();
-    let mut i = 0;
-    while i < n {
-        let value = values[i];
-        out[i] = value;
-        out[n + i] = look_up(&table, value);
-        i += 1;
+    for (i, value) in values.iter().enumerate() {
+        out[i] = *value;
+        out[n + i] = look_up(*value);
     }
 }
 
 // The triangular number of n, or of the largest where n is above it.
-fn look_up(table: &[u32], n: u64) -> u64
-    requires { table.now ≡ entries }
+fn look_up(n: u64) -> u64
     ensures { result ≡ triangular n }
 {
-    table[place_of(n)] as u64
+    u64::from(TRIANGULAR[n.min(MOST_TRIANGULAR) as usize])
 }
 
-fn place_of(n: u64) -> usize
-    ensures { result ≡ min n most_triangular }
-{
-    if n < MOST_TRIANGULAR {
-        n as usize
-    } else {
-        MOST_TRIANGULAR as usize
-    }
-}
-
-// Entry n is n * (n + 1) / 2. Of 32 bits, since Rattle has no statics: what looks numbers up first writes the whole table to the stack.
-const TRIANGULAR: [u32; 1001] = [
+// Entry n is n * (n + 1) / 2.
+static TRIANGULAR: [u32; 1001] = [
     0, 1, 3, 6, 10, 15, 21, 28, 36, 45, 55, 66, 78, 91, 105, 120, 136, 153, 171, 190, 210, 231,
     253, 276, 300, 325, 351, 378, 406, 435, 465, 496, 528, 561, 595, 630, 666, 703, 741, 780, 820,
     861, 903, 946, 990, 1035, 1081, 1128, 1176, 1225, 1275, 1326, 1378, 1431, 1485, 1540, 1596,

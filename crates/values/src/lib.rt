@@ -11,7 +11,7 @@ ghost use Rattle.values.specs.Values.{ceiling, question13, question14, question9
 use refusals::Refusal;
 use table::{
     FIRST_PAIRED_SYMBOL, FIRST_TIME_SYMBOL, HOW_MANY_SYMBOLS, HOW_MANY_VALUES, LATER_PLACE, Limit,
-    MOST_COUNT, MOST_TIME, Most, RECORD_LENGTH,
+    MOST_COUNT, MOST_TIME, Most,
 };
 use triangular::MOST_TRIANGULAR;
 
@@ -33,12 +33,10 @@ fn values_allowed(values: &[u64]) -> bool
     if values.len() != HOW_MANY_VALUES {
         return false;
     }
-    let mut i = 0;
-    while i < HOW_MANY_VALUES {
-        if ceiling_of(i) < values[i] {
+    for (i, value) in values.iter().enumerate() {
+        if ceiling_of(i) < *value {
             return false;
         }
-        i += 1;
     }
     true
 }
@@ -48,8 +46,7 @@ fn triangle_small(most: Most, values: &[u64]) -> bool
     ensures { result ≡ triangle_small (values_of values.now) most }
 {
     match most {
-        Most::Plain(_) => true,
-        Most::Symbol(_) => true,
+        Most::Plain(_) | Most::Symbol(_) => true,
         Most::Triangular(symbol) => evaluate::value_of(symbol, values) <= MOST_TRIANGULAR,
     }
 }
@@ -73,17 +70,7 @@ fn record_small(b: &[u8], values: &[u64]) -> bool
 pub fn flag_free(table: &[u8]) -> bool
     ensures { result ≡ flag_free table.now }
 {
-    let n = table.len() / RECORD_LENGTH;
-    let mut i: usize = 0;
-    while i < n {
-        let at = RECORD_LENGTH * i;
-        // Before the test, so that the loop compiles to fewer instructions.
-        i += 1;
-        if !table::without_four(&table[at..]) {
-            return false;
-        }
-    }
-    true
+    table::every_record(table, table::without_four)
 }
 
 // Question 13 of a table.
@@ -91,32 +78,18 @@ fn triangles_small(table: &[u8], values: &[u64], free: bool) -> bool
     requires { free ≡ flag_free table.now }
     ensures { result ≡ question13 table.now values.now }
 {
-    if free {
-        return true;
-    }
-    let n = table.len() / RECORD_LENGTH;
-    let mut i: usize = 0;
-    while i < n {
-        let at = RECORD_LENGTH * i;
-        if !record_small(&table[at..], values) {
-            return false;
-        }
-        i += 1;
-    }
-    true
+    free || table::every_record(table, |record| record_small(record, values))
 }
 
 // Question 14: is no later value of a paired symbol above its first, used or not?
 fn laters_low(values: &[u64]) -> bool
     ensures { result ≡ question14 values.now }
 {
-    let mut s = FIRST_PAIRED_SYMBOL;
-    while s < HOW_MANY_SYMBOLS {
+    for s in FIRST_PAIRED_SYMBOL..HOW_MANY_SYMBOLS {
         let later = evaluate::value_of(s + LATER_PLACE as u64, values);
         if evaluate::value_of(s, values) < later {
             return false;
         }
-        s += 1;
     }
     true
 }
@@ -138,19 +111,13 @@ pub fn accept(table: &[u8], values: &[u64], free: bool) -> Result<(), Refusal>
     Ok(())
 }
 
-// The first question about a desk's values for a table that says no, or 0: each call that is lent both asks here.
+// The number of that question, or 0.
 pub fn values_refusal(table: &[u8], values: &[u64], free: bool) -> u64
     requires { free ≡ flag_free table.now }
     ensures { result ≡ values_refusal table.now values.now }
 {
-    let allowed = values_allowed(values);
-    let small = triangles_small(table, values, free);
-    let low = laters_low(values);
-    if !allowed {
-        return 9;
+    match accept(table, values, free) {
+        Ok(()) => 0,
+        Err(refusal) => u64::from(refusal),
     }
-    if !small {
-        return 13;
-    }
-    if low { 0 } else { 14 }
 }

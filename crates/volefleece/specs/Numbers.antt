@@ -12,8 +12,6 @@ use Rattle.retime.specs.Promises.{PreviewPromised}
 use Rattle.retime.specs.declared.Previewed.{Previewed}
 use Rattle.simplifying.specs.Answers.{simplified_finished, simplified_length, simplified_steps}
 use Rattle.simplifying.specs.declared.Simplified.{Simplified}
-use Rattle.fill.specs.Answers.{filled_length, filled_refusal}
-use Rattle.fill.specs.declared.Filled.{Filled}
 use Rattle.volefleece.specs.declared.VfChecked.{VfChecked}
 use Rattle.volefleece.specs.declared.VfWritten.{VfWritten}
 use Rattle.volefleece.specs.declared.VfFigureAnswer.{VfFigureAnswer}
@@ -44,11 +42,11 @@ pub record SimplifiedAs (r : VfSimplified) (answer : Answer Simplified) : Type 0
   pub steps : r.steps ≡ simplified_steps answer
   pub finished : r.finished ≡ simplified_finished answer
 
-abbrev pub FilledAs : VfWritten → Filled → Type 0
-FilledAs r answer = (r.refused ≡ filled_refusal answer) × (r.length ≡ filled_length answer)
+abbrev pub FilledAs : VfWritten → Answer ℕ → Type 0
+FilledAs r answer = (r.refused ≡ refused answer) × (r.length ≡ given answer)
 
-abbrev pub OpenedAs : VfWritten → Filled → Type 0
-OpenedAs r answer = (r.refused ≡ filled_refusal answer) × (r.length ≡ filled_length answer)
+abbrev pub OpenedAs : VfWritten → Answer ℕ → Type 0
+OpenedAs r answer = (r.refused ≡ refused answer) × (r.length ≡ given answer)
 
 pub record PreviewedAs (r : VfPreviewed) (answer : Answer Previewed) : Type 0 where
   pub refused : r.refused ≡ refused answer

@@ -10,7 +10,7 @@ ghost use Rattle.table.specs.Table.{decode};
 ghost use Rattle.writing.specs.Over.{over};
 ghost use Rattle.simplifying.specs.Answers.{simplify_answer, simplify_writes};
 ghost use Rattle.simplifying.specs.Demand.{Demand3};
-ghost use Rattle.graft.specs.Answers.{graft_answer, graft_writes, grafted_length, grafted_refusal};
+ghost use Rattle.graft.specs.Answers.{graft_answer, graft_writes};
 ghost use Rattle.graft.specs.Promises.{GraftPromised};
 ghost use Rattle.marking.specs.Marks.{mark_length};
 ghost use Rattle.fill.specs.Answers.{fill_answer, fill_marks, fill_writes, open_answer, open_writes};
@@ -18,14 +18,11 @@ ghost use Rattle.fill.specs.Promises.{FillPromised, OpenPromised};
 ghost use Rattle.retime.specs.Answers.{commit_answer, commit_leaves, preview_answer};
 ghost use Rattle.retime.specs.Promises.{CommitPromises};
 ghost use Rattle.former.specs.Former.{former_length};
-ghost use Rattle.former.specs.Converted.{Converts, conversion_length, conversion_refusal, convert_answer, convert_writes};
+ghost use Rattle.former.specs.Converted.{Converts, convert_answer, convert_writes};
 ghost use Rattle.formerquotes.specs.Answers.{Agrees};
 ghost use Rattle.volefleece.specs.Numbers.{BranchPromised, CheckedAs, CommittedAs, FigurePromised, FigureRises, FiguresPromised, FilledAs, OpenedAs, PreviewedAs, QuotedAs, SimplifiedAs};
 ghost use Rattle.volefleece.specs.BothDesks.{AskedInC, quoted_by, simplified_by};
 
-use fill::Filled;
-use former::Conversion;
-use graft::Grafted;
 use refusals::Refusal;
 
 // The number of a refusal, 0 for none, and the number that was asked for, 0 where there is none.
@@ -139,21 +136,12 @@ pub struct VfWritten {
 
 #[unsafe(no_mangle)]
 pub extern "C" fn vf_graft(host: &[u8], sent: &[u8], symbol: u64, out: &mut [u8]) -> VfWritten
-    ensures answer { (result.refused ≡ grafted_refusal (graft_answer host.now sent.now symbol out.old)) × (result.length ≡ grafted_length (graft_answer host.now sent.now symbol out.old)) }
+    ensures answer { (result.refused ≡ refused (graft_answer host.now sent.now symbol out.old)) × (result.length ≡ given (graft_answer host.now sent.now symbol out.old)) }
     ensures promise { result.refused ≡ 0 → GraftPromised host.now sent.now symbol (take result.length out.new) }
     ensures written { out.new ≡ over (graft_writes host.now sent.now symbol out.old) out.old }
 {
-    let answer = graft::graft(host, sent, symbol, out);
-    match answer {
-        Grafted::Written(bytes) => VfWritten {
-            refused: 0,
-            length: bytes as u64,
-        },
-        Grafted::Refused(question) => VfWritten {
-            refused: question,
-            length: 0,
-        },
-    }
+    let (refused, length) = numbers_of(graft::graft(host, sent, symbol, out));
+    VfWritten { refused, length }
 }
 
 #[unsafe(no_mangle)]
@@ -169,17 +157,8 @@ pub extern "C" fn vf_fill(
     ensures written { out.new ≡ over (fill_writes table.now symbol number out.old marks.old) out.old }
     ensures marked { marks.new ≡ over (fill_marks table.now symbol number out.old marks.old) marks.old }
 {
-    let answer = fill::fill(table, symbol, number, out, marks);
-    match answer {
-        Filled::Written(written) => VfWritten {
-            refused: 0,
-            length: written as u64,
-        },
-        Filled::Refused(why) => VfWritten {
-            refused: why,
-            length: 0,
-        },
-    }
+    let (refused, length) = numbers_of(fill::fill(table, symbol, number, out, marks));
+    VfWritten { refused, length }
 }
 
 #[unsafe(no_mangle)]
@@ -194,17 +173,8 @@ pub extern "C" fn vf_open(
     ensures promise { result.refused ≡ 0 → OpenPromised table.now symbol number (take result.length out.new) }
     ensures written { out.new ≡ over (open_writes table.now marks.now symbol number out.old) out.old }
 {
-    let answer = fill::open(table, marks, symbol, number, out);
-    match answer {
-        Filled::Written(restored) => VfWritten {
-            refused: 0,
-            length: restored as u64,
-        },
-        Filled::Refused(reason) => VfWritten {
-            refused: reason,
-            length: 0,
-        },
-    }
+    let (refused, length) = numbers_of(fill::open(table, marks, symbol, number, out));
+    VfWritten { refused, length }
 }
 
 // ---- Retiming
@@ -262,22 +232,13 @@ pub extern "C" fn vf_commit(table: &mut [u8], place: u64, old: u64, new: u64) ->
 
 #[unsafe(no_mangle)]
 pub extern "C" fn vf_convert(old: &[u8], out: &mut [u8]) -> VfWritten
-    ensures answer { (result.refused ≡ conversion_refusal (convert_answer old.now out.old)) × (result.length ≡ conversion_length (convert_answer old.now out.old)) }
+    ensures answer { (result.refused ≡ refused (convert_answer old.now out.old)) × (result.length ≡ given (convert_answer old.now out.old)) }
     ensures written { out.new ≡ over (convert_writes old.now out.old) out.old }
     ensures promise { Converts old.now }
     ensures quotes { length old.now % former_length ≡ 0 → Agrees old.now }
 {
-    let answer = former::convert(old, out);
-    match answer {
-        Conversion::Written(len) => VfWritten {
-            refused: 0,
-            length: len as u64,
-        },
-        Conversion::Refused(no) => VfWritten {
-            refused: no,
-            length: 0,
-        },
-    }
+    let (refused, length) = numbers_of(former::convert(old, out));
+    VfWritten { refused, length }
 }
 
 // ---- The calls together

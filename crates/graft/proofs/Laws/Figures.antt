@@ -13,8 +13,8 @@ use Rattle.table.specs.Checking.{IsTable}
 use Rattle.evaluate.specs.Evaluate.{branch, figure, fits, values_of}
 use Rattle.evaluate.proofs.Laws.Ranges.{figure-most}
 use Rattle.values.specs.Values.{question13, triangle_small}
-use Rattle.quoting.specs.Answers.{figure_answer, quoted_figure}
 use Rattle.refusals.specs.Refusals.{refused}
+use Rattle.quoting.specs.Answers.{figure_answer, quoted_figure}
 use Rattle.quoting.proofs.Laws.Figures.{checked-accepted, figure-is, figured, quotes-alike}
 use Rattle.values.proofs.Laws.Set.{fourteen-set, nine-set, set_other, set_value, values-set}
 use Rattle.values.proofs.Laws.Values.{refusals-alike, thirteen-limits, time-ceiling, value-ranged, values-carry, values-long, values-nine, values-thirteen}

@@ -10,12 +10,10 @@ pub returns-then-a-ne0 : goal.returns-then-a-ne0
 unfolding Probed
 returns-then-a-ne0 c = ((λ same. c.if-a-ne0.true same.1), refl)
 
-pub returns-in-Differ : goal.returns-in-Differ
+pub returns-in-Some : goal.returns-in-Some
 unfolding Probed
-returns-in-Differ c =
-    ((c.if-a-b.false, c.if-a-ne0.false), rw c.in-Differ.is at c.compare-compared.ensures)
+returns-in-Some c = ((c.if-a-b.false, c.if-a-ne0.false), c.in-Some.ensures)
 
-pub returns-in-Equal : goal.returns-in-Equal
+pub returns-in-None : goal.returns-in-None
 unfolding Probed
-returns-in-Equal c =
-    ((c.if-a-b.false, c.if-a-ne0.false), (rw c.in-Equal.is at c.compare-compared.ensures, refl))
+returns-in-None c = ((c.if-a-b.false, c.if-a-ne0.false), (c.in-None.ensures, refl))

@@ -45,7 +45,8 @@ overflow_mul-n c = let walk = c.walk-found.ensures in omega (arith, (walk.shows.
 pub write_front-requires : goal.write_front-requires
 write_front-requires c =
     let walk = c.walk-found.ensures.shows in
-    (walk.room, omega (arith, (walk.list c.if-found.true).proper.room), c.if-out-lt-LIST_ROOM.false)
+    let room = (walk.list c.if-found.true).proper.room in
+    (omega (arith, room, walk.room), omega (arith, room, c.if-out-lt-LIST_ROOM.false))
 
 pub returns-then-found : goal.returns-then-found
 returns-then-found c =

@@ -38,6 +38,16 @@ field-4 b i =
     let three : i + 3 ≡ suc (suc (suc i)) = omega arith in
     rw (one, two, three) (omega (arith, field-more b i 3, field-more b (suc i) 2, field-more b (suc (suc i)) 1, field-more b (suc (suc (suc i))) 0))
 
+pub field-8 : (b : List ℕ) (i : ℕ)
+    → field b i 8
+    ≡ get_or b i 0 + 256 * (get_or b (i + 1) 0 + 256 * (get_or b (i + 2) 0 + 256 * (get_or b (i + 3) 0 + 256 * (get_or b (i + 4) 0 + 256 * (get_or b (i + 5) 0 + 256 * (get_or b (i + 6) 0 + 256 * get_or b (i + 7) 0))))))
+field-8 b i =
+    let five : i + 4 + 1 ≡ i + 5 = omega arith in
+    let six : i + 4 + 2 ≡ i + 6 = omega arith in
+    let seven : i + 4 + 3 ≡ i + 7 = omega arith in
+    let high = rw (five, six, seven) at (field-4 b (i + 4)) in
+    omega (arith, field-split 4 b i 4, field-4 b i, high)
+
 -- ---- the cases that are left when a byte is none of the others
 
 pub is-symbol : (s n : ℕ) → (s ≡ 0 → ⊥) → Symbol n ≡ num_from s n

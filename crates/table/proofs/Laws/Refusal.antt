@@ -1,5 +1,5 @@
 -- The refusal's number, by the answers to the questions in their order; and what is put after them.
-use Rattle.std.specs.Prelude.{◌≡◌, Bool, List, [], ◌∷◌, ◌++◌, ℕ, ◌*◌, ◌≤◌, leb, length}
+use Rattle.std.specs.Prelude.{◌≡◌, Bool, Option, None, Some, List, [], ◌∷◌, ◌++◌, ℕ, ◌*◌, ◌≤◌, leb, length}
 use Rattle.std.proofs.Math.Path.{refl}
 use Rattle.std.proofs.Common.{ap, arith}
 use Rattle.std.proofs.Math.Bool.{true, false}
@@ -10,7 +10,7 @@ use Rattle.table.specs.Numbers.{record_length, most_records, most_weight}
 use Rattle.table.specs.Bytes.{AreBytes}
 use Rattle.table.specs.Table.{decode}
 use Rattle.table.specs.Asking.{Question, ◌asks◌, first_no}
-use Rattle.table.specs.Checking.{question1, question2, question3, question4, question5, question6, question7, questions, refusal}
+use Rattle.table.specs.Checking.{question1, question2, question3, question4, question6, question7, questions, refusal}
 use Rattle.table.specs.Survey.{survey_refusal}
 use Rattle.table.proofs.Laws.Asking.{numbered, passed, passes, stops}
 use Rattle.table.proofs.Laws.RoundTrip.{length-encode}
@@ -42,16 +42,15 @@ module _ (b : List ℕ) where
         no-4 e = rw (one, two, three, e) refl
 
         -- and 5 to 7 by the walk
-        pub surveyed : question4 b ≡ true → (s : Survey) → Answers b s → survey_refusal s ≡ refusal b
+        pub surveyed : question4 b ≡ true → (found : Option Survey) → Answers b found → survey_refusal found ≡ refusal b
         unfolding refusal questions first_no
-        surveyed four s a = go s.fits s.named (leb s.weight most_weight) a.five a.six a.seven
+        surveyed four None a = rw (one, two, three, four, a.five) refl
+        surveyed four (Some s) a = go s.named (leb s.weight most_weight) (a.six s refl) (a.seven s refl)
           where
-            go : (x y z : Bool) → question5 b ≡ x → (x ≡ true → question6 b ≡ y) → (x ≡ true → question7 b ≡ z)
-                → first_no (5 asks x ∷ 6 asks y ∷ 7 asks z ∷ []) ≡ first_no (questions b)
-            go true true true e f g = rw (one, two, three, four, e, f refl, g refl) refl
-            go true true false e f g = rw (one, two, three, four, e, f refl, g refl) refl
-            go true false z e f g = rw (one, two, three, four, e, f refl) refl
-            go false y z e f g = rw (one, two, three, four, e) refl
+            go : (y z : Bool) → question6 b ≡ y → question7 b ≡ z → first_no (6 asks y ∷ 7 asks z ∷ []) ≡ first_no (questions b)
+            go true true f g = rw (one, two, three, four, a.five, f, g) refl
+            go true false f g = rw (one, two, three, four, a.five, f, g) refl
+            go false z f g = rw (one, two, three, four, a.five, f) refl
 
 -- a table that is not refused is short
 pub accepted-short : (b : List ℕ) → AreBytes b → refusal b ≡ 0 → length b ≤ record_length * most_records

@@ -1,12 +1,12 @@
 -- Each return has the answers to the questions before it; the last has the walk's.
 use Rattle.std.specs.Prelude.{not}
 use Rattle.std.proofs.Math.Path.{ap}
-use mathlib.Core.Path.{sym, ◌∙◌, subst}
+use mathlib.Core.Path.{sym, ◌∙◌}
 use native.Mathlib.Omega.{arith}
 use borrow.Author.Tests.{not-true, not-false}
 use Rattle.booleans.specs.Laws.{is_T}
 use Rattle.table.specs.Bytes.{AreBytes}
-use Rattle.table.proofs.Laws.Survey.{Answers, answers}
+use Rattle.table.proofs.Laws.Survey.{answers}
 use Rattle.table.proofs.Laws.Refusal.{short, no-1, no-2, no-3, no-4, surveyed}
 use Rattle.table.proofs.accept.Goals as goal
 
@@ -35,8 +35,8 @@ returns-then-not-one_tree c =
     (sym c.records_in_range.ensures ∙ not-false _ (ap not c.if-not-records_in_range.false))
     (sym c.one_tree.ensures ∙ not-true _ (ap not c.if-not-one_tree.true))
 
-pub survey_table-requires : goal.survey_table-requires
-survey_table-requires c =
+pub accept_tree-requires : goal.accept_tree-requires
+accept_tree-requires c =
     short _ (sym c.length_allowed.ensures ∙ not-false _ (ap not c.if-not-length_allowed.false))
 
 pub returns : goal.returns
@@ -46,5 +46,4 @@ returns c =
     let three = sym c.records_in_range.ensures ∙ not-false _ (ap not c.if-not-records_in_range.false) in
     let four = sym c.one_tree.ensures ∙ not-false _ (ap not c.if-not-one_tree.false) in
     let bytes : AreBytes c.args.table.now = λ i. omega (arith, c.type_inv.table i) in
-    let walk = subst (Answers _) (sym c.survey_table.ensures) (answers _ bytes (is_T _ one) (is_T _ two) (is_T _ three) (is_T _ four)) in
-    c.accept.ensures ∙ surveyed _ one two three four _ walk
+    c.accept_tree.ensures ∙ surveyed _ one two three four _ (answers _ bytes (is_T _ one) (is_T _ two) (is_T _ three) (is_T _ four))

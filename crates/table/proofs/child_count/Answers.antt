@@ -1,5 +1,5 @@
 -- Byte 2 is what `child_byte` reads.
-use borrow.Author.Rules.{rules}
+use Rattle.std.proofs.Common.{rules}
 use Rattle.table.specs.Table.{child_byte}
 use Rattle.table.proofs.child_count.Goals as goal
 

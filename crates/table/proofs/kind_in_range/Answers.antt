@@ -1,5 +1,5 @@
 -- Each arm is told which constructor the kind is; a block and a loop pass on what their callee ensures.
-use borrow.Author.Rules.{rules}
+use Rattle.std.proofs.Common.{refl, inl, inr}
 use Rattle.table.specs.Questions.{kind_in_range}
 use Rattle.table.proofs.kind_in_range.Goals as goal
 
@@ -9,11 +9,7 @@ returns-in-Block c = rw c.in-Block.is c.time_in_range.ensures
 
 pub returns-in-Sequence : goal.returns-in-Sequence
 unfolding kind_in_range
-returns-in-Sequence c = search rules
-
-pub returns-in-Choice : goal.returns-in-Choice
-unfolding kind_in_range
-returns-in-Choice c = search rules
+returns-in-Sequence c = elim c.in-Sequence.is [ inl e ↦ rw e refl | inr e ↦ rw e refl ]
 
 pub returns-in-Loop : goal.returns-in-Loop
 unfolding kind_in_range

@@ -1,19 +1,10 @@
-use native.Mathlib.Numerals.{add-one}
-use borrow.Author.Rules.{rules}
+use Rattle.std.proofs.Common.{add-one, refl, inl, inr}
 use Rattle.table.specs.Trees.{around}
 use Rattle.table.proofs.loops_inside.Goals as goal
 
 pub returns-in-Block : goal.returns-in-Block
 unfolding around
-returns-in-Block c = search rules
-
-pub returns-in-Sequence : goal.returns-in-Sequence
-unfolding around
-returns-in-Sequence c = search rules
-
-pub returns-in-Choice : goal.returns-in-Choice
-unfolding around
-returns-in-Choice c = search rules
+returns-in-Block c = elim c.in-Block.is [ inl e ↦ rw e.1 refl | inr f ↦ elim f [ inl e ↦ rw e refl | inr e ↦ rw e refl ] ]
 
 pub returns-in-Loop : goal.returns-in-Loop
 unfolding around

@@ -1,12 +1,7 @@
-use mathlib.Core.Path.{refl}
+use Rattle.std.proofs.Common.{rules}
 use Rattle.table.specs.Questions.{number_has}
-use borrow.Author.Rules.{rules}
 use Rattle.table.proofs.number_has.Goals as goal
 
-pub returns-in-Plain : goal.returns-in-Plain
+pub returns : goal.returns
 unfolding number_has
-returns-in-Plain c = search rules
-
-pub returns-in-Symbol : goal.returns-in-Symbol
-unfolding number_has
-returns-in-Symbol c = rw c.in-Symbol.is refl
+returns c = search rules

@@ -1,19 +1,14 @@
-use mathlib.Core.Path.{refl}
-use native.Mathlib.Numerals.{add-one}
-use native.Mathlib.Omega.{arith}
+use Rattle.std.proofs.Common.{add-one, arith}
 use Rattle.values.proofs.Laws.Values.{all-ordered, one-exceeds, one-ordered}
 use Rattle.values.proofs.laters_low.Goals as goal
 
-pub loop-s-init : goal.loop-s-init
-loop-s-init c = (omega arith, refl)
-
 pub returns-then-value_of-later : goal.returns-then-value_of-later
 returns-then-value_of-later c =
-    one-exceeds _ _ (omega (arith, c.loop-s-test.true)) c.loop-s.invariant.1 (omega (arith, c.value_of-later.ensures, c.value_of.ensures, c.if-value_of-later.true))
+    one-exceeds _ _ (omega (arith, c.loop-s-test.true)) c.loop-s.invariant (omega (arith, c.value_of-later.ensures, c.value_of.ensures, c.if-value_of-later.true))
 
 pub loop-s-preserved : goal.loop-s-preserved
 loop-s-preserved c =
-    (omega (arith, c.loop-s-test.true), rw add-one (one-ordered _ _ (omega (arith, c.loop-s-test.true)) c.loop-s.invariant.1 (omega (arith, c.value_of-later.ensures, c.value_of.ensures, c.if-value_of-later.false))))
+    rw add-one (one-ordered _ _ (omega (arith, c.loop-s-test.true)) c.loop-s.invariant (omega (arith, c.value_of-later.ensures, c.value_of.ensures, c.if-value_of-later.false)))
 
 pub returns : goal.returns
-returns c = all-ordered _ _ (omega (arith, c.loop-s.invariant.0, c.loop-s-test.false)) c.loop-s.invariant.1
+returns c = all-ordered _ _ (omega arith) c.loop-s.invariant

@@ -1,5 +1,5 @@
 -- The comparison word by word: what it knows after k words, and that its contract leaves it one answer.
-use Rattle.std.specs.Prelude.{◌≡◌, List, ◌++◌, ℕ, ◌+◌, ◌*◌, ◌<◌, ◌≤◌, drop, length, take}
+use Rattle.std.specs.Prelude.{◌≡◌, List, Option, None, Some, ◌++◌, ℕ, ◌+◌, ◌*◌, ◌<◌, ◌≤◌, drop, length, take}
 use Rattle.std.proofs.Math.Path.{refl, ap, sym}
 use Rattle.std.proofs.Common.{ap₂, ◌∙◌, arith, take-add, take-take}
 use Rattle.std.proofs.Math.Seq.{drop-append_seam, take_all}
@@ -7,8 +7,6 @@ use Rattle.table.specs.Bytes.{AreBytes, from_bytes, to_bytes}
 use Rattle.table.specs.Table.{field}
 use Rattle.table.proofs.Laws.Canonical.{field_back}
 use Rattle.words.specs.Words.{Compared, SameWords, word, word_length}
-use Rattle.words.specs.declared.Comparison.{Comparison}
-use Rattle.words.specs.declared.Comparison.TheVariants.{Differ, Equal}
 
 -- the first k words agree
 abbrev pub Agree : List ℕ → List ℕ → ℕ → Type 0
@@ -36,7 +34,7 @@ module _ (a b : List ℕ) where
       let e : x ++ word j a ≡ y ++ word j b = sym (up_to a j) ∙ fewer (j + 1) k (omega (arith, l)) h ∙ up_to b j in
       sym (drop-append_seam x (word j a)) ∙ ap₂ (λ p q. drop (length p) q) (fewer j k (omega (arith, l)) h) e ∙ drop-append_seam y (word j b)
 
-  pub differs : (k : ℕ) {x y : ℕ} → Read a k x → Read b k y → Agree a b k → (x ≡ y → ⊥) → Compared a b (Differ k)
+  pub differs : (k : ℕ) {x y : ℕ} → Read a k x → Read b k y → Agree a b k → (x ≡ y → ⊥) → Compared a b (Some k)
   unfolding Compared
   differs k p q h e = ((λ j l. word-before j k l h), (λ w. e (p ∙ ap from_bytes w ∙ sym q)))
 
@@ -47,16 +45,16 @@ module _ (a b : List ℕ) where
       let back-b : to_bytes word_length (field b (word_length * k) word_length) ≡ word k b = field_back b (word_length * k) word_length h (omega (arith, l, s.0)) in
       up_to a k ∙ ap₂ ◌++◌ t (sym back_a ∙ ap (to_bytes word_length) (sym p ∙ e ∙ q) ∙ back-b) ∙ sym (up_to b k)
 
-  pub all-agree : SameWords a b → (k : ℕ) → length a ≤ word_length * k → Agree a b k → Compared a b Equal
+  pub all-agree : SameWords a b → (k : ℕ) → length a ≤ word_length * k → Agree a b k → Compared a b None
   unfolding Compared
   all-agree s k l h = sym (take_all (word_length * k) a l) ∙ h ∙ take_all (word_length * k) b (omega (arith, s.0, l))
 
-  pub one_answer : (r s : Comparison) → Compared a b r → Compared a b s → r ≡ s
+  pub one_answer : (r s : Option ℕ) → Compared a b r → Compared a b s → r ≡ s
   unfolding Compared
-  one_answer (Differ j) (Differ k) p q =
+  one_answer (Some j) (Some k) p q =
       let not-before : j < k → ⊥ = λ l. p.1 (q.0 j l) in
       let not_after : k < j → ⊥ = λ l. q.1 (p.0 k l) in
-      ap Differ (omega (arith, not-before, not_after))
-  one_answer (Differ j) Equal p q = absurd (p.1 (ap (word j) q))
-  one_answer Equal (Differ k) p q = absurd (q.1 (ap (word k) p))
-  one_answer Equal Equal p q = refl
+      ap Some (omega (arith, not-before, not_after))
+  one_answer (Some j) None p q = absurd (p.1 (ap (word j) q))
+  one_answer None (Some k) p q = absurd (q.1 (ap (word k) p))
+  one_answer None Equal p q = refl

@@ -7,14 +7,10 @@ pub returns-then-not-self : goal.returns-then-not-self
 unfolding first_no
 returns-then-not-self c = rw (not-true _ c.if-not-self.true) refl
 
-pub returns-then-not-self-2 : goal.returns-then-not-self-2
-unfolding first_no
-returns-then-not-self-2 c = rw (not-false _ c.if-not-self.false, not-true _ c.if-not-self-2.true) refl
-
 pub returns-then-self-gt-MOST_WEIGHT : goal.returns-then-self-gt-MOST_WEIGHT
 unfolding first_no
-returns-then-self-gt-MOST_WEIGHT c = rw (not-false _ c.if-not-self.false, not-false _ c.if-not-self-2.false, lt-leb _ _ c.if-self-gt-MOST_WEIGHT.true) refl
+returns-then-self-gt-MOST_WEIGHT c = rw (not-false _ c.if-not-self.false, lt-leb _ _ c.if-self-gt-MOST_WEIGHT.true) refl
 
 pub returns : goal.returns
 unfolding first_no
-returns c = rw (not-false _ c.if-not-self.false, not-false _ c.if-not-self-2.false, le-leb _ _ c.if-self-gt-MOST_WEIGHT.false) refl
+returns c = rw (not-false _ c.if-not-self.false, le-leb _ _ c.if-self-gt-MOST_WEIGHT.false) refl
