@@ -1,6 +1,7 @@
 -- Document 02, CR 8: what filling and opening answer for any input, and the bytes that they write.
 use Rattle.std.specs.Prelude.{Bool, true, not, ◌&&◌, List, [], ◌∷◌, ◌++◌, ℕ, eqb, leb, ltb, length}
 use Rattle.booleans.specs.Tests.{◌and◌}
+use Rattle.refusals.specs.Refusals.{Answer, Given, Refused}
 use Rattle.table.specs.Numbers.{first_paired_symbol}
 use Rattle.table.specs.Limits.{most_holds}
 use Rattle.table.specs.Table.{decode, each, encode, first_node, record_count}
@@ -11,7 +12,6 @@ use Rattle.marking.specs.Marks.{digit_at, mark_length, marks_of}
 use Rattle.marking.specs.Opening.{question16}
 use Rattle.filling.specs.Fill.{fill_tree, open_tree}
 use Rattle.fill.specs.Nodes.{Most}
-use Rattle.fill.specs.declared.Filled.{Filled}
 
 -- ---- question 15
 
@@ -46,8 +46,9 @@ filled b s x = encode (fill_tree s x (decode b))
 unfoldable pub fill_refusal : (table : List ℕ) (symbol number : ℕ) (out marks : List ℕ) → ℕ
 fill_refusal b s x out marks = first_no (both_ask b (leb (length b) (length out) && leb mark_length (length marks)) s x)
 
-unfoldable pub fill_answer : (table : List ℕ) (symbol number : ℕ) (out marks : List ℕ) → Filled
-fill_answer b s x out marks = by_refusal (fill_refusal b s x out marks) (Filled.Written (length b)) Filled.Refused
+-- how long the written table is
+unfoldable pub fill_answer : (table : List ℕ) (symbol number : ℕ) (out marks : List ℕ) → Answer ℕ
+fill_answer b s x out marks = by_refusal (fill_refusal b s x out marks) (Given (length b)) Refused
 
 -- the bytes it writes to `out` and to `marks`: none where it is refused
 unfoldable pub fill_writes : (table : List ℕ) (symbol number : ℕ) (out marks : List ℕ) → List ℕ
@@ -64,18 +65,9 @@ opened b m s = encode (open_tree s (digit_at m) (decode b))
 unfoldable pub open_refusal : (table marks : List ℕ) (symbol number : ℕ) (out : List ℕ) → ℕ
 open_refusal b m s x out = first_no (both_ask b (leb (length b) (length out)) s x ++ 16 asks question16 b m s x ∷ [])
 
-unfoldable pub open_answer : (table marks : List ℕ) (symbol number : ℕ) (out : List ℕ) → Filled
-open_answer b m s x out = by_refusal (open_refusal b m s x out) (Filled.Written (length b)) Filled.Refused
+-- how long the written table is
+unfoldable pub open_answer : (table marks : List ℕ) (symbol number : ℕ) (out : List ℕ) → Answer ℕ
+open_answer b m s x out = by_refusal (open_refusal b m s x out) (Given (length b)) Refused
 
 unfoldable pub open_writes : (table marks : List ℕ) (symbol number : ℕ) (out : List ℕ) → List ℕ
 open_writes b m s x out = by_refusal (open_refusal b m s x out) (opened b m s) (λ q. [])
-
--- ---- document 02's number for each case, 0 for none, and the written table's length, 0 where it is refused
-
-unfoldable pub filled_refusal : Filled → ℕ
-filled_refusal (Filled.Written n) = 0
-filled_refusal (Filled.Refused q) = q
-
-unfoldable pub filled_length : Filled → ℕ
-filled_length (Filled.Written n) = n
-filled_length (Filled.Refused q) = 0

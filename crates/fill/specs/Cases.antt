@@ -1,5 +1,6 @@
 -- Examples of filling and opening, checked against the definitions: a bound and a limit that are symbol 3, filled with 4, and refusals.
 use Rattle.std.specs.Prelude.{◌≡◌, refl, List, [], ◌∷◌, ◌++◌, ℕ, replicate}
+use Rattle.refusals.specs.Refusals.{refused}
 use Rattle.table.specs.Notation.{◌/T◌at◌, block, either, symbol}
 use Rattle.table.specs.Questions.{number_has}
 use Rattle.table.specs.Table.{encode}
@@ -8,7 +9,7 @@ use Rattle.quoting.specs.Cases.{computed}
 use Rattle.marking.specs.Marks.{digit_at, digit_of, mark_bytes, mark_digit, marks_of, most_has}
 use Rattle.marking.specs.Opening.{all_from, digit_opens, kind_opens, limit_opens, most_is, number_is, question16}
 use Rattle.filling.specs.Fill.{fill_tree, on_kind, on_limit, on_tree, open_tree, put}
-use Rattle.fill.specs.Answers.{both_ask, fill_answer, fill_refusal, fillable, filled_refusal, not_under_four, open_answer, open_refusal, question15}
+use Rattle.fill.specs.Answers.{both_ask, fill_answer, fill_refusal, fillable, not_under_four, open_answer, open_refusal, question15}
 use Rattle.fill.specs.Nodes.{AtMost, Block, Loop, Most, Number, Plain, Sequence, Symbol, Unlimited}
 
 -- (4, X, loop n of 7/m@1), X symbol 16 and exit 4; the loop's address is 96, its body's 112
@@ -40,7 +41,7 @@ writes-hold = record { filled = refl; marked = refl; opened = refl }
 
 -- with buffers of so many bytes
 pub filling : (t : Tree) (s x room marks : ℕ) → ℕ
-filling t s x room marks = filled_refusal (fill_answer (encode t) s x (replicate room 0) (replicate marks 0))
+filling t s x room marks = refused (fill_answer (encode t) s x (replicate room 0) (replicate marks 0))
 
 pub record Fillings : Type 0 where
   used : filling (example (Symbol 3) (Most.Symbol 3)) 3 4 144 128 ≡ 0
@@ -61,7 +62,7 @@ pub record Fillings : Type 0 where
   three-first : filling (symbol 15) 24 5 23 128 ≡ 3
 
 fillings-hold : Fillings
-unfolding example computed filling fill_answer fill_refusal filled_refusal both_ask question15 fillable not_under_four
+unfolding example computed filling fill_answer fill_refusal both_ask question15 fillable not_under_four
 fillings-hold = record {
   used = refl;
   longer-buffers = refl;
@@ -85,7 +86,7 @@ fillings-hold = record {
 
 -- with a buffer of so many bytes
 pub opening_of : (t : Tree) (marks : List ℕ) (s x room : ℕ) → ℕ
-opening_of t m s x room = filled_refusal (open_answer (encode t) m s x (replicate room 0))
+opening_of t m s x room = refused (open_answer (encode t) m s x (replicate room 0))
 
 -- of the example's six records, whose plain bound and limit are 4
 pub opening : (marks : List ℕ) (s x room : ℕ) → ℕ
@@ -117,7 +118,7 @@ pub record Openings : Type 0 where
   under-four : opening_of (block 7 /T 3 at 255) (replicate 128 0) 3 0 24 ≡ 15
 
 openings-hold : Openings
-unfolding example marks_from computed opening opening_of open_answer open_refusal filled_refusal both_ask question15 fillable not_under_four question16 all_from digit_opens kind_opens limit_opens number_is most_is digit_of
+unfolding example marks_from computed opening opening_of open_answer open_refusal both_ask question15 fillable not_under_four question16 all_from digit_opens kind_opens limit_opens number_is most_is digit_of
 openings-hold = record {
   marked = refl;
   timed = refl;

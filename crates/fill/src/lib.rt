@@ -2,6 +2,7 @@
 #![tactic(auto)]
 
 ghost use Rattle.std.specs.Prelude.{◌≡◌, ◌≤◌, length};
+ghost use Rattle.refusals.specs.Refusals.{answer, refused};
 ghost use Rattle.table.specs.Numbers.{record_length};
 ghost use Rattle.table.specs.Asking.{first_no};
 ghost use Rattle.table.specs.Checking.{IsTable};
@@ -11,14 +12,8 @@ ghost use Rattle.fill.specs.Answers.{both_ask, fill_answer, fill_marks, fill_wri
 ghost use Rattle.fill.specs.Promises.{FillPromises, OpenPromises};
 
 use marking::MARK_LENGTH;
+use refusals::Refusal;
 use table::{FIRST_PAIRED_SYMBOL, Limit, Most, Number, RECORD_LENGTH};
-
-// The length of the table that was written, or the number of the question that says no.
-#[derive(Clone, Copy)]
-pub enum Filled {
-    Written(usize),
-    Refused(u64),
-}
 
 // ---- Question 15
 
@@ -30,12 +25,12 @@ fn is_fillable(symbol: u64) -> bool
 }
 
 // Is a limit's number not the symbol under flag 4?
+#[tactic(auto, unfolding(crate::specs::Answers::not_under_four))]
 fn not_under_four(most: Most, symbol: u64) -> bool
     ensures { result ≡ not_under_four symbol most }
 {
     match most {
-        Most::Plain(_) => true,
-        Most::Symbol(_) => true,
+        Most::Plain(_) | Most::Symbol(_) => true,
         Most::Triangular(s) => s != symbol,
     }
 }
@@ -45,8 +40,7 @@ fn record_free(b: &[u8], symbol: u64) -> bool
     requires { record_length ≤ length b.now }
     ensures { result ≡ record_free symbol b.now }
 {
-    let limit = table::read_limit(b);
-    match limit {
+    match table::read_limit(b) {
         Limit::Unlimited => true,
         Limit::AtMost(_, most) => not_under_four(most, symbol),
     }
@@ -72,22 +66,18 @@ fn may_fill(table: &[u8], symbol: u64, number: u64) -> bool
     true
 }
 
-// Questions 1 to 8, then 15: the first that says no, or 0.
-fn both_refusal(table: &[u8], roomy: bool, symbol: u64, number: u64) -> u64
-    ensures { result ≡ first_no (both_ask table.now roomy symbol number) }
+// Questions 1 to 8, then 15: the first that says no.
+fn accept_both(table: &[u8], roomy: bool, symbol: u64, number: u64) -> Result<(), Refusal>
+    ensures { refused (answer result) ≡ first_no (both_ask table.now roomy symbol number) }
 {
-    let first = table::refusal_of(table);
-    if first != 0 {
-        return first;
-    }
+    table::accept(table)?;
     if !roomy {
-        return 8;
+        return Err(Refusal::Room);
     }
-    if may_fill(table, symbol, number) {
-        0
-    } else {
-        15
+    if !may_fill(table, symbol, number) {
+        return Err(Refusal::Fill);
     }
+    Ok(())
 }
 
 // ---- The tables written
@@ -103,7 +93,7 @@ fn write_filled(table: &[u8], symbol: u64, number: u64, out: &mut [u8], marks: &
     let value = Number::Plain(number);
     let most = Most::Plain(number);
     filling::put_marked(table, &bytes, value, most, &mut out[0..n]);
-    writing::write_bytes(&bytes, MARK_LENGTH, marks);
+    writing::write_front(&bytes, MARK_LENGTH, marks);
 }
 
 // Writes the opened table over the front of `out`.
@@ -121,37 +111,43 @@ fn write_opened(table: &[u8], marks: &[u8], symbol: u64, out: &mut [u8])
 // ---- The calls
 
 // The table with the plain number in every field that has the symbol, written over the front of `out`, and 128 bytes that mark these fields, written over
-// the front of `marks`: questions 1 to 8, then 15.
-pub fn fill(table: &[u8], symbol: u64, number: u64, out: &mut [u8], marks: &mut [u8]) -> Filled
-    ensures answer { result ≡ fill_answer table.now symbol number out.old marks.old }
+// the front of `marks`: how long the table is. Questions 1 to 8, then 15.
+pub fn fill(
+    table: &[u8],
+    symbol: u64,
+    number: u64,
+    out: &mut [u8],
+    marks: &mut [u8],
+) -> Result<usize, Refusal>
+    ensures answer { answer result ≡ fill_answer table.now symbol number out.old marks.old }
     ensures written { out.new ≡ over (fill_writes table.now symbol number out.old marks.old) out.old }
     ensures marked { marks.new ≡ over (fill_marks table.now symbol number out.old marks.old) marks.old }
-    ensures promise { FillPromises table.now symbol number out.new marks.new result }
+    ensures promise { FillPromises table.now symbol number out.new marks.new (answer result) }
 {
     let n = table.len();
     let roomy = (n <= out.len()) & (MARK_LENGTH <= marks.len());
-    let first = both_refusal(table, roomy, symbol, number);
-    if first != 0 {
-        return Filled::Refused(first);
-    }
+    accept_both(table, roomy, symbol, number)?;
     write_filled(table, symbol, number, out, marks);
-    Filled::Written(n)
+    Ok(n)
 }
 
-// The table with the symbol put back in each marked field, written over the front of `out`: questions 1 to 8, then 15 and 16.
-pub fn open(table: &[u8], marks: &[u8], symbol: u64, number: u64, out: &mut [u8]) -> Filled
-    ensures answer { result ≡ open_answer table.now marks.now symbol number out.old }
+// The table with the symbol put back in each marked field, written over the front of `out`: how long it is. Questions 1 to 8, then 15 and 16.
+pub fn open(
+    table: &[u8],
+    marks: &[u8],
+    symbol: u64,
+    number: u64,
+    out: &mut [u8],
+) -> Result<usize, Refusal>
+    ensures answer { answer result ≡ open_answer table.now marks.now symbol number out.old }
     ensures written { out.new ≡ over (open_writes table.now marks.now symbol number out.old) out.old }
-    ensures promise { OpenPromises table.now symbol number out.new result }
+    ensures promise { OpenPromises table.now symbol number out.new (answer result) }
 {
     let roomy = table.len() <= out.len();
-    let refused = both_refusal(table, roomy, symbol, number);
-    if refused != 0 {
-        return Filled::Refused(refused);
-    }
+    accept_both(table, roomy, symbol, number)?;
     if !marking::marks_allowed(table, marks, symbol, number) {
-        return Filled::Refused(16);
+        return Err(Refusal::Marks);
     }
     write_opened(table, marks, symbol, out);
-    Filled::Written(table.len())
+    Ok(table.len())
 }

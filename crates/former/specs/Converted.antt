@@ -1,12 +1,12 @@
 -- A former table with address 0 at every record, and what the call that makes it answers for any input.
 use Rattle.std.specs.Prelude.{◌≡◌, List, [], ◌∷◌, ◌++◌, ℕ, zero, suc, ◌*◌, ◌%◌, T, leb, drop, length, take}
+use Rattle.refusals.specs.Refusals.{Answer, Given, Refused}
 use Rattle.table.specs.Asking.{◌asks◌, by_refusal, first_no}
 use Rattle.table.specs.Checking.{question7, refusal}
 use Rattle.table.specs.Numbers.{record_length}
 use Rattle.table.specs.Questions.{unpaired}
 use Rattle.table.specs.Table.{decode, no_address}
 use Rattle.former.specs.Former.{former_count, former_length, former_question1, former_questions, former_refusal, former_tree}
-use Rattle.former.specs.declared.Conversion.{Conversion}
 
 -- the record of b's first one
 abbrev pub new_record : List ℕ → List ℕ
@@ -26,21 +26,13 @@ new_table b = converted (former_count b) b
 unfoldable pub convert_refusal : (former out : List ℕ) → ℕ
 convert_refusal b out = first_no (1 asks former_question1 b ∷ 8 asks leb (record_length * former_count b) (length out) ∷ [])
 
-unfoldable pub convert_answer : (former out : List ℕ) → Conversion
-convert_answer b out = by_refusal (convert_refusal b out) (Conversion.Written (record_length * former_count b)) Conversion.Refused
+-- how long the written table is
+unfoldable pub convert_answer : (former out : List ℕ) → Answer ℕ
+convert_answer b out = by_refusal (convert_refusal b out) (Given (record_length * former_count b)) Refused
 
 -- the bytes it writes: none where it is refused
 unfoldable pub convert_writes : (former out : List ℕ) → List ℕ
 convert_writes b out = by_refusal (convert_refusal b out) (new_table b) (λ q. [])
-
--- the refusal's number, 0 for none, and the written table's length, 0 where it is refused
-unfoldable pub conversion_refusal : Conversion → ℕ
-conversion_refusal (Conversion.Written n) = 0
-conversion_refusal (Conversion.Refused q) = q
-
-unfoldable pub conversion_length : Conversion → ℕ
-conversion_length (Conversion.Written n) = n
-conversion_length (Conversion.Refused q) = 0
 
 -- What is promised. Of whole records, questions 1 to 7 say of the new table what they said of the former one, but that a block of a paired symbol weighs now:
 -- an accepted one stays accepted, or is refused 7, and the latter only with paired symbols. Its tree is the former one's, with address 0. A former table that was

@@ -2,23 +2,18 @@
 #![tactic(auto)]
 
 ghost use Rattle.std.specs.Prelude.{◌≡◌, ◌++◌, ◌*◌, ◌+◌, ◌≤◌, drop, length, take};
+ghost use Rattle.refusals.specs.Refusals.{answer};
 ghost use Rattle.table.specs.Numbers.{record_length};
 ghost use Rattle.writing.specs.Over.{over};
 ghost use Rattle.writing.specs.Records.{front};
 ghost use Rattle.former.specs.Former.{former_length, former_question1};
 ghost use Rattle.former.specs.Converted.{Converts, new_record, convert_answer, convert_writes, converted};
 
+use refusals::Refusal;
 use table::{FILL, MOST_RECORDS, RECORD_LENGTH};
 
 // The bytes of a former record, as in specs/Former.antt.
 pub const FORMER_LENGTH: usize = 16;
-
-// How long the table is that was written, or the number of the question that says no: 1 or 8.
-#[derive(Clone, Copy)]
-pub enum Conversion {
-    Written(usize),
-    Refused(u64),
-}
 
 // Question 1 of former tables.
 fn length_allowed(old: &[u8]) -> bool
@@ -44,26 +39,25 @@ fn convert_records(old: &[u8], n: usize, out: &mut [u8])
     requires { (former_length * n ≤ length old.now) × (record_length * n ≤ length out.old) }
     ensures { out.new ≡ over (converted n old.now) out.old }
 {
-    let mut i = 0;
-    while i < n {
+    for i in 0..n {
         convert_record(old, i, out);
-        i += 1;
     }
 }
 
-// Writes the table of a former one over the front of `out`. Nothing but question 1 is asked of it, so every byte of its records stays as it is.
-pub fn convert(old: &[u8], out: &mut [u8]) -> Conversion
-    ensures answer { result ≡ convert_answer old.now out.old }
+// Writes the table of a former one over the front of `out`: how long it is, or question 1 or 8 where one says no. Nothing but question 1 is asked of the former
+// one, so every byte of its records stays as it is.
+pub fn convert(old: &[u8], out: &mut [u8]) -> Result<usize, Refusal>
+    ensures answer { answer result ≡ convert_answer old.now out.old }
     ensures written { out.new ≡ over (convert_writes old.now out.old) out.old }
     ensures promise { Converts old.now }
 {
     if !length_allowed(old) {
-        return Conversion::Refused(1);
+        return Err(Refusal::Length);
     }
     let n = old.len() / FORMER_LENGTH;
     if out.len() < RECORD_LENGTH * n {
-        return Conversion::Refused(8);
+        return Err(Refusal::Room);
     }
     convert_records(old, n, out);
-    Conversion::Written(RECORD_LENGTH * n)
+    Ok(RECORD_LENGTH * n)
 }

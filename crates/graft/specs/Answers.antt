@@ -1,13 +1,13 @@
 -- Document 02, CR 1 and 7: what grafting answers for any input, and the bytes that it writes.
 use Rattle.std.specs.Prelude.{Bool, not, List, [], ◌∷◌, ◌++◌, ℕ, leb, ltb, length}
 use Rattle.booleans.specs.Tests.{◌and◌}
+use Rattle.refusals.specs.Refusals.{Answer, Given, Refused}
 use Rattle.table.specs.Numbers.{first_paired_symbol, first_time_symbol}
 use Rattle.table.specs.Questions.{unpaired}
 use Rattle.table.specs.Table.{decode, encode}
 use Rattle.table.specs.Asking.{Question, ◌asks◌, by_refusal, first_no}
 use Rattle.table.specs.Checking.{question1, question5, question7, questions}
 use Rattle.splice.specs.Graft.{graft, uses}
-use Rattle.graft.specs.declared.Grafted.{Grafted}
 
 -- 11. the replaced symbol is one of 16 to 31 and not paired, so that it is 16 to 23, and the sent table uses neither it nor a paired one
 unfoldable pub question11 : (sent : List ℕ) (symbol : ℕ) → Bool
@@ -29,18 +29,10 @@ graft_questions h b s out = 11 asks question11 b s ∷ 12 asks question12 (graft
 unfoldable pub graft_refusal : (host sent : List ℕ) (symbol : ℕ) (out : List ℕ) → ℕ
 graft_refusal h b s out = first_no (questions h ++ (questions b ++ graft_questions h b s out))
 
-unfoldable pub graft_answer : (host sent : List ℕ) (symbol : ℕ) (out : List ℕ) → Grafted
-graft_answer h b s out = by_refusal (graft_refusal h b s out) (Grafted.Written (length (graft_table h b s))) Grafted.Refused
+-- how long the written table is
+unfoldable pub graft_answer : (host sent : List ℕ) (symbol : ℕ) (out : List ℕ) → Answer ℕ
+graft_answer h b s out = by_refusal (graft_refusal h b s out) (Given (length (graft_table h b s))) Refused
 
 -- the bytes it writes: none where it is refused
 unfoldable pub graft_writes : (host sent : List ℕ) (symbol : ℕ) (out : List ℕ) → List ℕ
 graft_writes h b s out = by_refusal (graft_refusal h b s out) (graft_table h b s) (λ q. [])
-
--- document 02's number for each case, 0 for none, and the result's length, 0 where it is refused
-unfoldable pub grafted_refusal : Grafted → ℕ
-grafted_refusal (Grafted.Written n) = 0
-grafted_refusal (Grafted.Refused q) = q
-
-unfoldable pub grafted_length : Grafted → ℕ
-grafted_length (Grafted.Written n) = n
-grafted_length (Grafted.Refused q) = 0

@@ -1,12 +1,13 @@
 -- An example of grafting, as document 01 writes trees, and examples of question 11, checked against the definitions.
 use Rattle.std.specs.Prelude.{◌≡◌, refl, ℕ, replicate}
+use Rattle.refusals.specs.Refusals.{refused}
 use Rattle.table.specs.Questions.{number_has}
 use Rattle.table.specs.Table.{encode}
 use Rattle.table.specs.Trees.{Tree, around, rest, every_node}
 use Rattle.table.specs.Notation.{◌addressed◌, ◌/◌at◌, block, both, either, loop, sequence, symbol}
 use Rattle.quoting.specs.Cases.{computed}
 use Rattle.splice.specs.Graft.{graft, in_place, is_symbol, rename, renamed_limit, uses}
-use Rattle.graft.specs.Answers.{graft_answer, graft_questions, graft_refusal, graft_table, grafted_refusal, question11, question12}
+use Rattle.graft.specs.Answers.{graft_answer, graft_questions, graft_refusal, graft_table, question11, question12}
 
 -- (X/2@255, loop 3 of (X, 5)), X symbol 20, at addresses 95 and 96
 pub host : (x : Tree) → Tree
@@ -23,7 +24,7 @@ example-holds = refl
 
 -- the number of the refusal, 0 for none, where this tree is sent for a host of one block with symbol s
 pub refused_for : (sent : Tree) (s : ℕ) → ℕ
-refused_for u s = grafted_refusal (graft_answer (encode (symbol s)) (encode u) s (replicate 120 0))
+refused_for u s = refused (graft_answer (encode (symbol s)) (encode u) s (replicate 120 0))
 
 record Elevens : Type 0 where
   last-single : refused_for (block 7) 23 ≡ 0
@@ -35,7 +36,7 @@ record Elevens : Type 0 where
   paired-below : refused_for (loop 1 (symbol 31) (block 0)) 16 ≡ 11
 
 elevens-hold : Elevens
-unfolding computed refused_for grafted_refusal graft_answer graft_refusal graft_questions question11 question12 graft_table uses every_node graft in_place rename renamed_limit is_symbol number_has
+unfolding computed refused_for graft_answer graft_refusal graft_questions question11 question12 graft_table uses every_node graft in_place rename renamed_limit is_symbol number_has
 elevens-hold = record {
   last-single = refl;
   first-paired = refl;

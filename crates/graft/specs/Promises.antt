@@ -1,15 +1,13 @@
 -- Document 02, CR 1: what a written graft promises, said of the answers of checking and of the figure call.
 use Rattle.std.specs.Prelude.{◌≡◌, false, List, ℕ, T, set, take}
+use Rattle.refusals.specs.Refusals.{Answer, Given, given, refused}
 use Rattle.table.specs.Table.{decode, record_count}
-use Rattle.quoting.specs.Answers.{check_answer, figure_answer, quoted_figure, quoted_refusal}
-use Rattle.quoting.specs.declared.Checked.{Checked}
+use Rattle.quoting.specs.Answers.{check_answer, figure_answer, quoted_figure}
 use Rattle.splice.specs.Graft.{uses}
-use Rattle.graft.specs.Answers.{grafted_length, grafted_refusal}
-use Rattle.graft.specs.declared.Grafted.{Grafted}
 
 -- the figure call answers a figure
 abbrev pub Quoted : (table values : List ℕ) → Type 0
-Quoted b vs = quoted_refusal (figure_answer b vs) ≡ 0
+Quoted b vs = refused (figure_answer b vs) ≡ 0
 
 -- values with the symbol's set to the sent table's figure with these values
 abbrev pub host_values : (sent : List ℕ) (symbol : ℕ) (values : List ℕ) → List ℕ
@@ -17,7 +15,7 @@ host_values b s vs = set vs s (quoted_figure (figure_answer b vs))
 
 pub record GraftPromised (host sent : List ℕ) (symbol : ℕ) (written : List ℕ) : Type 0 where
   -- checking answers the written table's number of records
-  pub checked : check_answer written ≡ Checked.Accepted (record_count written)
+  pub checked : check_answer written ≡ Given (record_count written)
   -- a host that does not use the symbol is written as it is
   pub unused : uses symbol (decode host) ≡ false → written ≡ host
   -- the grafted figure equals the host's figure with the symbol set to the sent table's figure, wherever all three figures exist
@@ -29,5 +27,5 @@ pub record GraftPromised (host sent : List ℕ) (symbol : ℕ) (written : List �
   pub exist : T (uses symbol (decode host)) → (values : List ℕ) → Quoted written values → Quoted sent values × Quoted host (host_values sent symbol values)
 
 -- an answer that is no refusal promises this of the bytes it counts at the front of the buffer
-unfoldable pub GraftPromises : (host sent : List ℕ) (symbol : ℕ) (out : List ℕ) → Grafted → Type 0
-GraftPromises h b s out r = grafted_refusal r ≡ 0 → GraftPromised h b s (take (grafted_length r) out)
+unfoldable pub GraftPromises : (host sent : List ℕ) (symbol : ℕ) (out : List ℕ) → Answer ℕ → Type 0
+GraftPromises h b s out r = refused r ≡ 0 → GraftPromised h b s (take (given r) out)

@@ -1,5 +1,5 @@
 -- Definitions, in the order of reading.
-mod Nodes
+pub mod Nodes
 pub mod Marks
 pub mod Opening
 -- What is proved of them.

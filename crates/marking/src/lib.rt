@@ -7,6 +7,7 @@ ghost use Rattle.table.specs.Table.{limit_num};
 ghost use Rattle.marking.specs.Marks.{bit, digit_at, digit_of, mark_byte, mark_digit, mark_length, mark_node, marks_of, most_has};
 ghost use Rattle.marking.specs.Opening.{digit_opens, kind_opens, limit_opens, most_is, node_opens, number_is, question16};
 
+use std::array;
 use table::{Kind, Limit, MOST_RECORDS, Most, Node, Number, RECORD_LENGTH};
 
 // Bytes of marks: four records a byte.
@@ -14,41 +15,22 @@ pub const MARK_LENGTH: usize = 128;
 
 // ---- Marks written
 
-// Is a limit's number the symbol, and not its triangular number?
-fn most_has(most: Most, symbol: u64) -> bool
-    ensures { result ≡ most_has symbol most }
-{
-    match most {
-        Most::Plain(_) => false,
-        Most::Symbol(s) => s == symbol,
-        Most::Triangular(_) => false,
-    }
-}
-
-// Has a node's limit the symbol?
+// Has a node's limit the symbol, and not its triangular number?
 fn limit_has(limit: Limit, symbol: u64) -> bool
     ensures { result ≡ most_has symbol (limit_num limit) }
 {
     match limit {
         Limit::Unlimited => false,
-        Limit::AtMost(_, most) => most_has(most, symbol),
+        Limit::AtMost(_, most) => most == Most::Symbol(symbol),
     }
-}
-
-fn bit_of(set: bool) -> u8
-    ensures { (result ≡ bit set) × (result ≤ 1) }
-{
-    if set { 1 } else { 0 }
 }
 
 // A node's two marks: 1 where its value has the symbol, 2 where its limit has it.
 fn mark_node(node: Node, symbol: u64) -> u8
     ensures { (result ≡ mark_node symbol node) × (result < 4) }
 {
-    let kind = node.kind;
-    let limit = node.limit;
-    let value = bit_of(table::number_has(writing::value_of(kind), symbol));
-    value + 2 * bit_of(limit_has(limit, symbol))
+    let value = table::number_has(writing::value_of(node.kind), symbol);
+    u8::from(value) + 2 * u8::from(limit_has(node.limit, symbol))
 }
 
 // The two marks of record i: none past the last record.
@@ -79,13 +61,7 @@ fn mark_byte(table: &[u8], j: usize, symbol: u64) -> u8
 pub fn marks_of(table: &[u8], symbol: u64) -> [u8; MARK_LENGTH]
     ensures { result ≡ marks_of symbol table.now }
 {
-    let mut marks = [0; MARK_LENGTH];
-    let mut j = 0;
-    while j < MARK_LENGTH {
-        marks[j] = mark_byte(table, j, symbol);
-        j += 1;
-    }
-    marks
+    array::from_fn(|j| mark_byte(table, j, symbol))
 }
 
 // ---- Marks read
@@ -95,12 +71,7 @@ fn digit_of(byte: u8, k: usize) -> u8
     requires { k < 4 }
     ensures { result ≡ digit_of byte k }
 {
-    match k {
-        0 => byte % 4,
-        1 => byte / 4 % 4,
-        2 => byte / 4 / 4 % 4,
-        _ => byte / 4 / 4 / 4 % 4,
-    }
+    (byte >> (2 * k)) % 4
 }
 
 // Record i's two marks.
@@ -117,31 +88,17 @@ pub fn digit_at(marks: &[u8], i: usize) -> u8
 pub fn number_is(value: Number, number: u64) -> bool
     ensures { result ≡ number_is number value }
 {
-    match value {
-        Number::Plain(n) => n == number,
-        Number::Symbol(_) => false,
-    }
-}
-
-// Is a limit's number this plain one?
-fn most_is(most: Most, number: u64) -> bool
-    ensures { result ≡ most_is number most }
-{
-    match most {
-        Most::Plain(n) => n == number,
-        Most::Symbol(_) => false,
-        Most::Triangular(_) => false,
-    }
+    value == Number::Plain(number)
 }
 
 // May the symbol be put back in a node's value: is it this number, and does question 3 allow the symbol there?
+#[tactic(auto, unfolding(crate::specs::Opening::kind_opens))]
 fn kind_opens(kind: Kind, symbol: u64, number: u64) -> bool
     ensures { result ≡ kind_opens symbol number kind }
 {
     match kind {
         Kind::Block(time) => number_is(time, number) & table::time_in_range(Number::Symbol(symbol)),
-        Kind::Sequence => false,
-        Kind::Choice => false,
+        Kind::Sequence | Kind::Choice => false,
         Kind::Loop(bound) => {
             number_is(bound, number) & table::count_in_range(Number::Symbol(symbol))
         }
@@ -154,8 +111,9 @@ fn limit_opens(limit: Limit, symbol: u64, number: u64) -> bool
 {
     match limit {
         Limit::Unlimited => false,
-        Limit::AtMost(_, most) => most_is(most, number)
-            & table::most_in_range(Most::Symbol(symbol)),
+        Limit::AtMost(_, most) => {
+            (most == Most::Plain(number)) & table::most_in_range(Most::Symbol(symbol))
+        }
     }
 }
 
@@ -163,10 +121,8 @@ fn limit_opens(limit: Limit, symbol: u64, number: u64) -> bool
 fn node_opens(node: Node, digit: u8, symbol: u64, number: u64) -> bool
     ensures { result ≡ node_opens symbol number digit node }
 {
-    let kind = node.kind;
-    let limit = node.limit;
-    let value = kind_opens(kind, symbol, number);
-    let most = limit_opens(limit, symbol, number);
+    let value = kind_opens(node.kind, symbol, number);
+    let most = limit_opens(node.limit, symbol, number);
     ((digit % 2 == 0) | value) & ((digit / 2 == 0) | most)
 }
 
@@ -190,12 +146,5 @@ pub fn marks_allowed(table: &[u8], marks: &[u8], symbol: u64, number: u64) -> bo
     if marks.len() != MARK_LENGTH {
         return false;
     }
-    let mut i: usize = 0;
-    while i < MOST_RECORDS {
-        if !digit_opens(table, marks, i, symbol, number) {
-            return false;
-        }
-        i += 1;
-    }
-    true
+    (0..MOST_RECORDS).all(|i| digit_opens(table, marks, i, symbol, number))
 }

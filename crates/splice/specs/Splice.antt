@@ -1,5 +1,5 @@
 -- Grafting record by record: each of the host's is copied, or the sent table put in its place. The program copies those between two places at once.
-use Rattle.std.specs.Prelude.{◌≡◌, Bool, cond, not, List, [], ◌++◌, ℕ, zero, suc, ◌+◌, ◌*◌, ◌-◌, ◌≤◌, drop, length, take}
+use Rattle.std.specs.Prelude.{◌≡◌, Bool, cond, not, List, [], ◌++◌, ℕ, zero, suc, ◌+◌, ◌*◌, ◌-◌, ◌≤◌, drop, length, take, IfSome, Option}
 use Rattle.booleans.specs.Tests.{◌and◌}
 use Rattle.table.specs.Numbers.{record_length}
 use Rattle.table.specs.Questions.{single}
@@ -52,9 +52,9 @@ pub record Among (body : List ℕ) (k : ℕ) (bytes : List ℕ) : Type 0 where
   pub parts : bytes ≡ before ++ (body ++ behind)
   pub long : length before ≡ record_length * k
 
--- they do, unless k is 0: then they were not put yet, since a loop's record always stands before them
-abbrev pub Stands : (body : List ℕ) (k : ℕ) (bytes : List ℕ) → Type 0
-Stands body k bytes = (k ≡ 0 → ⊥) → Among body k bytes
+-- they do from the record on at which they were put last, if they were put
+abbrev pub Stands : (body : List ℕ) (last : Option ℕ) (bytes : List ℕ) → Type 0
+Stands body last bytes = IfSome last (λ k. Among body k bytes)
 
 -- how many blocks of a tree have symbol s
 unfoldable mutual

@@ -18,7 +18,7 @@ pub fn put_word(out: &mut [u8], at: usize, word: &[u8]) -> usize
     ensures out_after { take result out.new ≡ take at out.old ++ word.now }
 {
     let n = word.len();
-    writing::write_bytes(word, n, &mut out[at..]);
+    writing::write_front(word, n, &mut out[at..]);
     at + n
 }
 

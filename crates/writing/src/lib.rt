@@ -10,30 +10,23 @@ ghost use Rattle.writing.specs.Records.{Appended, slice};
 
 use table::{FILL, Kind, Limit, Most, Node, Number, RECORD_LENGTH};
 
-// ---- Bytes
+// ---- Elements copied
 
-// Writes the first n bytes of a table over the front of a buffer.
-pub fn write_bytes(table: &[u8], n: usize, out: &mut [u8])
-    requires { (n ≤ length table.now) × (n ≤ length out.old) }
-    ensures { out.new ≡ over (take n table.now) out.old }
+// Writes the first n elements of a slice over the front of a buffer.
+pub fn write_front<T: Copy>(from: &[T], n: usize, out: &mut [T])
+    requires { (n ≤ length from.now) × (n ≤ length out.old) }
+    ensures { out.new ≡ over (take n from.now) out.old }
 {
-    let mut i = 0;
-    while i < n {
-        out[i] = table[i];
-        i += 1;
-    }
+    out[..n].copy_from_slice(&from[..n]);
 }
 
 // Copies n bytes from byte `start` on to the buffer's byte `at` and on.
+#[tactic(auto, using(std::proofs::lemmas::Slice::overwrites))]
 pub fn copy_bytes(from: &[u8], start: usize, n: usize, out: &mut [u8], at: usize)
     requires { (start + n ≤ length from.now) × (at + n ≤ length out.old) }
     ensures { (take (at + n) out.new ≡ take at out.old ++ take n (drop start from.now)) × (drop (at + n) out.new ≡ drop (at + n) out.old) }
 {
-    let mut k = 0;
-    while k < n {
-        out[at + k] = from[start + k];
-        k += 1;
-    }
+    out[at..at + n].copy_from_slice(&from[start..start + n]);
 }
 
 // ---- Records copied
@@ -59,13 +52,8 @@ pub fn repeat_records(out: &mut [u8], i: usize, n: usize, at: usize) -> usize
     ensures { Appended at out.old n (slice out.old i n) result out.new }
 {
     let start = RECORD_LENGTH * i;
-    let over = RECORD_LENGTH * at;
     let len = RECORD_LENGTH * n;
-    let mut k = 0;
-    while k < len {
-        out[over + k] = out[start + k];
-        k += 1;
-    }
+    out.copy_within(start..start + len, RECORD_LENGTH * at);
     at + n
 }
 
@@ -80,6 +68,7 @@ pub fn copy_rest(table: &[u8], i: usize, out: &mut [u8], at: usize) -> usize
 // ---- The record of a node
 
 // The flag of a time or bound, and its field.
+#[tactic(auto, unfolding(table::specs::Table::flag))]
 pub fn flag_of(number: Number) -> u8
     ensures { (result ≡ flag number) × (result ≤ 1) }
 {
@@ -93,12 +82,12 @@ pub fn raw_of(number: Number) -> u64
     ensures { result ≡ raw number }
 {
     match number {
-        Number::Plain(n) => n,
-        Number::Symbol(n) => n,
+        Number::Plain(n) | Number::Symbol(n) => n,
     }
 }
 
 // A limit's flags, halved, and its field.
+#[tactic(auto, unfolding(table::specs::Table::most_flags))]
 fn most_flags(most: Most) -> u8
     ensures { (result ≡ most_flags most) × (result ≤ 3) }
 {
@@ -113,12 +102,11 @@ fn most_field(most: Most) -> u64
     ensures { result ≡ most_field most }
 {
     match most {
-        Most::Plain(n) => n,
-        Most::Symbol(s) => s,
-        Most::Triangular(s) => s,
+        Most::Plain(n) | Most::Symbol(n) | Most::Triangular(n) => n,
     }
 }
 
+#[tactic(auto, unfolding(table::specs::Table::kind_byte))]
 pub fn kind_byte(kind: Kind) -> u8
     ensures { result ≡ kind_byte kind }
 {
@@ -131,17 +119,17 @@ pub fn kind_byte(kind: Kind) -> u8
 }
 
 // A block's time, a loop's bound.
+#[tactic(auto, unfolding(table::specs::Table::value_num))]
 pub fn value_of(kind: Kind) -> Number
     ensures { result ≡ value_num kind }
 {
     match kind {
-        Kind::Block(value) => value,
-        Kind::Sequence => Number::Plain(0),
-        Kind::Choice => Number::Plain(0),
-        Kind::Loop(value) => value,
+        Kind::Block(value) | Kind::Loop(value) => value,
+        Kind::Sequence | Kind::Choice => Number::Plain(0),
     }
 }
 
+#[tactic(auto, unfolding(table::specs::Table::loop_byte))]
 fn loop_byte(limit: Limit) -> u8
     ensures { result ≡ loop_byte limit }
 {
@@ -151,6 +139,7 @@ fn loop_byte(limit: Limit) -> u8
     }
 }
 
+#[tactic(auto, unfolding(table::specs::Table::limit_num))]
 fn most_of(limit: Limit) -> Most
     ensures { result ≡ limit_num limit }
 {
@@ -164,53 +153,17 @@ fn most_of(limit: Limit) -> Most
 fn record_of(node: Node, count: u8) -> [u8; RECORD_LENGTH]
     ensures { result ≡ record_bytes node count }
 {
-    let kind = node.kind;
-    let limit = node.limit;
-    let value = value_of(kind);
-    let most = most_of(limit);
-    let v = raw_of(value);
-    let m = most_field(most);
-    let a = node.address;
-    [
-        kind_byte(kind),
-        flag_of(value) + 2 * most_flags(most),
-        count,
-        loop_byte(limit),
-        (m % 256) as u8,
-        (m / 256 % 256) as u8,
-        (m / 256 / 256 % 256) as u8,
-        (m / 256 / 256 / 256 % 256) as u8,
-        (v % 256) as u8,
-        (v / 256 % 256) as u8,
-        (v / 256 / 256 % 256) as u8,
-        (v / 256 / 256 / 256 % 256) as u8,
-        (v / 256 / 256 / 256 / 256 % 256) as u8,
-        (v / 256 / 256 / 256 / 256 / 256 % 256) as u8,
-        (v / 256 / 256 / 256 / 256 / 256 / 256 % 256) as u8,
-        (v / 256 / 256 / 256 / 256 / 256 / 256 / 256 % 256) as u8,
-        (a % 256) as u8,
-        (a / 256 % 256) as u8,
-        (a / 256 / 256 % 256) as u8,
-        (a / 256 / 256 / 256 % 256) as u8,
-        FILL,
-        FILL,
-        FILL,
-        FILL,
-    ]
-}
-
-// Puts a record's bytes at the buffer's record `at`; answers the record after it.
-fn put_record(out: &mut [u8], at: usize, bytes: [u8; RECORD_LENGTH]) -> usize
-    requires { record_length * (at + 1) ≤ length out.old }
-    ensures { Appended at out.old 1 bytes result out.new }
-{
-    let over = RECORD_LENGTH * at;
-    let mut k = 0;
-    while k < RECORD_LENGTH {
-        out[over + k] = bytes[k];
-        k += 1;
-    }
-    at + 1
+    let value = value_of(node.kind);
+    let most = most_of(node.limit);
+    let mut record = [FILL; RECORD_LENGTH];
+    record[0] = kind_byte(node.kind);
+    record[1] = flag_of(value) + 2 * most_flags(most);
+    record[2] = count;
+    record[3] = loop_byte(node.limit);
+    record[4..8].copy_from_slice(&most_field(most).to_le_bytes()[..4]);
+    record[8..16].copy_from_slice(&raw_of(value).to_le_bytes());
+    record[16..20].copy_from_slice(&node.address.to_le_bytes());
+    record
 }
 
 // Writes the loop that a limit names over that of the buffer's record `at`, and nothing else of the record.
@@ -227,13 +180,7 @@ pub fn put_value(out: &mut [u8], at: usize, value: u64)
     ensures { out.new ≡ with_value out.old at value }
 {
     let start = RECORD_LENGTH * at + 8;
-    let mut left = value;
-    let mut k: usize = 0;
-    while k < 8 {
-        out[start + k] = (left % 256) as u8;
-        left = left / 256;
-        k += 1;
-    }
+    out[start..start + 8].copy_from_slice(&value.to_le_bytes());
 }
 
 // Puts the record of a node with so many children at the buffer's record `at`; answers the record after it. Every record that is not copied is
@@ -242,5 +189,5 @@ pub fn put_node(out: &mut [u8], at: usize, node: Node, count: u8) -> usize
     requires { record_length * (at + 1) ≤ length out.old }
     ensures { Appended at out.old 1 (record_bytes node count) result out.new }
 {
-    put_record(out, at, record_of(node, count))
+    copy_records(&record_of(node, count), 0, 1, out, at)
 }

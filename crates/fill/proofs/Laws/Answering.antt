@@ -4,6 +4,7 @@ use Rattle.std.proofs.Math.Path.{refl, subst}
 use Rattle.std.proofs.Common.{ap, sym, ◌∙◌, arith, leb→le, le-leb}
 use Prim.Native.Nat.{ℕ, zero, suc, ◌≤◌}
 use Rattle.booleans.specs.Laws.{&&-both, T-is}
+use Rattle.refusals.specs.Refusals.{Answer, Given, Refused}
 use Rattle.table.specs.Asking.{◌asks◌, by_refusal, first_no}
 use Rattle.table.specs.Bytes.{AreBytes}
 use Rattle.table.specs.Checking.{IsTable}
@@ -12,15 +13,13 @@ use Rattle.table.proofs.Laws.Asking.{Yes, all_yes, answered, by-refusals, number
 use Rattle.table.proofs.Laws.Tables.{accepted-table}
 use Rattle.writing.specs.Over.{over}
 use Rattle.writing.specs.Laws.Over.{front-over}
-use Rattle.quoting.specs.declared.Checked.{Checked}
 use Rattle.quoting.proofs.Laws.Answers.{refuses, writes}
 use Rattle.quoting.proofs.Laws.Figures.{checked-accepted}
 use Rattle.marking.specs.Marks.{mark_length, marks_of}
 use Rattle.marking.specs.Opening.{question16}
 use Rattle.marking.specs.Laws.Marking.{marks-long}
-use Rattle.fill.specs.Answers.{both_ask, fill_answer, fill_marks, fill_refusal, fill_writes, filled, filled_length, filled_refusal, open_answer, open_refusal, open_writes, opened, question15}
+use Rattle.fill.specs.Answers.{both_ask, fill_answer, fill_marks, fill_refusal, fill_writes, filled, open_answer, open_refusal, open_writes, opened, question15}
 use Rattle.fill.specs.Promises.{FillPromised, FillPromises, OpenPromised, OpenPromises}
-use Rattle.fill.specs.declared.Filled.{Filled}
 use Rattle.fill.proofs.Laws.Asking.{both-fine, both-pass, both-passed, both-stop, both_yes}
 use Rattle.fill.proofs.Laws.Results.{filled-back, filled-count, filled-fifteen, filled-length, filled-quoted, filled-sixteen, filled-table, opened-count, opened-length, opened-quoted, opened-table}
 
@@ -28,19 +27,19 @@ use Rattle.fill.proofs.Laws.Results.{filled-back, filled-count, filled-fifteen, 
 
 module _ (b m : List ℕ) (s x : ℕ) (out : List ℕ) where
   -- the answer, and what the buffer then holds
-  abbrev pub OpenAnswered : Filled → (new : List ℕ) → Type 0
+  abbrev pub OpenAnswered : Answer ℕ → (new : List ℕ) → Type 0
   OpenAnswered r new = (r ≡ open_answer b m s x out) × (new ≡ over (open_writes b m s x out) out)
 
-  open_by : {n : ℕ} → open_refusal b m s x out ≡ n → (n ≡ 0 → ⊥) → OpenAnswered (Filled.Refused n) out
+  open_by : {n : ℕ} → open_refusal b m s x out ≡ n → (n ≡ 0 → ⊥) → OpenAnswered (Refused n) out
   unfolding open_answer open_writes
-  open_by = refuses _ _ Filled.Refused _ out
+  open_by = refuses _ _ Refused _ out
 
-  pub open-refused : {n : ℕ} → n ≡ first_no (both_ask b (leb (length b) (length out)) s x) → (n ≡ 0 → ⊥) → OpenAnswered (Filled.Refused n) out
+  pub open-refused : {n : ℕ} → n ≡ first_no (both_ask b (leb (length b) (length out)) s x) → (n ≡ 0 → ⊥) → OpenAnswered (Refused n) out
   unfolding open_refusal
   open-refused e z = open_by (both-stop b _ s x _ e z) z
 
   module _ (p : first_no (both_ask b (leb (length b) (length out)) s x) ≡ 0) where
-    pub open-marks : question16 b m s x ≡ false → OpenAnswered (Filled.Refused 16) out
+    pub open-marks : question16 b m s x ≡ false → OpenAnswered (Refused 16) out
     unfolding open_refusal first_no
     open-marks o = open_by (both-pass b _ s x _ p ∙ rw o refl) (λ k. omega (arith, k))
 
@@ -49,21 +48,21 @@ module _ (b m : List ℕ) (s x : ℕ) (out : List ℕ) where
       unfolding open_refusal first_no
       open-fine = both-pass b _ s x _ p ∙ rw o refl
 
-      pub open-written : (new : List ℕ) → new ≡ over (opened b m s) out → OpenAnswered (Filled.Written (length b)) new
+      pub open-written : (new : List ℕ) → new ≡ over (opened b m s) out → OpenAnswered (Given (length b)) new
       unfolding open_answer open_writes
-      open-written new w = writes _ _ Filled.Refused _ out open-fine refl w
+      open-written new w = writes _ _ Refused _ out open-fine refl w
 
       -- the answer and the bytes alone
-      open_told : (open_answer b m s x out ≡ Filled.Written (length b)) × (open_writes b m s x out ≡ opened b m s)
+      open_told : (open_answer b m s x out ≡ Given (length b)) × (open_writes b m s x out ≡ opened b m s)
       unfolding open_answer open_writes
-      open_told = (answered _ _ Filled.Refused open-fine, answered _ _ (λ q. []) open-fine)
+      open_told = (answered _ _ Refused open-fine, answered _ _ (λ q. []) open-fine)
 
   -- ---- the promises
 
   module _ (h : AreBytes b) where
     open-promised : IsTable b → T (question15 b s x) → T (question16 b m s x) → OpenPromised b s x (opened b m s)
     open-promised t q o = record {
-      checked = checked-accepted _ (accepted-table _ (opened-table b m s x t q o)) ∙ ap Checked.Accepted (opened-count b m s t);
+      checked = checked-accepted _ (accepted-table _ (opened-table b m s x t q o)) ∙ ap Given (opened-count b m s t);
       figures = opened-quoted b m s x t q o;
     }
 
@@ -76,34 +75,34 @@ module _ (b m : List ℕ) (s x : ℕ) (out : List ℕ) where
         subst (OpenPromised b s x) (sym (front-over (opened b m s) out (length b) (opened-length b m s t))) (open-promised t q (all_yes (16 asks question16 b m s x ∷ []) tt l).0)
 
     open_kept : OpenPromises b s x (over (open_writes b m s x out) out) (open_answer b m s x out)
-    unfolding OpenPromises open_answer open_writes filled_refusal filled_length
+    unfolding OpenPromises open_answer open_writes
     open_kept =
-        by-refusals (λ r y. OpenPromises b s x (over y out) r) (open_refusal b m s x out) _ Filled.Refused _ _ (λ n z. open-accepts n) (λ n z. absurd (n z))
+        by-refusals (λ r y. OpenPromises b s x (over y out) r) (open_refusal b m s x out) _ Refused _ _ (λ n z. open-accepts n) (λ n z. absurd (n z))
 
-    pub open-all : {r : Filled} {new : List ℕ} → OpenAnswered r new → (r ≡ open_answer b m s x out) × ((new ≡ over (open_writes b m s x out) out) × OpenPromises b s x new r)
+    pub open-all : {r : Answer ℕ} {new : List ℕ} → OpenAnswered r new → (r ≡ open_answer b m s x out) × ((new ≡ over (open_writes b m s x out) out) × OpenPromises b s x new r)
     open-all {r} (a, w) = (a, (w, subst (λ (y : List ℕ). OpenPromises b s x y r) (sym w) (subst (OpenPromises b s x (over (open_writes b m s x out) out)) (sym a) open_kept)))
 
 -- ---- filling
 
 module _ (b : List ℕ) (s x : ℕ) (out marks : List ℕ) where
   -- the answer, and what the two buffers then hold
-  abbrev pub FillAnswered : Filled → (new ms : List ℕ) → Type 0
+  abbrev pub FillAnswered : Answer ℕ → (new ms : List ℕ) → Type 0
   FillAnswered r new ms = (r ≡ fill_answer b s x out marks) × ((new ≡ over (fill_writes b s x out marks) out) × (ms ≡ over (fill_marks b s x out marks) marks))
 
-  fill-by : {n : ℕ} → fill_refusal b s x out marks ≡ n → (n ≡ 0 → ⊥) → FillAnswered (Filled.Refused n) out marks
+  fill-by : {n : ℕ} → fill_refusal b s x out marks ≡ n → (n ≡ 0 → ⊥) → FillAnswered (Refused n) out marks
   unfolding fill_answer fill_writes fill_marks
-  fill-by e z = let (a, w) = refuses _ (Filled.Written (length b)) Filled.Refused (filled b s x) out e z in (a, (w, (refuses _ (Filled.Written (length b)) Filled.Refused (marks_of s b) marks e z).1))
+  fill-by e z = let (a, w) = refuses _ (Given (length b)) Refused (filled b s x) out e z in (a, (w, (refuses _ (Given (length b)) Refused (marks_of s b) marks e z).1))
 
-  pub fill-refused : {n : ℕ} → n ≡ first_no (both_ask b (leb (length b) (length out) && leb mark_length (length marks)) s x) → (n ≡ 0 → ⊥) → FillAnswered (Filled.Refused n) out marks
+  pub fill-refused : {n : ℕ} → n ≡ first_no (both_ask b (leb (length b) (length out) && leb mark_length (length marks)) s x) → (n ≡ 0 → ⊥) → FillAnswered (Refused n) out marks
   unfolding fill_refusal
   fill-refused e z = fill-by (sym e) z
 
   pub fill-written : first_no (both_ask b (leb (length b) (length out) && leb mark_length (length marks)) s x) ≡ 0 → (new ms : List ℕ) → (new ≡ over (filled b s x) out) × (ms ≡ over (marks_of s b) marks)
-      → FillAnswered (Filled.Written (length b)) new ms
+      → FillAnswered (Given (length b)) new ms
   unfolding fill_answer fill_writes fill_marks fill_refusal
   fill-written e new ms (w, v) =
-      let (a, z) = writes _ (Filled.Written (length b)) Filled.Refused (filled b s x) out e refl w in
-      (a, (z, (writes _ (Filled.Written (length b)) Filled.Refused (marks_of s b) marks e refl v).1))
+      let (a, z) = writes _ (Given (length b)) Refused (filled b s x) out e refl w in
+      (a, (z, (writes _ (Given (length b)) Refused (marks_of s b) marks e refl v).1))
 
   -- ---- the promises
 
@@ -111,13 +110,13 @@ module _ (b : List ℕ) (s x : ℕ) (out marks : List ℕ) where
     fill-promised : IsTable b → T (question15 b s x) → FillPromised b s x (filled b s x) (marks_of s b)
     fill-promised t q =
         let c = filled-table b s x t q in record {
-          checked = checked-accepted _ (accepted-table _ c) ∙ ap Checked.Accepted (filled-count b s x t);
+          checked = checked-accepted _ (accepted-table _ c) ∙ ap Given (filled-count b s x t);
           figures = filled-quoted b s x t q;
           back = λ buffer l.
               let roomy = le-leb (length (filled b s x)) (length buffer) (omega (arith, filled-length b s x t)) in
               let yes = sym (both-fine (filled b s x) _ s x (accepted-table _ c) true (sym (T-is _ (filled-fifteen b s x t q))) (ap not roomy) refl) in
               let (a, w) = open_told (filled b s x) (marks_of s b) s x buffer yes (T-is _ (filled-sixteen b s x t q)) in
-              (a ∙ ap Filled.Written (filled-length b s x t), w ∙ filled-back b s x t q);
+              (a ∙ ap Given (filled-length b s x t), w ∙ filled-back b s x t q);
         }
 
     fill-accepts : fill_refusal b s x out marks ≡ 0 → FillPromised b s x (take (length b) (over (filled b s x) out)) (take mark_length (over (marks_of s b) marks))
@@ -132,11 +131,11 @@ module _ (b : List ℕ) (s x : ℕ) (out marks : List ℕ) where
     fill-kept = go (fill_refusal b s x out marks) refl
       where
         go : (n : ℕ) → fill_refusal b s x out marks ≡ n
-            → FillPromises b s x (over (by_refusal n (filled b s x) (λ q. [])) out) (over (by_refusal n (marks_of s b) (λ q. [])) marks) (by_refusal n (Filled.Written (length b)) Filled.Refused)
-        go zero e = unfold FillPromises by_refusal filled_refusal filled_length in λ z. fill-accepts e
-        go (suc n) e = unfold FillPromises by_refusal filled_refusal filled_length in λ z. absurd (omega (arith, z))
+            → FillPromises b s x (over (by_refusal n (filled b s x) (λ q. [])) out) (over (by_refusal n (marks_of s b) (λ q. [])) marks) (by_refusal n (Given (length b)) Refused)
+        go zero e = unfold FillPromises by_refusal in λ z. fill-accepts e
+        go (suc n) e = unfold FillPromises by_refusal in λ z. absurd (omega (arith, z))
 
-    pub fill-all : {r : Filled} {new ms : List ℕ} → FillAnswered r new ms
+    pub fill-all : {r : Answer ℕ} {new ms : List ℕ} → FillAnswered r new ms
         → (r ≡ fill_answer b s x out marks) × ((new ≡ over (fill_writes b s x out marks) out) × ((ms ≡ over (fill_marks b s x out marks) marks) × FillPromises b s x new ms r))
     fill-all (a, (w, v)) = (a, (w, (v, rw (a, w, v) fill-kept)))
 

@@ -4,8 +4,8 @@ use Rattle.fill.proofs.record_free.Goals as goal
 
 pub returns-in-Unlimited : goal.returns-in-Unlimited
 unfolding limit_holds
-returns-in-Unlimited c = rw (← c.read_limit-limit.ensures, c.in-Unlimited.is) refl
+returns-in-Unlimited c = rw (← c.in-Unlimited.ensures) refl
 
 pub returns-in-AtMost : goal.returns-in-AtMost
 unfolding limit_holds
-returns-in-AtMost c = rw (← c.read_limit-limit.ensures, c.in-AtMost.is) c.not_under_four.ensures
+returns-in-AtMost c = rw (← c.in-AtMost.ensures) c.not_under_four.ensures

@@ -9,5 +9,5 @@ put_marked-requires c = (room _ _ c.requires.fact_1 c.requires.fact_2.0, search 
 pub returns : goal.returns
 returns c = (
   filled-over _ _ _ _ _ _ c.requires.fact_1 c.requires.fact_2.0 c.marks_of-bytes.ensures c.put_marked.auto.out c.put_marked.ensures,
-  marks-over _ _ _ _ _ c.marks_of-bytes.ensures c.write_bytes.ensures,
+  marks-over _ _ _ _ _ c.marks_of-bytes.ensures c.write_front.ensures,
 )

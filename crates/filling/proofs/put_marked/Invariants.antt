@@ -1,4 +1,3 @@
-use Prim.Native.Nat.{◌-◌}
 use Rattle.marking.specs.Marks.{digit_at}
 use Rattle.filling.specs.Fill.{put_limit, put_value}
 use Rattle.filling.specs.Laws.Putting.{Put}
@@ -6,6 +5,3 @@ use Rattle.filling.proofs.put_marked.Given as goal
 
 abbrev pub invariant-loop-i : goal.invariant-loop-i
 invariant-loop-i l = Put (put_value l.value (digit_at l.marks)) (put_limit l.most (digit_at l.marks)) l.table l.initial.out l.i l.out
-
-abbrev pub decreases-loop-i : goal.decreases-loop-i
-decreases-loop-i l = l.n - l.i

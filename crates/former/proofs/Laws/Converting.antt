@@ -6,6 +6,7 @@ use mathlib.Core.List.{List, ◌++◌, append_assoc, append-nil}
 use Rattle.std.proofs.Math.Nat.{sub-zero}
 use Rattle.std.proofs.Math.ListN.{drop}
 use borrow.Author.Tests.{le-leb, lt-leb, not-false, not-true}
+use Rattle.refusals.specs.Refusals.{Given, Refused}
 use Rattle.table.specs.Asking.{by_refusal, first_no}
 use Rattle.table.specs.Numbers.{record_length}
 use Rattle.table.specs.Table.{no_address}
@@ -14,7 +15,6 @@ use Rattle.writing.specs.Over.{over}
 use Rattle.writing.specs.Records.{front}
 use Rattle.former.specs.Former.{former_count, former_length, former_question1}
 use Rattle.former.specs.Converted.{Converts, new_record, convert_answer, convert_refusal, convert_writes, converted}
-use Rattle.former.specs.declared.Conversion.{Conversion}
 use Rattle.former.proofs.Laws.Apart.{never_both}
 use Rattle.former.proofs.Laws.Converted.{converted-long, same-refusal, same-tree, same-unpaired}
 
@@ -76,18 +76,18 @@ module _ (b : List ℕ) (n : ℕ) (out₀ : List ℕ) (i : ℕ) (out : List ℕ)
 -- ---- the answer
 
 module _ (b out : List ℕ) where
-  pub too-odd : (r : Bool) → r ≡ former_question1 b → not r ≡ true → (Conversion.Refused 1 ≡ convert_answer b out) × (out ≡ over (convert_writes b out) out)
+  pub too-odd : (r : Bool) → r ≡ former_question1 b → not r ≡ true → (Refused 1 ≡ convert_answer b out) × (out ≡ over (convert_writes b out) out)
   unfolding convert_answer convert_writes convert_refusal first_no by_refusal over
   too-odd r e t = (rw (← e, not-true r t) refl, rw (← e, not-true r t) refl)
 
-  pub too_short : (r : Bool) → r ≡ former_question1 b → not r ≡ false → length out < record_length * former_count b → (Conversion.Refused 8 ≡ convert_answer b out) × (out ≡ over (convert_writes b out) out)
+  pub too_short : (r : Bool) → r ≡ former_question1 b → not r ≡ false → length out < record_length * former_count b → (Refused 8 ≡ convert_answer b out) × (out ≡ over (convert_writes b out) out)
   unfolding convert_answer convert_writes convert_refusal first_no by_refusal over
   too_short r e t l =
       let f = lt-leb (record_length * former_count b) (length out) l in
       (rw (← e, not-false r t, f) refl, rw (← e, not-false r t, f) refl)
 
   pub made-whole : (r : Bool) → r ≡ former_question1 b → not r ≡ false → record_length * former_count b ≤ length out
-      → (Conversion.Written (record_length * former_count b) ≡ convert_answer b out) × (converted (former_count b) b ≡ convert_writes b out)
+      → (Given (record_length * former_count b) ≡ convert_answer b out) × (converted (former_count b) b ≡ convert_writes b out)
   unfolding convert_answer convert_writes convert_refusal first_no by_refusal
   made-whole r e t l =
       let f = le-leb (record_length * former_count b) (length out) l in

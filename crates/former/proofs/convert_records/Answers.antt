@@ -1,15 +1,9 @@
-use Rattle.former.proofs.Laws.Converting.{all_made, none_made, one-made}
+use Rattle.former.proofs.Laws.Converting.{all_made, one-made}
 use Rattle.former.proofs.convert_records.Goals as goal
-
-pub loop-i-init : goal.loop-i-init
-loop-i-init c = none_made _ _ _
 
 pub loop-i-preserved : goal.loop-i-preserved
 loop-i-preserved c =
     one-made _ _ _ _ _ c.loop-i.invariant _ c.loop-i-test.true c.convert_record.auto.out c.convert_record.ensures
-
-pub shape_of-out : goal.shape_of-out
-shape_of-out c = c.loop-i.invariant.kept
 
 pub returns : goal.returns
 returns c = all_made _ _ _ _ _ c.loop-i.invariant c.requires.0 c.loop-i-test.false

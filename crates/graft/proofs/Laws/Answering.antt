@@ -1,10 +1,14 @@
 -- What grafting answers and writes, by the questions in their order; and that it keeps its promises.
-use Rattle.std.specs.Prelude.{◌≡◌, true, false, List, [], ◌∷◌, ◌++◌, ℕ, ◌*◌, ◌-◌, ◌<◌, ◌≤◌, eqb, leb, drop, take}
+use Rattle.std.specs.Prelude.{◌≡◌, true, false, not, Err, Ok, Result, List, [], ◌∷◌, ◌++◌, ℕ, ◌*◌, ◌-◌, ◌<◌, ◌≤◌, eqb, leb, drop, take}
 use Rattle.std.proofs.Math.Path.{refl, ap, subst}
 use Rattle.std.proofs.Common.{sym, ◌∙◌, arith, length-take-le}
 use Rattle.std.proofs.Math.ListN.{length}
-use borrow.Author.Tests.{le-leb, lt-leb}
+use borrow.Author.Tests.{le-leb, lt-leb, ne_eqb}
 use Rattle.booleans.specs.Laws.{T-is}
+use Rattle.std.specs.Result.{is_err}
+use Rattle.refusals.specs.Laws.{number-some}
+use Rattle.refusals.specs.Refusals.{Answer, Given, Refused, answer, number, refused}
+use Rattle.refusals.specs.declared.Refusal.{Refusal}
 use Rattle.table.specs.Asking.{◌asks◌, first_no}
 use Rattle.table.specs.Bytes.{AreBytes}
 use Rattle.table.specs.Checking.{questions, refusal}
@@ -21,29 +25,28 @@ use Rattle.table.proofs.Laws.RoundTrip.{length-encode}
 use Rattle.writing.specs.Over.{over}
 use Rattle.quoting.proofs.Laws.Answers.{refuses, writes}
 use Rattle.writing.specs.Laws.Over.{take-over}
-use Rattle.graft.specs.declared.Grafted.{Grafted}
 use Rattle.splice.specs.Graft.{graft}
-use Rattle.graft.specs.Answers.{graft_answer, graft_questions, graft_refusal, graft_table, graft_writes, grafted_length, grafted_refusal, question11, question12}
+use Rattle.graft.specs.Answers.{graft_answer, graft_questions, graft_refusal, graft_table, graft_writes, question11, question12}
 use Rattle.graft.specs.Promises.{GraftPromised, GraftPromises}
-use Rattle.graft.specs.Making.{Allowed, GraftMade}
+use Rattle.graft.specs.Making.{Allowed, Made}
 use Rattle.graft.proofs.Laws.Figures.{graft-promised}
 use Rattle.table.proofs.Laws.Tables.{accepted-table}
 use Rattle.graft.proofs.Laws.Result.{result-surveyed}
 
 module _ (h b : List ℕ) (s : ℕ) (out : List ℕ) where
   -- the answer, and what the buffer then holds
-  abbrev pub Answered : Grafted → (new : List ℕ) → Type 0
+  abbrev pub Answered : Answer ℕ → (new : List ℕ) → Type 0
   Answered r new = (r ≡ graft_answer h b s out) × (new ≡ over (graft_writes h b s out) out)
 
-  by-refusal : {n : ℕ} → graft_refusal h b s out ≡ n → (n ≡ 0 → ⊥) → Answered (Grafted.Refused n) out
+  by-refusal : {n : ℕ} → graft_refusal h b s out ≡ n → (n ≡ 0 → ⊥) → Answered (Refused n) out
   unfolding graft_answer graft_writes
-  by-refusal = refuses _ _ Grafted.Refused _ out
+  by-refusal = refuses _ _ Refused _ out
 
-  pub host-refused : {n : ℕ} → n ≡ refusal h → (n ≡ 0 → ⊥) → Answered (Grafted.Refused n) out
+  pub host-refused : {n : ℕ} → n ≡ refusal h → (n ≡ 0 → ⊥) → Answered (Refused n) out
   unfolding graft_refusal
   host-refused e z = by-refusal (check-stops h _ e z) z
 
-  pub sent-refused : refusal h ≡ 0 → {n : ℕ} → n ≡ refusal b → (n ≡ 0 → ⊥) → Answered (Grafted.Refused n) out
+  pub sent-refused : refusal h ≡ 0 → {n : ℕ} → n ≡ refusal b → (n ≡ 0 → ⊥) → Answered (Refused n) out
   unfolding graft_refusal
   sent-refused p e z = by-refusal (check-passes h _ p ∙ check-stops b _ e z) z
 
@@ -52,7 +55,7 @@ module _ (h b : List ℕ) (s : ℕ) (out : List ℕ) where
   unfolding graft_refusal
   asked p q = check-passes h _ p ∙ check-passes b _ q
 
-  pub symbol-refused : refusal h ≡ 0 → refusal b ≡ 0 → question11 b s ≡ false → Answered (Grafted.Refused 11) out
+  pub symbol-refused : refusal h ≡ 0 → refusal b ≡ 0 → question11 b s ≡ false → Answered (Refused 11) out
   unfolding graft_questions first_no
   symbol-refused p q z = by-refusal (asked p q ∙ rw z refl) (λ k. omega (arith, k))
 
@@ -62,19 +65,19 @@ module _ (h b : List ℕ) (s : ℕ) (out : List ℕ) where
     unfolding graft_questions first_no
     allowed = asked (accepted-table h a.host) (accepted-table b a.sent) ∙ rw (T-is (question11 b s) a.eleven) refl
 
-    pub result-refused : question12 (graft_table h b s) ≡ false → Answered (Grafted.Refused 12) out
+    pub result-refused : question12 (graft_table h b s) ≡ false → Answered (Refused 12) out
     unfolding first_no
     result-refused z = by-refusal (allowed ∙ rw z refl) (λ k. omega (arith, k))
 
     module _ (t : question12 (graft_table h b s) ≡ true) where
-      pub short-refused : length out < length (graft_table h b s) → Answered (Grafted.Refused 8) out
+      pub short-refused : length out < length (graft_table h b s) → Answered (Refused 8) out
       unfolding first_no
       short-refused l = by-refusal (allowed ∙ rw (t, lt-leb (length (graft_table h b s)) (length out) l) refl) (λ k. omega (arith, k))
 
-      pub all-written : (n : ℕ) (x new : List ℕ) → length (graft_table h b s) ≤ length out → x ≡ graft_table h b s → n ≡ length x → new ≡ over x out → Answered (Grafted.Written n) new
+      pub all-written : (n : ℕ) (x new : List ℕ) → length (graft_table h b s) ≤ length out → x ≡ graft_table h b s → n ≡ length x → new ≡ over x out → Answered (Given n) new
       unfolding graft_answer graft_writes first_no
       all-written n x new l i k w =
-          writes _ _ Grafted.Refused _ out (allowed ∙ rw (t, le-leb (length (graft_table h b s)) (length out) l) refl) (ap Grafted.Written (k ∙ ap length i)) (w ∙ ap (λ y. over y out) i)
+          writes _ _ Refused _ out (allowed ∙ rw (t, le-leb (length (graft_table h b s)) (length out) l) refl) (ap Given (k ∙ ap length i)) (w ∙ ap (λ y. over y out) i)
 
   -- ---- the promises
 
@@ -87,20 +90,20 @@ module _ (h b : List ℕ) (s : ℕ) (out : List ℕ) where
       graft-promised h b s (is-table h H one) (is-table b B two) y.0 y.1.0
 
   kept : AreBytes h → AreBytes b → GraftPromises h b s (over (graft_writes h b s out) out) (graft_answer h b s out)
-  unfolding GraftPromises graft_answer graft_writes grafted_refusal grafted_length
+  unfolding GraftPromises graft_answer graft_writes
   kept H B =
-      by-refusals (λ r y. GraftPromises h b s (over y out) r) (graft_refusal h b s out) _ Grafted.Refused _ _
+      by-refusals (λ r y. GraftPromises h b s (over y out) r) (graft_refusal h b s out) _ Refused _ _
       (λ n z. subst (GraftPromised h b s) (sym (take-over (graft_table h b s) out)) (accepts H B n))
       (λ n z. absurd (n z))
 
-  pub promised : {r : Grafted} {new : List ℕ} → AreBytes h → AreBytes b → Answered r new → (r ≡ graft_answer h b s out) × ((new ≡ over (graft_writes h b s out) out) × GraftPromises h b s new r)
+  pub promised : {r : Answer ℕ} {new : List ℕ} → AreBytes h → AreBytes b → Answered r new → (r ≡ graft_answer h b s out) × ((new ≡ over (graft_writes h b s out) out) × GraftPromises h b s new r)
   promised {r} H B (a, w) = (a, (w, subst (λ (x : List ℕ). GraftPromises h b s x r) (sym w) (subst (GraftPromises h b s (over (graft_writes h b s out) out)) (sym a) (kept H B))))
 
 -- ---- what was made
 
-module _ (h b : List ℕ) (s : ℕ) (n : ℕ) (work : List ℕ) (m : GraftMade h b s n work) (z : n ≡ 0 → ⊥) where
+module _ (h b : List ℕ) (s : ℕ) (n : ℕ) (work : List ℕ) (m : Made h b s n work) where
   pub made-length : length (graft_table h b s) ≡ record_length * n
-  made-length = ap length (sym (m.bytes z)) ∙ length-take-le (record_length * n) work m.room
+  made-length = ap length (sym m.bytes) ∙ length-take-le (record_length * n) work m.room
 
   made-short : length work ≤ record_length * most_records → records (graft s (decode b) (decode h)) ≤ most_records
   made-short l = omega (arith, sym result-length ∙ made-length, m.room)
@@ -110,4 +113,9 @@ module _ (h b : List ℕ) (s : ℕ) (n : ℕ) (work : List ℕ) (m : GraftMade h
 
   pub made-asked : Allowed h b s → length work ≤ record_length * most_records → (v : Survey) → v ≡ survey_node most_depth 0 (take (record_length * n - 0) (drop 0 work)) → (r : ℕ) → r ≡ survey_refusal v → eqb r 0 ≡ question12 (graft_table h b s)
   made-asked a l v e r f =
-      ap (λ k. eqb k 0) (f ∙ ap survey_refusal (e ∙ ap (survey_node most_depth 0) (part-to work (record_length * n) ∙ m.bytes z))) ∙ result-surveyed h b s a.host a.sent (made-short l)
+      ap (λ k. eqb k 0) (f ∙ ap survey_refusal (e ∙ ap (survey_node most_depth 0) (part-to work (record_length * n) ∙ m.bytes))) ∙ result-surveyed h b s a.host a.sent (made-short l)
+
+-- a result that is no error has no refusal
+pub refusal-told : {A : Type 0} (r : Result A Refusal) → eqb (refused (answer r)) 0 ≡ not (is_err r)
+refusal-told (Ok x) = refl
+refusal-told (Err e) = ne_eqb (number e) 0 (number-some e)

@@ -13,7 +13,8 @@ use Rattle.table.specs.Checking.{IsTable}
 use Rattle.evaluate.specs.Evaluate.{branch, figure, fits, values_of}
 use Rattle.evaluate.proofs.Laws.Ranges.{figure-most}
 use Rattle.values.specs.Values.{question13, triangle_small}
-use Rattle.quoting.specs.Answers.{figure_answer, quoted_figure, quoted_refusal}
+use Rattle.refusals.specs.Refusals.{refused}
+use Rattle.quoting.specs.Answers.{figure_answer, quoted_figure}
 use Rattle.quoting.proofs.Laws.Figures.{checked-accepted, figure-is, figured, quotes-alike}
 use Rattle.values.proofs.Laws.Set.{fourteen-set, nine-set, set_other, set_value, values-set}
 use Rattle.values.proofs.Laws.Values.{refusals-alike, thirteen-limits, time-ceiling, value-ranged, values-carry, values-long, values-nine, values-thirteen}
@@ -70,11 +71,10 @@ module _ (h b vs : List ℕ) (s : ℕ) (H : IsTable h) (B : IsTable b) (eleven :
 
   -- Where the host uses the symbol, a figure of the result means one of the sent table.
   sent-quoted : T (uses s (decode h)) → Quoted (graft_table h b s) vs → Quoted b vs
-  unfolding quoted_refusal
   sent-quoted u z =
       let f = figured (graft_table h b s) vs z in
       let fit = graft-needs (values_of vs) s (decode b) (sent_is h b s H B) (decode h) u (rw (result-reads h b s H B) at f.small) in
-      ap quoted_refusal (figure-is b vs (accepted-table b B) (values-carry _ b vs result-is B (λ q x. sent-limits q s (decode b) (decode h) u (rw (result-reads h b s H B) at x)) f.allowed) fit)
+      ap refused (figure-is b vs (accepted-table b B) (values-carry _ b vs result-is B (λ q x. sent-limits q s (decode b) (decode h) u (rw (result-reads h b s H B) at x)) f.allowed) fit)
 
 -- ---- the promise
 
@@ -84,5 +84,5 @@ graft-promised h b s H B eleven twelve = record {
   unused = result-unused h b s H B;
   figures = λ vs x y z. ap quoted_figure (graft-quoted h b vs s H B eleven twelve x);
   answers = λ vs x. graft-quoted h b vs s H B eleven twelve x;
-  exist = λ u vs z. let x = sent-quoted h b vs s H B eleven twelve u z in (x, ap quoted_refusal (sym (graft-quoted h b vs s H B eleven twelve x)) ∙ z);
+  exist = λ u vs z. let x = sent-quoted h b vs s H B eleven twelve u z in (x, ap refused (sym (graft-quoted h b vs s H B eleven twelve x)) ∙ z);
 }

@@ -1,6 +1,5 @@
 -- The program's pieces on accepted tables: question 11, and the result.
-use Rattle.std.specs.Prelude.{◌≡◌, refl, Bool, false, ◌&&◌, List, ℕ, suc, ◌+◌, ◌*◌, ◌%◌, ◌<◌, ◌≤◌, eqb, leb, ltb, length}
-use Rattle.std.proofs.Math.Path.{ap}
+use Rattle.std.specs.Prelude.{◌≡◌, refl, Bool, false, ◌&&◌, List, ℕ, None, Some, suc, ◌+◌, ◌*◌, ◌%◌, ◌<◌, ◌≤◌, eqb, leb, ltb, length}
 use Rattle.std.proofs.Common.{sym, ◌∙◌, mul-le-mul_left, mul-le-mul_right, le_trans, arith}
 use Rattle.std.proofs.lemmas.Bool.{lt-leb}
 use Rattle.booleans.specs.Tests.{◌and◌}
@@ -11,7 +10,6 @@ use Rattle.table.specs.Trees.{records}
 use Rattle.table.specs.Checking.{IsTable, question1}
 use Rattle.table.proofs.Laws.RoundTrip.{length-encode}
 use Rattle.table.proofs.Laws.Tables.{count-is}
-use Rattle.table.proofs.Laws.Trees.{some-records}
 use Rattle.writing.specs.Records.{front}
 use Rattle.splice.specs.Graft.{graft}
 use Rattle.splice.specs.Renaming.{renamed_table}
@@ -41,25 +39,16 @@ module _ (h b : List ℕ) (s : ℕ) (H : IsTable h) (B : IsTable b) where
       graft-records s (decode b) (decode h) H.accepted.listed ∙ rw (← count-is h H, ← count-is b B, ← occurrences-table h H s) refl
 
   -- more than 512 records fail question 1
-  pub made-long : (work : List ℕ) (count : ℕ) → count ≡ occurrences_in s (record_count h) h → most_records < record_count h + count * (record_count b + 1) → GraftMade h b s 0 work
+  pub made-long : (work : List ℕ) (count : ℕ) → count ≡ occurrences_in s (record_count h) h → most_records < record_count h + count * (record_count b + 1) → GraftMade h b s None work
   unfolding graft_table
-  made-long work count e l = record {
-    long = λ z. long-asked (encode (graft s (decode b) (decode h))) (rw length-encode (omega (arith, result-records, rw e at l)));
-    bytes = λ z. absurd (z refl);
-    room = omega arith;
-  }
+  made-long work count e l = long-asked (encode (graft s (decode b) (decode h))) (rw length-encode (omega (arith, result-records, rw e at l)))
 
   module _ (count : ℕ) (e : count ≡ occurrences_in s (record_count h) h) (l : record_count h + count * (record_count b + 1) ≤ most_records) where
     pub made-room : splice_records s (record_count b) (record_count h) h ≤ most_records
     made-room = rw (count-is b B) (omega (arith, long-table h H s (decode b), result-records, rw e at l))
 
     pub made_all : (work : List ℕ) (r : ℕ) → length work ≡ record_length * most_records
-        → (r ≡ splice_records s (record_count b) (record_count h) h) × (front r work ≡ splice s (renamed_table b) (record_count h) h) → GraftMade h b s r work
+        → (r ≡ splice_records s (record_count b) (record_count h) h) × (front r work ≡ splice s (renamed_table b) (record_count h) h) → GraftMade h b s (Some r) work
     unfolding graft_table
     made_all work r w (x, y) =
-        let n : r ≡ records (graft s (decode b) (decode h)) = x ∙ ap (λ m. splice_records s m (record_count h) h) (count-is b B) ∙ long-table h H s (decode b) in
-        record {
-          long = λ z. absurd (omega (arith, n, some-records (graft s (decode b) (decode h))));
-          bytes = λ z. y ∙ splice-table h H s (decode b);
-          room = omega (arith, x, made-room);
-        }
+        record { bytes = y ∙ splice-table h H s (decode b); room = omega (arith, x, made-room) }

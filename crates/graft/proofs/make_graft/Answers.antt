@@ -20,7 +20,7 @@ pub overflow_add-n : goal.overflow_add-n
 overflow_add-n c = omega (arith, small (goal.at.overflow_add-n c).After-count_occurrences-count, few-records c.args.host.now c.requires.fact_1)
 
 pub returns-then-n-count-gt-MOST_RECORDS : goal.returns-then-n-count-gt-MOST_RECORDS
-returns-then-n-count-gt-MOST_RECORDS c = made-long _ _ _ c.requires.fact_1 c.requires.fact_2 _ _ c.count_occurrences-count.ensures.0 c.if-n-count-gt-MOST_RECORDS.true
+returns-then-n-count-gt-MOST_RECORDS c = made-long _ _ _ c.requires.fact_1 c.requires.fact_2 c.args.work.now _ c.count_occurrences-count.ensures.0 c.if-n-count-gt-MOST_RECORDS.true
 
 pub put_all-requires : goal.put_all-requires
 put_all-requires c =

@@ -1,7 +1,7 @@
-use mathlib.Core.Path.{ap₂}
-use mathlib.Core.Bool.{◌&&◌}
+use Rattle.std.proofs.Common.{rules, ap₂, ◌∙◌}
+use Rattle.std.specs.Prelude.{◌&&◌}
+use Rattle.marking.specs.Laws.Equal.{plain-most}
 use Rattle.marking.specs.Opening.{limit_opens}
-use borrow.Author.Rules.{rules}
 use Rattle.marking.proofs.limit_opens.Goals as goal
 
 pub returns-in-Unlimited : goal.returns-in-Unlimited
@@ -10,4 +10,4 @@ returns-in-Unlimited c = search rules
 
 pub returns-in-AtMost : goal.returns-in-AtMost
 unfolding limit_opens
-returns-in-AtMost c = rw c.in-AtMost.is (ap₂ ◌&&◌ c.most_is.ensures c.most_in_range.ensures)
+returns-in-AtMost c = rw c.in-AtMost.is (ap₂ ◌&&◌ (c.eq.ensures ∙ plain-most c.in-AtMost.most c.args.number) c.most_in_range.ensures)

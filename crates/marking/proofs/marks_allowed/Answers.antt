@@ -1,21 +1,17 @@
-use Rattle.std.specs.Prelude.{not}
-use Rattle.std.proofs.Math.Path.{ap}
-use Rattle.marking.specs.Laws.Opening.{asked-no, asked-yes, none-asked, one-asked, other_length}
+use Rattle.std.proofs.Common.{of_calls, refl, eq-eqb}
+use Rattle.booleans.specs.Tests.{◌and◌}
+use Rattle.marking.specs.Opening.{digit_opens, question16}
+use Rattle.marking.specs.Marks.{mark_length}
+use Rattle.table.specs.Numbers.{most_records}
+use Rattle.std.proofs.Common.{length}
+use Rattle.marking.specs.Laws.Opening.{all-tested, other_length}
 use Rattle.marking.proofs.marks_allowed.Goals as goal
 
 pub returns-then-marks-ne-MARK_LENGTH : goal.returns-then-marks-ne-MARK_LENGTH
 returns-then-marks-ne-MARK_LENGTH c = other_length _ _ _ _ c.if-marks-ne-MARK_LENGTH.true
 
-pub loop-i-init : goal.loop-i-init
-loop-i-init c = (c.if-marks-ne-MARK_LENGTH.false, none-asked _ _)
-
-pub returns-then-not-digit_opens : goal.returns-then-not-digit_opens
-returns-then-not-digit_opens c =
-    asked-no _ _ _ _ c.loop-i.i c.loop-i.invariant.0 c.loop-i.invariant.1 _ c.loop-i-test.true c.digit_opens.ensures (ap not c.if-not-digit_opens.true)
-
-pub loop-i-preserved : goal.loop-i-preserved
-loop-i-preserved c =
-    (c.loop-i.invariant.0, one-asked _ _ c.loop-i.i _ c.loop-i-test.true c.loop-i.invariant.1 c.digit_opens.ensures (ap not c.if-not-digit_opens.false))
-
 pub returns : goal.returns
-returns c = asked-yes _ _ _ _ c.loop-i.i c.loop-i.invariant.0 c.loop-i.invariant.1 c.loop-i-test.false
+unfolding question16 ◌and◌
+returns c =
+    let p = digit_opens c.args.symbol c.args.number c.args.table.now c.args.marks.now in
+    rw (eq-eqb (length c.args.marks.now) mark_length c.if-marks-ne-MARK_LENGTH.false) (all-tested _ _ _ c.all.result p most_records refl c.all.ensures.ran (λ x b q h. search of_calls))

@@ -2,7 +2,7 @@
 use Rattle.std.specs.Prelude.{◌≡◌, get_or, length}
 use Rattle.std.proofs.Math.Path.{refl, ap}
 use Rattle.std.proofs.Common.{sym, ◌∙◌}
-use Prim.Native.Nat.{ℕ, zero, suc, ◌+◌, ◌*◌, ◌%◌, ◌/◌, ◌<◌}
+use Prim.Native.Nat.{ℕ, zero, suc, ◌+◌, ◌*◌, ◌%◌, ◌/◌, ◌^◌, ◌<◌}
 use Rattle.std.proofs.Math.Nat.{add-zero}
 use native.Mathlib.Omega.{arith}
 use Rattle.marking.specs.Marks.{digit_at, digit_of, mark_byte, mark_bytes}
@@ -41,3 +41,12 @@ last-digit x (suc zero) l a b c = absurd (b refl)
 last-digit x (suc (suc zero)) l a b c = absurd (c refl)
 last-digit x (suc (suc (suc zero))) l a b c = refl
 last-digit x (suc (suc (suc (suc k)))) l a b c = absurd (omega arith)
+
+-- by a shift
+pub shifted : (x k : ℕ) → k < 4 → x / 2 ^ (2 * k) % 4 ≡ digit_of x k
+unfolding digit_of
+shifted x zero l = omega arith
+shifted x (suc zero) l = refl
+shifted x (suc (suc zero)) l = omega arith
+shifted x (suc (suc (suc zero))) l = omega arith
+shifted x (suc (suc (suc (suc k)))) l = absurd (omega arith)

@@ -1,15 +1,23 @@
 -- Question 16, record by record.
-use Rattle.std.specs.Prelude.{◌≡◌, Bool, not, ◌||◌, List, eqb, leb, length}
+use Rattle.std.specs.Prelude.{◌≡◌, Bool, not, ◌||◌, List, eqb, leb, get_or, length}
 use Rattle.std.proofs.Math.Path.{refl, sym}
-use Rattle.std.proofs.Common.{ap, ◌∙◌, leb→le}
+use Rattle.std.proofs.Common.{ap, subst, ◌∙◌, leb→le}
 use Rattle.std.proofs.Math.Bool.{true, false}
 use Prim.Native.Nat.{ℕ, zero, suc, ◌+◌, ◌-◌, ◌<◌, ◌≤◌}
-use Rattle.std.proofs.Math.Nat.{add-zero, sub-zero}
+use Rattle.std.proofs.Math.Nat.{add-zero, sub-zero, zero-add}
 use native.Mathlib.Omega.{arith}
 use Rattle.std.proofs.Math.Dec.{T, eqb→eq, ltb}
 use borrow.Author.Tests.{eq-eqb, le-ltb, leb-false, lt-ltb, ltb-false, ltb-true, ne_eqb, not-false, not-true}
+use Rattle.std.specs.Bool.{MatchBool}
+use Rattle.std.specs.Iterator.{ChecksAll}
+use Rattle.std.proofs.iter.Yields.{nat_range_steps}
+use Rattle.std.specs.List.{AllWithin, HoldsAt, range_with_len}
+use Rattle.std.proofs.lemmas.Iterator.{YieldsList-from_range, cases_from_all}
+use Rattle.std.proofs.lemmas.List.FromFn.{get_or-range_with_len, length-range_with_len}
+use Rattle.std.specs.declared.ops.Range.{Range}
+use denote.Param.Members.{Called, Mut}
 use Rattle.booleans.specs.Tests.{◌and◌}
-use Rattle.booleans.specs.Laws.{T-is, both, by_cond, either, is_T, join-and}
+use Rattle.booleans.specs.Laws.{T-is, both, by_cond, either, is_T, join-and, same_test}
 use Rattle.table.specs.Numbers.{most_records}
 use Rattle.table.specs.Table.{record_count}
 use Rattle.table.proofs.Laws.Reading.{next-count}
@@ -30,6 +38,25 @@ module _ (p : ℕ → Bool) where
   from_all zero i j h l = absurd (omega arith)
   from_all (suc n) i zero h l = rw add-zero (both _ _ h).0
   from_all (suc n) i (suc j) h l = let e : i + suc j ≡ suc i + j = omega arith in rw e (from_all n (suc i) j (both _ _ h).1 (omega arith))
+
+-- put by the library's `all`
+pub all-tested : {F : Type 0} {g : Mut F (ℕ × Unit {0}) Bool} (s u : Range ℕ) (f : F) (r : Bool) (p : ℕ → Bool) (n : ℕ) → s ≡ record { start = 0; end = n } → ChecksAll nat_range_steps g s f r u
+    → ((x : ℕ) (b : Bool) (q : F) → Called g f (x, tt) b q → (q ≡ f) × (b ≡ p x)) → r ≡ all_from p n 0
+all-tested s u f r p n e ran pure =
+    go r (cases_from_all u f r (λ x. p x ≡ true) (λ x. p x ≡ false) ran (YieldsList-from_range 0 n n e (sub-zero n)) (λ x q c. ((pure x true q c).0, sym (pure x true q c).1)) (λ x q c. sym (pure x false q c).1))
+  where
+    numbers : List ℕ
+    numbers = range_with_len 0 n
+
+    long : length numbers ≡ n
+    long = length-range_with_len 0 n
+
+    at : (k : ℕ) → k < n → p k ≡ p (get_or numbers k 0)
+    at k l = ap p (sym (get_or-range_with_len 0 n k 0 l ∙ zero-add k))
+
+    go : (b : Bool) → MatchBool b (AllWithin (λ x. p x ≡ true) numbers 0 (length numbers)) ((k : ℕ) × (k < length numbers) × HoldsAt (λ x. p x ≡ false) numbers k) → b ≡ all_from p n 0
+    go true h = sym (T-is _ (all-from p n 0 (λ j l. is_T _ (at j (omega arith) ∙ h j 0 (omega arith) (omega (arith, long))))))
+    go false (k, l, failed) = same_test _ _ (λ b. absurd b) (λ t. subst T (ap p (zero-add k) ∙ at k (omega (arith, long)) ∙ failed 0) (from_all p n 0 k t (omega (arith, long))))
 
 -- the numbers before i passed the test, and the others are left
 pub record Asked (p : ℕ → Bool) (n i : ℕ) : Type 0 where

@@ -1,19 +1,21 @@
 -- Each return has the answers to the questions before it; the last two have what the walk found.
 use mathlib.Core.Path.{ap, sym, ap₂, ◌∙◌}
 use native.Mathlib.Omega.{arith}
+use Rattle.refusals.specs.Laws.{number-some, passed_on}
+use Rattle.refusals.specs.Refusals.{Given}
 use Rattle.table.specs.Bytes.{AreBytes}
 use Rattle.table.proofs.Laws.Refusal.{accepted-short}
 use Rattle.lists.specs.Pairs.{top}
 use Rattle.evaluate.proofs.Laws.Shown.{first-top}
-use Rattle.quoting.specs.declared.Quote.{Quote}
-use Rattle.quoting.proofs.Laws.Evaluated.{figure-found, figure-no, quote-large}
+use Rattle.quoting.proofs.Laws.Evaluated.{figure-found, figure-no, quote-large, quote_found}
 use Rattle.quoting.proofs.Laws.Figures.{quote-values}
 use Rattle.values.proofs.Laws.Values.{values-long}
 use Rattle.quoting.proofs.quote_checked.Goals as goal
 
-pub returns-then-question-ne0 : goal.returns-then-question-ne0
-returns-then-question-ne0 c =
-    figure-no _ _ c.requires (quote-values _ _ c.values_refusal-question.ensures c.if-question-ne0.true) c.if-question-ne0.true
+pub returns-in_err-accept : goal.returns-in_err-accept
+returns-in_err-accept c =
+    passed_on _ _ c.from_residual.ensures.1
+    ∙ figure-no _ _ c.requires (quote-values _ _ c.in_err-accept.ensures (number-some _)) (number-some _)
 
 pub walk-requires-clause-fact_1 : goal.walk-requires-clause-fact_1
 walk-requires-clause-fact_1 c =
@@ -21,7 +23,7 @@ walk-requires-clause-fact_1 c =
     accepted-short _ bytes c.requires
 
 pub walk-requires-clause-fact_2 : goal.walk-requires-clause-fact_2
-walk-requires-clause-fact_2 c = values-long _ _ (sym c.values_refusal-question.ensures ∙ c.if-question-ne0.false)
+walk-requires-clause-fact_2 c = values-long _ _ (sym c.in_ok-accept.ensures)
 
 pub walk-requires-clause-fact_3 : goal.walk-requires-clause-fact_3
 walk-requires-clause-fact_3 c = c.flag_free-free.ensures
@@ -31,8 +33,8 @@ returns c =
     let bytes : AreBytes c.args.table.now = λ i. omega (arith, c.type_inv.table i) in
     let walk = c.in-Some.ensures in
     let (proper, found) = walk.shows in
-    ap₂ Quote.Figure (c.value_at-first.ensures ∙ sym (first-top proper) ∙ sym (ap (λ e. top e.pairs) found)) (sym (ap (λ e. e.branch) found))
-    ∙ figure-found _ _ c.requires bytes (sym c.values_refusal-question.ensures ∙ c.if-question-ne0.false) _ walk.agree walk.same (ap (λ e. e.fits) found)
+    ap₂ (λ x k. Given (quote_found x k)) (c.value_at-first.ensures ∙ sym (first-top proper) ∙ sym (ap (λ e. top e.pairs) found)) (sym (ap (λ e. e.branch) found))
+    ∙ figure-found _ _ c.requires bytes (sym c.in_ok-accept.ensures) _ walk.agree walk.same (ap (λ e. e.fits) found)
 
 pub returns-in_default : goal.returns-in_default
 returns-in_default c =
@@ -40,5 +42,5 @@ returns-in_default c =
     let walk = c.in_default.ensures in
     let no = c.requires in
     figure-no _ _ no
-    (quote-large _ _ no bytes (sym c.values_refusal-question.ensures ∙ c.if-question-ne0.false) _ walk.agree walk.same (ap (λ e. e.fits) walk.shows))
+    (quote-large _ _ no bytes (sym c.in_ok-accept.ensures) _ walk.agree walk.same (ap (λ e. e.fits) walk.shows))
     (λ z. omega (arith, z))

@@ -6,10 +6,10 @@ use Rattle.retime.proofs.quote_after.Goals as goal
 
 pub quote_checked-requires : goal.quote_checked-requires
 quote_checked-requires c =
-    ap refusal (copy-retimed _ _ _ _ _ _ _ refl c.requires.fact_1.0 c.write_bytes.ensures c.put_value.ensures) ∙ c.requires.fact_2
+    ap refusal (copy-retimed _ _ _ _ _ _ _ refl c.requires.fact_1.0 c.write_front.ensures c.put_value.ensures) ∙ c.requires.fact_2
 
 pub returns : goal.returns
 returns c =
     let a = c.args in
     c.quote_checked.ensures
-    ∙ ap (λ t. figure_answer t a.values.now) (copy-retimed _ _ _ _ _ _ _ refl c.requires.fact_1.0 c.write_bytes.ensures c.put_value.ensures)
+    ∙ ap (λ t. figure_answer t a.values.now) (copy-retimed _ _ _ _ _ _ _ refl c.requires.fact_1.0 c.write_front.ensures c.put_value.ensures)

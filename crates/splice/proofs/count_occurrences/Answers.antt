@@ -1,11 +1,13 @@
-use Rattle.splice.specs.Laws.Splicing.{all-counted, none-counted, one-counted}
+use Rattle.std.proofs.Common.{of_calls, ◌∙◌}
+use Rattle.table.specs.Table.{record_count}
+use Rattle.splice.specs.Laws.Splicing.{is_place, numbers-kept, occurrences-few, places-counted}
 use Rattle.splice.proofs.count_occurrences.Goals as goal
 
-pub loop-i-init : goal.loop-i-init
-loop-i-init c = none-counted _ _
-
-pub loop-i-preserved : goal.loop-i-preserved
-loop-i-preserved c = one-counted _ _ _ _ _ c.loop-i-test.true c.loop-i.invariant c.occurs_at-count.ensures.0 c.occurs_at-count.ensures.1
-
 pub returns : goal.returns
-returns c = all-counted _ _ _ _ c.loop-i-test.false c.loop-i.invariant
+returns c =
+    let s = c.args.symbol in
+    let b = c.args.table.now in
+    let n = record_count b in
+    let ran = c.count.ensures.ran in
+    let counted = ran.2 ∙ numbers-kept _ _ (is_place s b) n ran.0 ran.1 (cc) c.filter.ensures.closure (λ x r q h. search of_calls) ∙ places-counted s b n 0 in
+    (counted, rw counted (occurrences-few s n b))

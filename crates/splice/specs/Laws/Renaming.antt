@@ -229,13 +229,13 @@ pub enters : (b : List ℕ) (e e' : List ℕ) (w outer d r : ℕ) (n : Node) →
     → (stack e' r ≡ entered n.kind w (stack e d)) × (r ≤ most_loops) → (stack e' r ≡ entered (first_node b).kind w (still_around w (stack e outer))) × (r ≤ most_loops)
 enters b e e' w outer d r n is s (x, l) = (x ∙ ap₂ (λ (m : Node) (y : List ℕ). entered m.kind w y) is s, l)
 
-pub one-renamed : (b e : List ℕ) (w outer d i at r k x : ℕ) (out copy : List ℕ) → stack e d ≡ still_around w (stack e outer) → record_length * at ≤ length out
+pub one-renamed : (b e e' : List ℕ) (w outer d i at r k x : ℕ) (out copy : List ℕ) → stack e' d ≡ still_around w (stack e outer) → record_length * at ≤ length out
     → Appended at out 1 (slice b i 1) r copy → k ≡ loop_byte (first_node (drop (record_length * i) b)).limit → x ≡ renamed_name k d
     → front (at + 1) (set copy (record_length * at + 3) x) ≡ front at out ++ renamed_record (length (still_around w (stack e outer))) (drop (record_length * i) b)
 unfolding renamed_record
-one-renamed b e w outer d i at r k x out copy s h (r-is, f) k-is x-is =
+one-renamed b e e' w outer d i at r k x out copy s h (r-is, f) k-is x-is =
     take-set-lt (record_length * (at + 1)) copy (record_length * at + 3) x (omega arith)
-    ∙ rw (← r-is, f, ← s, length-stack e d, ← name-byte, ← k-is, ← x-is) (set-behind (front at out) (slice b i 1) (record_length * at) 3 x (length-take-le (record_length * at) out h))
+    ∙ rw (← r-is, f, ← s, length-stack e' d, ← name-byte, ← k-is, ← x-is) (set-behind (front at out) (slice b i 1) (record_length * at) 3 x (length-take-le (record_length * at) out h))
 
 -- ---- the table
 

@@ -1,8 +1,20 @@
 -- Records counted, found, copied and put one after the other, as the program does it.
-use Rattle.std.specs.Prelude.{◌≡◌, Bool, true, false, cond, drop, length, take}
+use Rattle.std.specs.Prelude.{◌≡◌, Bool, true, false, cond, drop, length, take, MatchOption, None, Option, Some}
+use Rattle.std.specs.Fn.{CalledAt}
+use Rattle.std.specs.Iterator.{Drains}
+use Rattle.std.specs.Iterator.Adapters.{filter_callee, filter_source, filter_steps}
+use Rattle.std.specs.List.{filter, range_with_len}
+use Rattle.std.specs.declared.iter.Filter.{Filter}
+use Rattle.std.specs.declared.ops.Range.{Range}
+use Rattle.std.proofs.iter.Yields.{gives_Drains, nat_range_steps}
+use Rattle.std.proofs.lemmas.Iterator.{YieldsList-from_range}
+use Rattle.std.proofs.lemmas.Iterator.Consumers.{YieldsList-from_filter}
+use Rattle.std.proofs.lemmas.List.{length-map}
+use denote.Param.Members.{Mut}
+use denote.Ref.{Bor}
 use Rattle.std.proofs.Math.Path.{refl, ap}
 use Rattle.std.proofs.Common.{ap₂, sym, ◌∙◌, add_assoc, suc-add, zero-add, length-append, take-append-drop, drop_at, drop-drop, length-take-le, take-add, take_at}
-use mathlib.Core.List.{List, ◌++◌, append_assoc}
+use mathlib.Core.List.{List, ◌∷◌, ◌++◌, append_assoc}
 use Prim.Native.Nat.{ℕ, zero, suc, ◌+◌, ◌*◌, ◌-◌, ◌<◌, ◌≤◌}
 use Rattle.std.proofs.Math.Nat.{sub-zero}
 use native.Mathlib.Omega.{arith}
@@ -75,6 +87,41 @@ pub all-counted : (s : ℕ) (b : List ℕ) (count i : ℕ) → record_count b �
 unfolding occurrences_in
 all-counted s b count i h c = (omega (arith, rw (none_left (record_count b) i h) at c.left), omega (arith, c.few, c.within))
 
+-- at most as many as there are records
+occurs-few : (s : ℕ) (b : List ℕ) → occurs_first s b ≤ 1
+unfolding occurs_first
+occurs-few s b = go (is_symbol s (first_node b).kind)
+  where
+    go : (c : Bool) → cond c 1 0 ≤ 1
+    go true = omega arith
+    go false = omega arith
+
+pub occurrences-few : (s n : ℕ) (b : List ℕ) → occurrences_in s n b ≤ n
+unfolding occurrences_in
+occurrences-few s zero b = omega arith
+occurrences-few s (suc n) b = omega (arith, occurs-few s b, occurrences-few s n (drop record_length b))
+
+-- record i is a block with the symbol
+abbrev pub is_place : (s : ℕ) (b : List ℕ) (i : ℕ) → Bool
+is_place s b i = is_symbol s (first_node (drop (record_length * i) b)).kind
+
+-- what the library's `filter` keeps of the first n numbers
+pub numbers-kept : {F : Type 0} {g : Mut F (Bor ℕ × Unit {0}) Bool} (s : Filter (Range ℕ) F) (f : F) (p : ℕ → Bool) (n : ℕ) (xs : List ℕ) → Drains (filter_steps nat_range_steps g) s xs
+    → filter_source s ≡ record { start = 0; end = n } → filter_callee s ≡ f → ((x : ℕ) (r : Bool) (q : F) → CalledAt g f x r q → (q ≡ f) × (r ≡ p x)) → length xs ≡ length (filter p (range_with_len 0 n))
+numbers-kept {g = g} s f p n xs d e c pure =
+    let kept = YieldsList-from_filter g p (YieldsList-from_range 0 n n e (sub-zero n)) c pure in
+    sym (length-map xs (λ x. x)) ∙ ap length (gives_Drains (filter_steps nat_range_steps g) (λ x. x) xs _ s kept.runs d)
+
+-- of n records from record i on
+pub places-counted : (s : ℕ) (b : List ℕ) (n i : ℕ) → length (filter (is_place s b) (range_with_len i n)) ≡ occurrences_in s n (drop (record_length * i) b)
+unfolding occurrences_in occurs_first
+places-counted s b zero i = refl
+places-counted s b (suc n) i = go (is_place s b i) _ (places-counted s b n (i + 1) ∙ ap (occurrences_in s n) (sym (next-part b i)))
+  where
+    go : (c : Bool) (xs : List ℕ) {k : ℕ} → length xs ≡ k → length (cond c (i ∷ xs) xs) ≡ cond c 1 0 + k
+    go true xs e = ap suc e ∙ omega arith
+    go false xs e = e ∙ omega arith
+
 -- ---- records that stay
 
 -- m records and those behind them
@@ -143,14 +190,34 @@ module _ (s : ℕ) (h : List ℕ) (i : ℕ) (l : 0 < occurrences_in s (record_co
           none = rw (n, occurrences-split, p.none, bytes_on s h i r p, ← e, z) refl;
         }
 
+-- none of d records from record i on
+none-between : (s : ℕ) (h : List ℕ) (d i : ℕ) → ((k : ℕ) → i ≤ k → k < i + d → is_place s h k ≡ false) → occurrences_in s d (drop (record_length * i) h) ≡ 0
+unfolding occurrences_in occurs_first
+none-between s h zero i n = refl
+none-between s h (suc d) i n = rw (n i (omega arith) (omega arith), zero-add, next-part) (none-between s h d (i + 1) (λ k l m. n k (omega arith) (omega arith)))
+
+module _ (s : ℕ) (h : List ℕ) (i : ℕ) where
+  pub found : (r : ℕ) → i ≤ r → r < record_count h → is_place s h r ≡ true → ((k : ℕ) → i ≤ k → k < r → is_place s h k ≡ false)
+      → NoPlace s h i r × (r < record_count h) × (occurs_first s (drop (record_length * r) h) ≡ 1)
+  unfolding occurs_first
+  found r l w hit miss =
+      (record { onward = l; within = omega arith; none = none-between s h (r - i) i (λ k a b. miss k a (omega arith)) }, w, rw hit refl)
+
+  -- there is one
+  pub some-found : 0 < occurrences_in s (record_count h - i) (drop (record_length * i) h) → (o : Option ℕ)
+      → MatchOption o ((k : ℕ) → i ≤ k → k < record_count h → is_place s h k ≡ false) (λ r. (i ≤ r) × (r < record_count h) × (is_place s h r ≡ true) × ((k : ℕ) → i ≤ k → k < r → is_place s h k ≡ false))
+      → (r : ℕ) × (o ≡ Some r) × NoPlace s h i r × (r < record_count h) × (occurs_first s (drop (record_length * r) h) ≡ 1)
+  some-found l None miss = absurd (omega (arith, none-between s h (record_count h - i) i (λ k a b. miss k a (omega arith))))
+  some-found l (Some r) (a, b, hit, miss) = let here = found r a b hit miss in (r, refl, here.0, here.1, here.2)
+
 -- ---- what stands in a buffer
 
 pub renamed-long : (b : List ℕ) → IsTable b → length (renamed_table b) ≡ record_length * record_count b
 renamed-long b t = length-encode (rename (decode b) 0) ∙ ap (λ n. record_length * n) (rename-records (decode b) 0 ∙ sym (count-is b t))
 
-pub stands_on : (body : List ℕ) (k : ℕ) (x y z : List ℕ) → y ≡ x ++ z → Stands body k x → Stands body k y
-stands_on body k x y z e s n =
-    let a = s n in
+pub stands_on : (body : List ℕ) (last : Option ℕ) (x y z : List ℕ) → y ≡ x ++ z → Stands body last x → Stands body last y
+stands_on body None x y z e s = tt
+stands_on body (Some k) x y z e a =
     record { before = a.before; behind = a.behind ++ z; parts = e ∙ rw (a.parts, append_assoc, append_assoc) refl; long = a.long }
 
 module _ (body : List ℕ) (k m at : ℕ) (out : List ℕ) (l : length body ≡ record_length * m) (r : record_length * at ≤ length out) (a : Among body k (front at out)) where
@@ -175,9 +242,9 @@ unfolding place_bytes
 place-parts l a body m at first end r out o₁ o₂ o₃ (x₁, y₁) (x₂, y₂) (x₃, y₃) =
     (omega arith, y₃ ∙ rw (y₂, y₁, append_assoc, append_assoc, append_assoc) refl)
 
-placed-stands : (l : Limit) (a : ℕ) (body : List ℕ) (end z : ℕ) (o₁ o₂ : List ℕ) → record_length * end ≤ length o₁ → front z o₂ ≡ front end o₁ ++ place_bytes body l a → Stands body (end + 1) (front z o₂)
+placed-stands : (l : Limit) (a : ℕ) (body : List ℕ) (end z : ℕ) (o₁ o₂ : List ℕ) → record_length * end ≤ length o₁ → front z o₂ ≡ front end o₁ ++ place_bytes body l a → Stands body (Some (end + 1)) (front z o₂)
 unfolding place_bytes
-placed-stands l a body end z o₁ o₂ r e n =
+placed-stands l a body end z o₁ o₂ r e =
     let loop = record_bytes (node_of (Loop (Plain 1)) l a) 2 in
     record {
       before = front end o₁ ++ loop;
@@ -189,7 +256,7 @@ placed-stands l a body end z o₁ o₂ r e n =
 -- ---- records put
 
 -- the host's records before record i are put, with what stands in place of the symbol, which is left in so many records
-pub record Put (s m : ℕ) (body h out₀ : List ℕ) (left last at i : ℕ) (out : List ℕ) : Type 0 where
+pub record Put (s m : ℕ) (body h out₀ : List ℕ) (left : ℕ) (last : Option ℕ) (at i : ℕ) (out : List ℕ) : Type 0 where
   pub within : i ≤ record_count h
   pub counted : left ≡ occurrences_in s (record_count h - i) (drop (record_length * i) h)
   pub long : at + splice_records s m (record_count h - i) (drop (record_length * i) h) ≡ splice_records s m (record_count h) h
@@ -197,18 +264,18 @@ pub record Put (s m : ℕ) (body h out₀ : List ℕ) (left last at i : ℕ) (ou
   pub stands : Stands body last (front at out)
   pub kept : length out ≡ length out₀
 
-pub none-put : (s m : ℕ) (body h out : List ℕ) (count : ℕ) → count ≡ occurrences_in s (record_count h) h → Put s m body h out count 0 0 0 out
+pub none-put : (s m : ℕ) (body h out : List ℕ) (count : ℕ) → count ≡ occurrences_in s (record_count h) h → Put s m body h out count None 0 0 out
 none-put s m body h out count e = record {
   within = omega arith;
   counted = rw sub-zero e;
   long = rw sub-zero (omega arith);
   bytes = rw sub-zero refl;
-  stands = λ n. absurd (n refl);
+  stands = tt;
   kept = refl;
 }
 
 -- a place, and the records before it that stay
-module _ (s m : ℕ) (body h out₀ : List ℕ) (left last at i : ℕ) (out : List ℕ) (p : Put s m body h out₀ left last at i out) where
+module _ (s m : ℕ) (body h out₀ : List ℕ) (left : ℕ) (last : Option ℕ) (at i : ℕ) (out : List ℕ) (p : Put s m body h out₀ left last at i out) where
   module _ (r : ℕ) (q : NoPlace s h i r) (w : r < record_count h) (f : occurs_first s (drop (record_length * r) h) ≡ 1) where
     -- the next part of the host has this place and what follows it
     count-here : occurrences_in s (record_count h - i) (drop (record_length * i) h) ≡ suc (occurrences_in s (record_count h - (r + 1)) (drop (record_length * (r + 1)) h))
@@ -226,7 +293,7 @@ module _ (s m : ℕ) (body h out₀ : List ℕ) (left last at i : ℕ) (out : Li
 
     pub one-put : (end z : ℕ) (o₁ o₂ : List ℕ) (n : Node) → n ≡ first_node (drop (record_length * r) h) → length o₁ ≡ length out → length o₂ ≡ length o₁ → record_length * end ≤ length o₁
         → Appended at out (r - i) (slice h i (r - i)) end o₁ → Appended end o₁ (m + 2) (place_bytes body n.limit n.address) z o₂
-        → Put s m body h out₀ (left - 1) (end + 1) z (r + 1) o₂
+        → Put s m body h out₀ (left - 1) (Some (end + 1)) z (r + 1) o₂
     unfolding splice_records
     one-put end z o₁ o₂ n e k₁ k₂ l (x₁, y₁) (x₂, y₂) = record {
       within = omega arith;

@@ -6,7 +6,7 @@ use Rattle.text.proofs.put_word.Goals as goal
 pub returns : goal.returns
 returns c =
     let a = c.args in
-    let said = written_after a.out.now a.word.now _ _ _ a.at (omega arith) c.write_bytes.ensures in
+    let said = written_after a.out.now a.word.now _ _ _ a.at (omega arith) c.write_front.ensures in
     record {
       prefix_len = counts-after a.out.now a.word.now _ a.at (omega arith) said;
       value = refl;

@@ -1,9 +1,12 @@
--- A field written over, byte by byte; what it changes and what not; and the value of a block's record.
-use Rattle.std.specs.Prelude.{◌≡◌, refl, Bool, true, false, List, [], ◌∷◌, ◌++◌, ℕ, suc, ◌+◌, ◌*◌, ◌-◌, ◌/◌, ◌%◌, ◌<◌, ◌≤◌, ltb, drop, get_or, length, set, take}
-use Rattle.std.proofs.Common.{ap, sym, ◌∙◌, append_assoc, append-nil, add_assoc, add-zero, add-one, arith, length-append, length-drop, take-append-drop, drop-set-lt, get_or-append-add, get_or-drop, get_or-take, length-take-le, take-suc-set, ltb-false, ltb-true}
+-- A field written over, at once or byte by byte; what it changes and what not; and the value of a block's record.
+use Rattle.std.specs.Prelude.{◌≡◌, refl, Bool, true, false, List, [], ◌∷◌, ◌++◌, ℕ, zero, suc, ◌+◌, ◌*◌, ◌-◌, ◌/◌, ◌%◌, ◌^◌, ◌<◌, ◌≤◌, ltb, drop, get_or, length, set, take}
+use Rattle.std.proofs.Common.{ap, sym, ◌∙◌, append_assoc, append-nil, add_assoc, add-zero, add-one, arith, length-append, length-drop, take-append-drop, drop-drop, drop-set-lt, get_or-append-add, get_or-drop, get_or-take, length-take-le, take-suc-set, ltb-false, ltb-true}
 use Rattle.std.proofs.Math.ListN.{get_or-append}
 use Rattle.std.proofs.Math.Seq.{drop-append-add, take-append-add}
 use Rattle.std.proofs.lemmas.List.{drop-append-le, take-append-le}
+use Rattle.std.proofs.Math.Nat.{div-div-eq-div-mul, div-one, pow-suc}
+use Rattle.std.specs.Int.{bytes_low_first}
+use borrow.Rule.Slice.PartMut.{put_mid}
 use Rattle.table.specs.Bytes.{to_bytes}
 use Rattle.table.specs.Numbers.{record_length}
 use Rattle.table.specs.Table.{flag, kind_byte, record_bytes, value_num}
@@ -12,6 +15,21 @@ use Rattle.table.specs.declared.Node.{Node}
 use Rattle.table.specs.declared.Number.TheVariants.{Plain}
 use Rattle.table.proofs.Laws.Bytes.{length_to}
 use Rattle.writing.specs.Fields.{with_field, with_value}
+
+-- ---- all bytes at once, as the library gives them
+
+low-first : (k i x : ℕ) → bytes_low_first i k x ≡ to_bytes k (x / 256 ^ i)
+unfolding to_bytes
+low-first zero i x = refl
+low-first (suc k) zero x = rw (low-first k 1 x, div-one x) refl
+low-first (suc k) (suc i) x = rw (low-first k (suc (suc i)) x, div-div-eq-div-mul x (256 ^ suc i) 256, pow-suc 256 (suc i)) refl
+
+pub le_bytes : (k x : ℕ) → bytes_low_first 0 k x ≡ to_bytes k x
+le_bytes k x = low-first k 0 x ∙ ap (to_bytes k) (div-one x)
+
+pub field-put : (b y : List ℕ) (i n k x : ℕ) → k ≡ n → y ≡ bytes_low_first 0 n x → put_mid i k b y ≡ with_field b i n x
+unfolding with_field
+field-put b y i n k x e f = rw (e, f, le_bytes n x, drop-drop n i b) (sym (append_assoc (take i b) (to_bytes n x) (drop (i + n) b)))
 
 -- ---- one byte after the other
 

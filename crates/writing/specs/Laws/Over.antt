@@ -19,13 +19,13 @@ copied-over s d n l = rw (length-take-le n s l) refl
 
 -- ---- what was written stands at the front
 
-pub take-over : (front buffer : List ℕ) → take (length front) (over front buffer) ≡ front
+pub take-over : {X : Type 0} (front buffer : List X) → take (length front) (over front buffer) ≡ front
 unfolding over
 take-over front buffer = take_at front (drop (length front) buffer) (length front) refl
 
-pub front-over : (front buffer : List ℕ) (n : ℕ) → length front ≡ n → take n (over front buffer) ≡ front
+pub front-over : {X : Type 0} (front buffer : List X) (n : ℕ) → length front ≡ n → take n (over front buffer) ≡ front
 front-over front buffer n e = ap (λ k. take k (over front buffer)) (sym e) ∙ take-over front buffer
 
-pub long-over : (front buffer : List ℕ) → length front ≤ length (over front buffer)
+pub long-over : {X : Type 0} (front buffer : List X) → length front ≤ length (over front buffer)
 unfolding over
 long-over front buffer = rw length-append (omega arith)
