@@ -1,7 +1,6 @@
 -- The sales desk's allowance of steps, read from an argument: decimal digits, at least one, leading zeros among them, that stand for at most 2^64 - 1.
-use Rattle.std.specs.Prelude.{Bool, true, cond, ◌&&◌, List, [], ◌∷◌, ℕ, ◌+◌, ◌*◌, ◌-◌, leb, ltb, length}
+use Rattle.std.specs.Prelude.{Bool, true, cond, ◌&&◌, List, [], ◌∷◌, ℕ, ◌+◌, ◌*◌, ◌-◌, leb, ltb, length, Option, Some, None}
 use Rattle.booleans.specs.Tests.{◌and◌}
-use Rattle.arguments.specs.declared.Allowance.{Allowance}
 
 -- the characters `0` and `9`
 abbrev pub zero_digit : ℕ
@@ -29,5 +28,6 @@ most_steps = 18446744073709551615
 unfoldable pub is_allowance : List ℕ → Bool
 is_allowance cs = ltb 0 (length cs) and all_digits cs and leb (number_from 0 cs) most_steps
 
-unfoldable pub allowance_answer : List ℕ → Allowance
-allowance_answer cs = cond (is_allowance cs) (Allowance.Steps (number_from 0 cs)) Allowance.NoNumber
+-- how many steps, or that the argument is no number of steps
+unfoldable pub allowance_answer : List ℕ → Option ℕ
+allowance_answer cs = cond (is_allowance cs) (Some (number_from 0 cs)) None

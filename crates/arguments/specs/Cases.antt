@@ -1,19 +1,18 @@
 -- Some arguments and what they are read as, checked by one proof.
-use Rattle.std.specs.Prelude.{◌≡◌, refl, List, [], ◌∷◌, ◌++◌, ℕ}
+use Rattle.std.specs.Prelude.{◌≡◌, refl, List, [], ◌∷◌, ◌++◌, ℕ, Option, Some, None}
 use Rattle.booleans.specs.Tests.{◌and◌}
-use Rattle.arguments.specs.declared.Allowance.{Allowance}
 use Rattle.arguments.specs.Allowances.{all_digits, number_from, most_steps, is_allowance, allowance_answer}
 
 -- an argument's characters, and how it is read
 pub record Case : Type 0 where
   pub characters : List ℕ
-  pub answer : Allowance
+  pub answer : Option ℕ
 
 number : List ℕ → ℕ → Case
-number cs n = record { characters = cs; answer = Allowance.Steps n }
+number cs n = record { characters = cs; answer = Some n }
 
 other : List ℕ → Case
-other cs = record { characters = cs; answer = Allowance.NoNumber }
+other cs = record { characters = cs; answer = None }
 
 -- 1844674407370955161, the largest number without its last digit
 tenth : List ℕ
@@ -41,11 +40,11 @@ cases =
     ∷ []
 
 -- how each is read, and how it should be
-pub read : List Case → List Allowance
+pub read : List Case → List (Option ℕ)
 read [] = []
 read (c ∷ cs) = allowance_answer c.characters ∷ read cs
 
-pub wanted : List Case → List Allowance
+pub wanted : List Case → List (Option ℕ)
 wanted [] = []
 wanted (c ∷ cs) = c.answer ∷ wanted cs
 

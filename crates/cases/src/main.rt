@@ -4,7 +4,7 @@
 ghost use Rattle.std.specs.Prelude.{◌+◌, ◌≤◌, length};
 ghost use Rattle.text.specs.Texts.{longest_line, most_digits};
 
-use quoting::{Checked, Quote};
+use quoting::Quote;
 use std::rt::Files;
 use table::{HOW_MANY_VALUES, MOST_RECORDS, RECORD_LENGTH};
 use text::LONGEST_LINE;
@@ -21,7 +21,7 @@ fn say(rt: &(impl Print + Eprint), name: &[u8], word: &[u8], number: u64)
     text::say(rt, &line[..n]);
 }
 
-fn say_figure(rt: &(impl Print + Eprint), name: &[u8], figure: u64, branch: u64)
+fn say_figure(rt: &(impl Print + Eprint), name: &[u8], quote: Quote)
     requires { length name.now ≤ 32 }
 {
     let mut line = [0u8; LONGEST_LINE];
@@ -30,9 +30,9 @@ fn say_figure(rt: &(impl Print + Eprint), name: &[u8], figure: u64, branch: u64)
         &mut line,
         named,
         b" figure ",
-        figure,
+        quote.figure,
         b" branch ",
-        branch,
+        quote.branch,
         b"\n",
     );
     text::say(rt, &line[..n]);
@@ -43,15 +43,12 @@ fn quote(rt: &(impl Files + Print + Eprint), path: &[u8])
     requires { length path.now ≤ 32 }
 {
     let mut table = [0u8; ROOM];
-    let file = files::load(rt, path, &mut table);
-    if !file.readable {
+    let Some(table) = files::load(rt, path, &mut table) else {
         return;
-    }
-    let len = file.len;
-    let answer = quoting::figure(&table[..len], &[0; HOW_MANY_VALUES]);
-    match answer {
-        Quote::Figure(figure, branch) => say_figure(rt, path, figure, branch),
-        Quote::Refused(number) => say(rt, path, b" refused ", number),
+    };
+    match quoting::figure(table, &[0; HOW_MANY_VALUES]) {
+        Ok(quote) => say_figure(rt, path, quote),
+        Err(refusal) => say(rt, path, b" refused ", u64::from(refusal)),
     }
 }
 
@@ -59,15 +56,12 @@ fn check(rt: &(impl Files + Print + Eprint), path: &[u8])
     requires { length path.now ≤ 32 }
 {
     let mut table = [0u8; ROOM];
-    let file = files::load(rt, path, &mut table);
-    if !file.readable {
+    let Some(table) = files::load(rt, path, &mut table) else {
         return;
-    }
-    let len = file.len;
-    let answer = quoting::check(&table[..len]);
-    match answer {
-        Checked::Accepted(records) => say(rt, path, b" accepted ", records as u64),
-        Checked::Refused(number) => say(rt, path, b" refused ", number),
+    };
+    match quoting::check(table) {
+        Ok(records) => say(rt, path, b" accepted ", records as u64),
+        Err(refusal) => say(rt, path, b" refused ", u64::from(refusal)),
     }
 }
 

@@ -1,13 +1,14 @@
 -- Document 01, "The desk program", with requests 2 and 7 of document 02: what it decides from the bytes of tree.tab and values.tab.
 use Rattle.std.specs.Prelude.{◌≡◌, Bool, cond, List, [], ◌∷◌, ◌++◌, ℕ, zero, suc, ◌%◌, ◌*◌, ◌-◌, ◌≤◌, eqb, leb, ltb, length, take, drop}
 use Rattle.booleans.specs.Tests.{◌and◌}
+use Rattle.refusals.specs.Refusals.{Answer, Given, Refused, refused}
 use Rattle.table.specs.Numbers.{how_many_symbols, how_many_values, later_place}
 use Rattle.table.specs.Bytes.{from_bytes}
 use Rattle.table.specs.Asking.{◌asks◌, by_refusal, first_no}
 use Rattle.table.specs.Checking.{questions}
 use Rattle.quoting.specs.declared.Quote.{Quote}
 use Rattle.values.specs.Values.{ceiling}
-use Rattle.quoting.specs.Answers.{quote_of, quote_questions, quoted_figure, quoted_refusal}
+use Rattle.quoting.specs.Answers.{quote_of, quote_questions, quoted_figure}
 
 -- bytes that a value takes in values.tab
 abbrev pub value_length : ℕ
@@ -43,12 +44,12 @@ file_values v = values_from how_many_values 0 v
 unfoldable pub files_refusal : (tree values : List ℕ) → ℕ
 files_refusal t v = first_no (questions t ++ 9 asks values_whole v ∷ quote_questions t (file_values v))
 
-unfoldable pub files_answer : (tree values : List ℕ) → Quote
-files_answer t v = by_refusal (files_refusal t v) (quote_of t (file_values v)) Quote.Refused
+unfoldable pub files_answer : (tree values : List ℕ) → Answer Quote
+files_answer t v = by_refusal (files_refusal t v) (Given (quote_of t (file_values v))) Refused
 
 -- What a quote of a tree and a file promises: with more values written after the file's own, the figure is no higher, where both get one. So leaving last
 -- values out never lowers a quote.
-unfoldable pub FilesPromise : (tree values : List ℕ) → Quote → Type 0
+unfoldable pub FilesPromise : (tree values : List ℕ) → Answer Quote → Type 0
 FilesPromise t v q =
     (more : List ℕ) → let written = files_answer t (v ++ more) in
-    quoted_refusal q ≡ 0 → quoted_refusal written ≡ 0 → quoted_figure written ≤ quoted_figure q
+    refused q ≡ 0 → refused written ≡ 0 → quoted_figure written ≤ quoted_figure q

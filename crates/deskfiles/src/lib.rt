@@ -2,10 +2,13 @@
 #![tactic(auto)]
 
 ghost use Rattle.std.specs.Prelude.{◌≡◌, ◌<◌, ◌%◌, ◌*◌, drop, length};
+ghost use Rattle.refusals.specs.Refusals.{answer};
 ghost use Rattle.table.specs.Numbers.{how_many_values};
 ghost use Rattle.deskfiles.specs.Files.{FilesPromise, file_value, file_values, files_answer, symbol_value, value_length, value_or, values_whole};
 
 use quoting::Quote;
+use refusals::Refusal;
+use std::array;
 use table::{HOW_MANY_SYMBOLS, HOW_MANY_VALUES, LATER_PLACE};
 
 // Bytes that a value takes in a file.
@@ -49,13 +52,7 @@ fn values_of(bytes: &[u8]) -> [u64; HOW_MANY_VALUES]
     requires { length bytes.now % value_length ≡ 0 }
     ensures { result ≡ file_values bytes.now }
 {
-    let mut values = [0; HOW_MANY_VALUES];
-    let mut i = 0;
-    while i < HOW_MANY_VALUES {
-        values[i] = value_of(bytes, i);
-        i += 1;
-    }
-    values
+    array::from_fn(|i| value_of(bytes, i))
 }
 
 // Does a file hold whole values, and no more than there are?
@@ -67,18 +64,13 @@ fn values_whole(bytes: &[u8]) -> bool
 }
 
 // What the desk program decides from the bytes of tree.tab and values.tab.
-pub fn quote_files(tree: &[u8], values: &[u8]) -> Quote
-    ensures answer { result ≡ files_answer tree.now values.now }
-    ensures promise { FilesPromise tree.now values.now result }
+pub fn quote_files(tree: &[u8], values: &[u8]) -> Result<Quote, Refusal>
+    ensures answer { answer result ≡ files_answer tree.now values.now }
+    ensures promise { FilesPromise tree.now values.now (answer result) }
 {
     if values_whole(values) {
-        let numbers = values_of(values);
-        return quoting::figure(tree, &numbers);
+        return quoting::figure(tree, &values_of(values));
     }
-    let number = table::refusal_of(tree);
-    if number == 0 {
-        Quote::Refused(9)
-    } else {
-        Quote::Refused(number)
-    }
+    table::accept(tree)?;
+    Err(Refusal::Values)
 }

@@ -1,7 +1,7 @@
 // Whole files read into lent buffers, written from them, and removed, for the programs. What fails is said on standard error, by the file's name.
 #![tactic(auto)]
 
-ghost use Rattle.std.specs.Prelude.{◌≡◌, ◌+◌, ◌<◌, ◌≤◌, [], ◌∷◌, ◌++◌, length, take, is_ok, IfOk, OnOk};
+ghost use Rattle.std.specs.Prelude.{◌≡◌, ◌+◌, ◌<◌, ◌≤◌, [], ◌∷◌, ◌++◌, length, take, is_ok, IfOk, IfSome, OnOk};
 ghost use Rattle.std.specs.Io.KnownBytes.{Appends, Consumes, IsAtEnd};
 ghost use Rattle.io.specs.Counts.{IsPrefixLen};
 ghost use Rattle.text.specs.Texts.{Numbered, most_digits};
@@ -12,13 +12,6 @@ use std::random::RandomSource;
 use std::rt::Files;
 use std::{fs, io, str};
 use text::MOST_DIGITS;
-
-// How much of a buffer a file fills, and whether it could be read.
-#[derive(Clone, Copy)]
-pub struct Loaded {
-    pub len: usize,
-    pub readable: bool,
-}
 
 // A path's bytes as text: std names files by nothing else.
 fn as_text(path: &[u8]) -> io::Result<&str>
@@ -32,21 +25,15 @@ fn as_text(path: &[u8]) -> io::Result<&str>
 
 // ---- Reading
 
-// Reads the file into the front of `buf`. A missing file is empty.
-pub fn load(rt: &(impl Files + Eprint), path: &[u8], buf: &mut [u8]) -> Loaded
-    ensures { IsPrefixLen result.len buf.new }
+// Reads the file into the front of `buf`, and answers that part of it. A missing file is empty. One that cannot be read is said so, and gives none.
+pub fn load<'a>(rt: &(impl Files + Eprint), path: &[u8], buf: &'a mut [u8]) -> Option<&'a [u8]>
+    ensures { IfSome result (λ bytes. length bytes.now ≤ length buf.old) }
 {
     match read_file(rt, path, buf) {
-        Ok(len) => Loaded {
-            len,
-            readable: true,
-        },
+        Ok(len) => Some(&buf[..len]),
         Err(error) => {
             text::fail(rt, path, error);
-            Loaded {
-                len: 0,
-                readable: false,
-            }
+            None
         }
     }
 }

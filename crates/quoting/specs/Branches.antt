@@ -1,5 +1,6 @@
 -- Document 02, CR 5: what the branch of a quote promises of the root's children.
 use Rattle.std.specs.Prelude.{◌≡◌, List, [], ◌∷◌, ℕ, ◌<◌, ◌≤◌, get_or, length}
+use Rattle.refusals.specs.Refusals.{Answer, refused}
 use Rattle.table.specs.declared.Kind.{Kind}
 use Rattle.table.specs.declared.Kind.TheVariants.{Block, Sequence, Choice, Loop}
 use Rattle.table.specs.declared.Limit.{Limit}
@@ -8,7 +9,7 @@ use Rattle.table.specs.Table.{decode}
 use Rattle.table.specs.Trees.{Forest, Tree, nil, node, ◌▸◌}
 use Rattle.evaluate.specs.Evaluate.{Values, list, no_branch, values_of}
 use Rattle.quoting.specs.declared.Quote.{Quote}
-use Rattle.quoting.specs.Answers.{quoted_branch, quoted_figure, quoted_refusal}
+use Rattle.quoting.specs.Answers.{quoted_branch, quoted_figure}
 
 -- of each child's list the first member, after the child's own limit
 unfoldable pub first_members : Values → Forest → List ℕ
@@ -33,5 +34,5 @@ unfoldable pub BranchOf : Values → Tree → (x c : ℕ) → Type 0
 BranchOf v (node n f) x c = Branched v n.kind n.limit f x c
 
 -- an answer that is no refusal promises this of its branch
-unfoldable pub BranchPromises : (table values : List ℕ) → Quote → Type 0
-BranchPromises b vs q = quoted_refusal q ≡ 0 → BranchOf (values_of vs) (decode b) (quoted_figure q) (quoted_branch q)
+unfoldable pub BranchPromises : (table values : List ℕ) → Answer Quote → Type 0
+BranchPromises b vs q = refused q ≡ 0 → BranchOf (values_of vs) (decode b) (quoted_figure q) (quoted_branch q)

@@ -1,6 +1,7 @@
 -- What document 01's cases say of a quote and of a list.
 use Rattle.std.specs.Prelude.{Bool, false, ℕ, eqb, replicate}
 use Rattle.booleans.specs.Tests.{◌and◌}
+use Rattle.refusals.specs.Refusals.{Answer, Given, Refused}
 use Rattle.table.specs.Numbers.{how_many_values}
 use Rattle.table.specs.Trees.{Tree, ◌⧺◌, size, rest, around, records}
 use Rattle.table.specs.Questions.{arity, time_in_range, count_in_range, most_in_range, kind_in_range, limit_in_range, listed, paired, paired_block, depth, loops, name_ok, named, share, paired_share, weight}
@@ -19,12 +20,12 @@ use Rattle.table.specs.Limits.{limit_holds}
 use Rattle.quoting.specs.Answers.{figure_answer, figure_refusal, quote_questions}
 
 -- the figure x with branch c
-pub is_quote : (x c : ℕ) → Quote → Bool
-is_quote x c (Quote.Figure y d) = eqb x y and eqb c d
-is_quote x c (Quote.Refused q) = false
+pub is_quote : (x c : ℕ) → Answer Quote → Bool
+is_quote x c (Given q) = eqb x q.figure and eqb c q.branch
+is_quote x c (Refused n) = false
 
 -- the figure x without a branch
-pub is_figure : ℕ → Quote → Bool
+pub is_figure : ℕ → Answer Quote → Bool
 is_figure x q = is_quote x no_branch q
 
 -- the figure call answers this figure on the tree's table, with all values 0, and no branch
@@ -41,9 +42,9 @@ same_pairs (run v c r) (run w d s) = eqb v w and eqb c d and same_pairs r s
 pub lists : Tree → Pairs → Bool
 lists t ps = same_pairs ps (list_pairs zeros t)
 
-pub is_refused : ℕ → Quote → Bool
-is_refused q (Quote.Figure y c) = false
-is_refused q (Quote.Refused r) = eqb q r
+pub is_refused : ℕ → Answer Quote → Bool
+is_refused n (Given q) = false
+is_refused n (Refused r) = eqb n r
 
 -- to unfold this is to unfold all that the cases compute with
 unfoldable pub computed : ℕ

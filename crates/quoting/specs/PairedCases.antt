@@ -1,6 +1,7 @@
 -- Examples of symbols with a first and a later value, of question 14, and of values none lower.
 use Rattle.std.specs.Prelude.{◌≡◌, refl, Bool, true, List, [], ◌∷◌, ◌++◌, ℕ, zero, suc, ◌≤◌, replicate}
 use Rattle.std.proofs.Common.{arith}
+use Rattle.refusals.specs.Refusals.{Answer}
 use Rattle.table.specs.Notation.{◌/T◌at◌, ◌/◌at◌, all_hold, block, both, either, loop, sequence, symbol}
 use Rattle.table.specs.Table.{encode}
 use Rattle.table.specs.Trees.{Tree, nil, ◌▸◌}
@@ -14,11 +15,11 @@ use Rattle.quoting.specs.Cases.{computed, is_figure, is_refused, same_pairs}
 use Rattle.quoting.specs.declared.Quote.{Quote}
 
 -- what the figure call answers where symbol 24 is 10 and then x, symbol 31 is 20 and then y, symbol 23 is 6 and the others 0
-pub answers : Tree → (x y : ℕ) → Quote
+pub answers : Tree → (x y : ℕ) → Answer Quote
 answers t x y = figure_answer (encode t) (replicate 23 0 ++ (6 ∷ 10 ∷ replicate 6 0) ++ (20 ∷ x ∷ replicate 6 0) ++ (y ∷ []))
 
 -- what it answers for a table of one block, with these values of symbol 24 and no other value
-pub answers_one : (first later : ℕ) → Quote
+pub answers_one : (first later : ℕ) → Answer Quote
 answers_one first later = figure_answer (encode (block 7)) (replicate 24 0 ++ (first ∷ replicate 7 0) ++ (later ∷ replicate 7 0))
 
 -- t in so many loops of bound 1

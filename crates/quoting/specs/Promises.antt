@@ -1,5 +1,6 @@
 -- Demand 2: what a figure promises of the runs of the table's tree under the values it was quoted for.
 use Rattle.std.specs.Prelude.{◌≡◌, Bool, true, List, ℕ, ◌+◌, ◌*◌, ◌≤◌, suc, T, eqb, take}
+use Rattle.refusals.specs.Refusals.{Answer, given, refused}
 use Rattle.table.specs.Limits.{every_most}
 use Rattle.table.specs.Numbers.{later_place}
 use Rattle.table.specs.Questions.{paired_symbol}
@@ -11,9 +12,8 @@ use Rattle.triangular.specs.Triangular.{rule}
 use Rattle.evaluate.specs.Evaluate.{Values, allowed, later, list, values_of}
 use Rattle.runs.specs.Runs.{Pass, Run, Costs, cost, limit_free}
 use Rattle.lists.specs.Pairs.{ArePairs, Pairs, numbers, width}
-use Rattle.quoting.specs.declared.Listed.{Listed}
 use Rattle.quoting.specs.declared.Quote.{Quote}
-use Rattle.quoting.specs.Answers.{figure_answer, listed_pairs, listed_refusal, quoted_figure, quoted_refusal}
+use Rattle.quoting.specs.Answers.{figure_answer, quoted_figure}
 use Rattle.values.specs.Values.{NoneLower}
 
 -- a limit under flag 4 is the triangular number of its symbol's value itself, and not of a smaller one
@@ -33,12 +33,12 @@ pub record Promised (v : Values) (t : Tree) (x : ℕ) : Type 0 where
   pub laters : (s : ℕ) → T (paired_symbol s) → later v (Symbol s) ≡ v (s + later_place)
 
 -- an answer that is no refusal promises this of its figure
-unfoldable pub Promises : (table values : List ℕ) → Quote → Type 0
-Promises b vs q = quoted_refusal q ≡ 0 → Promised (values_of vs) (decode b) (quoted_figure q)
+unfoldable pub Promises : (table values : List ℕ) → Answer Quote → Type 0
+Promises b vs q = refused q ≡ 0 → Promised (values_of vs) (decode b) (quoted_figure q)
 
 -- Raising values never lowers a quote of x for the values v: values none lower that get a figure too get one that is not below it.
 unfoldable pub NeverLowered : (table v : List ℕ) (x : ℕ) → Type 0
-NeverLowered b v x = (w : List ℕ) → NoneLower v w → quoted_refusal (figure_answer b w) ≡ 0 → x ≤ quoted_figure (figure_answer b w)
+NeverLowered b v x = (w : List ℕ) → NoneLower v w → refused (figure_answer b w) ≡ 0 → x ≤ quoted_figure (figure_answer b w)
 
 -- What the list call promises: it wrote the pairs of the tree's list, values strictly falling and the last count 0, for ever, and answers how many.
 pub record Listing (v : Values) (t : Tree) (count : ℕ) (buffer : List ℕ) : Type 0 where
@@ -47,5 +47,5 @@ pub record Listing (v : Values) (t : Tree) (count : ℕ) (buffer : List ℕ) : T
   pub many : count ≡ suc (width pairs)
   pub written : take (2 * count) buffer ≡ numbers pairs
 
-unfoldable pub ListPromises : (table values : List ℕ) → Listed → (buffer : List ℕ) → Type 0
-ListPromises b vs r buffer = listed_refusal r ≡ 0 → Listing (values_of vs) (decode b) (listed_pairs r) buffer
+unfoldable pub ListPromises : (table values : List ℕ) → Answer ℕ → (buffer : List ℕ) → Type 0
+ListPromises b vs r buffer = refused r ≡ 0 → Listing (values_of vs) (decode b) (given r) buffer

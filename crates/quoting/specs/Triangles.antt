@@ -1,6 +1,7 @@
 -- Examples of flag 4 and of question 13. Most are of document 000's triangular loop: i from 1 to 10, and in it j from i to 10. Each loop by itself has
 -- bound 10, and the block inside both is passed at most 10 + 9 + .. + 1 = 55 times in a pass of the outer loop. Here it takes 7 cycles.
 use Rattle.std.specs.Prelude.{◌≡◌, refl, Bool, true, List, [], ◌∷◌, ◌++◌, ℕ, replicate}
+use Rattle.refusals.specs.Refusals.{Answer}
 use Rattle.table.specs.Notation.{◌/T◌at◌, ◌/◌at◌, all_hold, block, loop}
 use Rattle.table.specs.Table.{encode}
 use Rattle.table.specs.Trees.{Tree}
@@ -13,11 +14,11 @@ pub nested : Tree → Tree
 nested t = loop 10 (loop 10 t (block 0)) (block 0)
 
 -- what the figure call answers with this value 0, and the others 0
-pub answers : Tree → ℕ → Quote
+pub answers : Tree → ℕ → Answer Quote
 answers t n = figure_answer (encode (nested t)) (n ∷ replicate 39 0)
 
 -- what it answers for a table of one block of 7 cycles, in bytes, whose limit on the whole run is symbol 0 with these flags
-pub flagged : (flags n : ℕ) → Quote
+pub flagged : (flags n : ℕ) → Answer Quote
 flagged f n = figure_answer (0 ∷ f ∷ 0 ∷ 255 ∷ replicate 4 0 ++ (7 ∷ replicate 7 0) ++ replicate 4 0 ++ replicate 4 255) (n ∷ replicate 39 0)
 
 pub examples : List Bool

@@ -1,7 +1,8 @@
-// Checking, the figure and the list. Each answers with an enum: one case with what was asked for, one with the number of the question that says no.
+// Checking, the figure and the list. Each answers with what was asked for, or with the question that says no.
 #![tactic(auto)]
 
 ghost use Rattle.std.specs.Prelude.{◌≡◌, ◌*◌, ◌≤◌, length, take};
+ghost use Rattle.refusals.specs.Refusals.{answer, refused};
 ghost use Rattle.table.specs.Checking.{refusal};
 ghost use Rattle.table.specs.Numbers.{how_many_values, list_room, most_records, record_length};
 ghost use Rattle.quoting.specs.Branches.{BranchPromises};
@@ -10,9 +11,10 @@ ghost use Rattle.evaluate.specs.Shown.{Roomy};
 ghost use Rattle.values.specs.Flags.{flag_free};
 ghost use Rattle.quoting.specs.Lent.{Walked};
 ghost use Rattle.writing.specs.Over.{over};
-ghost use Rattle.quoting.specs.Answers.{check_answer, figure_answer, list_answer, list_writes, quoted_figure, quoted_refusal};
+ghost use Rattle.quoting.specs.Answers.{check_answer, figure_answer, list_answer, list_writes, quoted_figure};
 
 use evaluate::Valued;
+use refusals::Refusal;
 use table::{HOW_MANY_VALUES, RECORD_LENGTH};
 
 // The values, and their triangular numbers.
@@ -21,37 +23,19 @@ const HOW_MANY_NUMBERS: usize = 2 * HOW_MANY_VALUES;
 // Numbers that the list call's buffer holds at least.
 pub const LIST_ROOM: usize = 512;
 
-// Checking: how many records the accepted table has.
+// A figure, and which child of the root sets it.
 #[derive(Clone, Copy)]
-pub enum Checked {
-    Accepted(usize),
-    Refused(u64),
+pub struct Quote {
+    pub figure: u64,
+    pub branch: u64,
 }
 
-// The figure call: the figure, and which child of the root sets it.
-#[derive(Clone, Copy)]
-pub enum Quote {
-    Figure(u64, u64),
-    Refused(u64),
-}
-
-// The list call: how many pairs were written.
-#[derive(Clone, Copy)]
-pub enum Listed {
-    Pairs(usize),
-    Refused(u64),
-}
-
-// Puts questions 1 to 7 to a table of any bytes.
-pub fn check(table: &[u8]) -> Checked
-    ensures { result ≡ check_answer table.now }
+// Puts questions 1 to 7 to a table of any bytes: how many records it has, if it is accepted.
+pub fn check(table: &[u8]) -> Result<usize, Refusal>
+    ensures { answer result ≡ check_answer table.now }
 {
-    let number = table::refusal_of(table);
-    if number == 0 {
-        Checked::Accepted(table.len() / RECORD_LENGTH)
-    } else {
-        Checked::Refused(number)
-    }
+    table::accept(table)?;
+    Ok(table.len() / RECORD_LENGTH)
 }
 
 // The walk of an accepted table. Only where a limit is under flag 4 are triangular numbers looked up, before the walk and behind the values: with the
@@ -84,64 +68,55 @@ fn write_front(list: &[u64; LIST_ROOM], n: usize, out: &mut [u64])
 }
 
 // What the figure call answers for a table that checking accepts: questions 9, 13, 14 and 10.
-pub fn quote_checked(table: &[u8], values: &[u64]) -> Quote
+pub fn quote_checked(table: &[u8], values: &[u64]) -> Result<Quote, Refusal>
     requires { refusal table.now ≡ 0 }
-    ensures { result ≡ figure_answer table.now values.now }
+    ensures { answer result ≡ figure_answer table.now values.now }
 {
     let free = values::flag_free(table);
-    let question = values::values_refusal(table, values, free);
-    if question != 0 {
-        return Quote::Refused(question);
-    }
+    values::accept(table, values, free)?;
     let mut list = [0; LIST_ROOM];
     let found = walk(table, values, free, &mut list);
     if found.fits {
         let first = list[0];
-        Quote::Figure(first, found.branch as u64)
+        Ok(Quote {
+            figure: first,
+            branch: found.branch as u64,
+        })
     } else {
-        Quote::Refused(10)
+        Err(Refusal::Ceiling)
     }
 }
 
 // The figure of a table's tree under a desk's values: questions 1 to 7, 9, 13, 14 and 10.
-pub fn figure(table: &[u8], values: &[u64]) -> Quote
-    ensures answer { result ≡ figure_answer table.now values.now }
-    ensures promise { Promises table.now values.now result }
-    ensures branch { BranchPromises table.now values.now result }
-    ensures rising { quoted_refusal result ≡ 0 → NeverLowered table.now values.now (quoted_figure result) }
+pub fn figure(table: &[u8], values: &[u64]) -> Result<Quote, Refusal>
+    ensures answer { answer result ≡ figure_answer table.now values.now }
+    ensures promise { Promises table.now values.now (answer result) }
+    ensures branch { BranchPromises table.now values.now (answer result) }
+    ensures rising { refused (answer result) ≡ 0 → NeverLowered table.now values.now (quoted_figure (answer result)) }
 {
-    let number = table::refusal_of(table);
-    if number != 0 {
-        return Quote::Refused(number);
-    }
+    check(table)?;
     quote_checked(table, values)
 }
 
-// The list of a table's tree as pairs of value and count, written over the front of `out`: questions 1 to 9, 13, 14 and 10.
-pub fn list(table: &[u8], values: &[u64], out: &mut [u64]) -> Listed
-    ensures answer { result ≡ list_answer table.now values.now out.old }
+// The list of a table's tree as pairs of value and count, written over the front of `out`: how many pairs. Questions 1 to 9, 13, 14 and 10.
+pub fn list(table: &[u8], values: &[u64], out: &mut [u64]) -> Result<usize, Refusal>
+    ensures answer { answer result ≡ list_answer table.now values.now out.old }
     ensures written { out.new ≡ over (list_writes table.now values.now out.old) out.old }
-    ensures promise { ListPromises table.now values.now result out.new }
+    ensures promise { ListPromises table.now values.now (answer result) out.new }
 {
-    let number = table::refusal_of(table);
-    if number != 0 {
-        return Listed::Refused(number);
-    }
+    check(table)?;
     if out.len() < LIST_ROOM {
-        return Listed::Refused(8);
+        return Err(Refusal::Room);
     }
     let free = values::flag_free(table);
-    let question = values::values_refusal(table, values, free);
-    if question != 0 {
-        return Listed::Refused(question);
-    }
+    values::accept(table, values, free)?;
     let mut list = [0; LIST_ROOM];
     let found = walk(table, values, free, &mut list);
     if found.fits {
         let n = found.len;
         write_front(&list, 2 * n, out);
-        Listed::Pairs(n)
+        Ok(n)
     } else {
-        Listed::Refused(10)
+        Err(Refusal::Ceiling)
     }
 }

@@ -1,16 +1,15 @@
 -- Document 02, CR 9: what preview and commit answer for any input, and the table that commit leaves.
 use Rattle.std.specs.Prelude.{Bool, false, List, [], ◌∷◌, ◌++◌, ℕ, leb, ltb, length}
 use Rattle.booleans.specs.Tests.{◌and◌}
+use Rattle.refusals.specs.Refusals.{Answer, Given, Refused}
 use Rattle.table.specs.Asking.{Question, ◌asks◌, by_refusal, first_no}
 use Rattle.table.specs.Checking.{questions}
 use Rattle.table.specs.Numbers.{most_time}
 use Rattle.marking.specs.Opening.{number_is}
-use Rattle.table.specs.Table.{decode, record_count}
+use Rattle.table.specs.Table.{record_count}
 use Rattle.marking.specs.Marks.{node_at}
 use Rattle.writing.specs.Fields.{with_value}
-use Rattle.evaluate.specs.Evaluate.{branch, figure, values_of}
-use Rattle.quoting.specs.Answers.{quote_questions}
-use Rattle.retime.specs.declared.Committed.{Committed}
+use Rattle.quoting.specs.Answers.{quote_of, quote_questions}
 use Rattle.retime.specs.declared.Previewed.{Previewed}
 use Rattle.retime.specs.Nodes.{Kind, Block, Sequence, Choice, Loop}
 
@@ -35,21 +34,13 @@ retime_questions b i x y = questions b ++ 17 asks question17 b i x y ∷ []
 unfoldable pub commit_refusal : (table : List ℕ) (i old new : ℕ) → ℕ
 commit_refusal b i x y = first_no (retime_questions b i x y)
 
-unfoldable pub commit_answer : (table : List ℕ) (i old new : ℕ) → Committed
-commit_answer b i x y = by_refusal (commit_refusal b i x y) (Committed.Written (length b)) Committed.Refused
+-- the table's length
+unfoldable pub commit_answer : (table : List ℕ) (i old new : ℕ) → Answer ℕ
+commit_answer b i x y = by_refusal (commit_refusal b i x y) (Given (length b)) Refused
 
 -- the table that it leaves: the new time written, or the table as it was where it is refused
 unfoldable pub commit_leaves : (table : List ℕ) (i old new : ℕ) → List ℕ
 commit_leaves b i x y = by_refusal (commit_refusal b i x y) (with_value b i y) (λ q. b)
-
--- document 02's number for each case, 0 for none, and the table's length, 0 where it is refused
-unfoldable pub committed_refusal : Committed → ℕ
-committed_refusal (Committed.Written n) = 0
-committed_refusal (Committed.Refused q) = q
-
-unfoldable pub committed_length : Committed → ℕ
-committed_length (Committed.Written n) = n
-committed_length (Committed.Refused q) = 0
 
 -- ---- preview: the same, then what a figure call asks of the old tree and of the new one
 
@@ -58,30 +49,24 @@ preview_refusal b i x y vs = first_no (retime_questions b i x y ++ (quote_questi
 
 -- figure and branch before, figure and branch after
 abbrev pub preview_of : (before after values : List ℕ) → Previewed
-preview_of b c vs =
-    let v = values_of vs in
-    Previewed.Figures (figure v (decode b)) (branch v (decode b)) (figure v (decode c)) (branch v (decode c))
+preview_of b c vs = record { before = quote_of b vs; after = quote_of c vs }
 
-unfoldable pub preview_answer : (table : List ℕ) (i old new : ℕ) (values : List ℕ) → Previewed
-preview_answer b i x y vs = by_refusal (preview_refusal b i x y vs) (preview_of b (with_value b i y) vs) Previewed.Refused
+unfoldable pub preview_answer : (table : List ℕ) (i old new : ℕ) (values : List ℕ) → Answer Previewed
+preview_answer b i x y vs = by_refusal (preview_refusal b i x y vs) (Given (preview_of b (with_value b i y) vs)) Refused
 
--- document 02's number for each case, 0 for none, and figures and branches, 0 where there are none
-unfoldable pub previewed_refusal : Previewed → ℕ
-previewed_refusal (Previewed.Figures x c y d) = 0
-previewed_refusal (Previewed.Refused q) = q
+-- figures and branches, 0 where there are none
+unfoldable pub previewed_before : Answer Previewed → ℕ
+previewed_before (Given p) = p.before.figure
+previewed_before (Refused q) = 0
 
-unfoldable pub previewed_before : Previewed → ℕ
-previewed_before (Previewed.Figures x c y d) = x
-previewed_before (Previewed.Refused q) = 0
+unfoldable pub previewed_branch_before : Answer Previewed → ℕ
+previewed_branch_before (Given p) = p.before.branch
+previewed_branch_before (Refused q) = 0
 
-unfoldable pub previewed_branch_before : Previewed → ℕ
-previewed_branch_before (Previewed.Figures x c y d) = c
-previewed_branch_before (Previewed.Refused q) = 0
+unfoldable pub previewed_after : Answer Previewed → ℕ
+previewed_after (Given p) = p.after.figure
+previewed_after (Refused q) = 0
 
-unfoldable pub previewed_after : Previewed → ℕ
-previewed_after (Previewed.Figures x c y d) = y
-previewed_after (Previewed.Refused q) = 0
-
-unfoldable pub previewed_branch_after : Previewed → ℕ
-previewed_branch_after (Previewed.Figures x c y d) = d
-previewed_branch_after (Previewed.Refused q) = 0
+unfoldable pub previewed_branch_after : Answer Previewed → ℕ
+previewed_branch_after (Given p) = p.after.branch
+previewed_branch_after (Refused q) = 0

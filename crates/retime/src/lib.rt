@@ -2,29 +2,23 @@
 #![tactic(auto)]
 
 ghost use Rattle.std.specs.Prelude.{◌≡◌, ◌+◌, ◌*◌, ◌≤◌, length};
+ghost use Rattle.refusals.specs.Refusals.{answer, refused};
 ghost use Rattle.table.specs.Checking.{refusal};
 ghost use Rattle.table.specs.Numbers.{most_records, record_length};
 ghost use Rattle.writing.specs.Fields.{with_value};
 ghost use Rattle.quoting.specs.Answers.{figure_answer};
-ghost use Rattle.retime.specs.Answers.{commit_answer, commit_leaves, commit_refusal, committed_refusal, is_time, preview_answer, question17};
+ghost use Rattle.retime.specs.Answers.{commit_answer, commit_leaves, commit_refusal, is_time, preview_answer, question17};
 ghost use Rattle.retime.specs.Promises.{CommitPromises, PreviewPromises};
-ghost use Rattle.retime.specs.Previews.{figures};
 
 use quoting::Quote;
+use refusals::Refusal;
 use table::{Kind, MOST_RECORDS, MOST_TIME, RECORD_LENGTH};
 
-// Figure and branch of the table, then of the one that commit would leave; or the number of the question that says no.
+// Figure and branch of the table, and of the one that commit would leave.
 #[derive(Clone, Copy)]
-pub enum Previewed {
-    Figures(u64, u64, u64, u64),
-    Refused(u64),
-}
-
-// The table's length, or the number of the question that says no.
-#[derive(Clone, Copy)]
-pub enum Committed {
-    Written(usize),
-    Refused(u64),
+pub struct Previewed {
+    pub before: Quote,
+    pub after: Quote,
 }
 
 // ---- Question 17
@@ -54,28 +48,25 @@ fn time_allowed(table: &[u8], place: u64, old: u64, new: u64) -> bool
     is_time(kind, old) & (new <= MOST_TIME)
 }
 
-// Questions 1 to 7, then 17: the number of the first that says no, or 0.
-fn retime_refusal(table: &[u8], place: u64, old: u64, new: u64) -> u64
-    ensures { result ≡ commit_refusal table.now place old new }
+// Questions 1 to 7, then 17.
+fn accept(table: &[u8], place: u64, old: u64, new: u64) -> Result<(), Refusal>
+    ensures { refused (answer result) ≡ commit_refusal table.now place old new }
 {
-    let number = table::refusal_of(table);
-    if number != 0 {
-        return number;
-    }
+    table::accept(table)?;
     if time_allowed(table, place, old, new) {
-        0
+        Ok(())
     } else {
-        17
+        Err(Refusal::Time)
     }
 }
 
 // ---- The calls
 
 // What the figure call answers for the table with that time at record `place`, in a copy.
-fn quote_after(table: &[u8], place: usize, new: u64, values: &[u64]) -> Quote
+fn quote_after(table: &[u8], place: usize, new: u64, values: &[u64]) -> Result<Quote, Refusal>
     requires fact_1 { (record_length * (place + 1) ≤ length table.now) × (length table.now ≤ record_length * most_records) }
     requires fact_2 { refusal (with_value table.now place new) ≡ 0 }
-    ensures { result ≡ figure_answer (with_value table.now place new) values.now }
+    ensures { answer result ≡ figure_answer (with_value table.now place new) values.now }
 {
     let len = table.len();
     let mut work = [0; RECORD_LENGTH * MOST_RECORDS];
@@ -84,46 +75,31 @@ fn quote_after(table: &[u8], place: usize, new: u64, values: &[u64]) -> Quote
     quoting::quote_checked(&work[0..len], values)
 }
 
-// Both figures, each with its branch, or the second's refusal.
-fn with_after(figure: u64, branch: u64, after: Quote) -> Previewed
-    ensures { result ≡ figures (Quote.Figure figure branch) after }
-{
-    match after {
-        Quote::Figure(x, c) => Previewed::Figures(figure, branch, x, c),
-        Quote::Refused(question) => Previewed::Refused(question),
-    }
-}
-
 // The figures before and after retiming, with their branches: questions 1 to 7 and 17, then a figure call's for the old tree and for the new one. It changes
 // nothing.
-pub fn preview(table: &[u8], place: u64, old: u64, new: u64, values: &[u64]) -> Previewed
-    ensures answer { result ≡ preview_answer table.now place old new values.now }
-    ensures promise { PreviewPromises table.now place old new values.now result }
+pub fn preview(
+    table: &[u8],
+    place: u64,
+    old: u64,
+    new: u64,
+    values: &[u64],
+) -> Result<Previewed, Refusal>
+    ensures answer { answer result ≡ preview_answer table.now place old new values.now }
+    ensures promise { PreviewPromises table.now place old new values.now (answer result) }
 {
-    let number = retime_refusal(table, place, old, new);
-    if number != 0 {
-        return Previewed::Refused(number);
-    }
-    let quote = quoting::quote_checked(table, values);
-    match quote {
-        Quote::Figure(figure, branch) => {
-            let after = quote_after(table, place as usize, new, values);
-            with_after(figure, branch, after)
-        }
-        Quote::Refused(question) => Previewed::Refused(question),
-    }
+    accept(table, place, old, new)?;
+    let before = quoting::quote_checked(table, values)?;
+    let after = quote_after(table, place as usize, new, values)?;
+    Ok(Previewed { before, after })
 }
 
-// Writes the new time into the table itself, where the block at record `place` still has the old one: questions 1 to 7 and 17.
-pub fn commit(table: &mut [u8], place: u64, old: u64, new: u64) -> Committed
-    ensures answer { result ≡ commit_answer table.old place old new }
+// Writes the new time into the table itself, where the block at record `place` still has the old one, and answers the table's length: questions 1 to 7 and 17.
+pub fn commit(table: &mut [u8], place: u64, old: u64, new: u64) -> Result<usize, Refusal>
+    ensures answer { answer result ≡ commit_answer table.old place old new }
     ensures written { table.new ≡ commit_leaves table.old place old new }
-    ensures promise { CommitPromises table.old place old new table.new (committed_refusal result) }
+    ensures promise { CommitPromises table.old place old new table.new (refused (answer result)) }
 {
-    let number = retime_refusal(table, place, old, new);
-    if number != 0 {
-        return Committed::Refused(number);
-    }
+    accept(table, place, old, new)?;
     writing::put_value(table, place as usize, new);
-    Committed::Written(table.len())
+    Ok(table.len())
 }

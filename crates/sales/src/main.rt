@@ -6,7 +6,7 @@ ghost use Rattle.io.specs.Counts.{IsPrefixLen};
 ghost use Rattle.sales.specs.Lines.{Line};
 ghost use Rattle.text.specs.Texts.{longest_line};
 
-use arguments::Allowance;
+use refusals::Refusal;
 use simplifying::{Ending, Simplified};
 use std::env::{Env, FillError};
 use std::random::RandomSource;
@@ -24,16 +24,16 @@ const SIMPLE: [u8; 10] = *b"simple.tab";
 const LONGEST_ARGUMENT: usize = 131_072;
 
 // The allowance that the arguments give: the largest where there is none. More than one, or one that does not fit the buffer, is no number.
-fn allowance(rt: &impl Env) -> Allowance {
+fn allowance(rt: &impl Env) -> Option<u64> {
     let mut argument = [0u8; LONGEST_ARGUMENT];
     match rt.arg(2, &mut argument) {
         Err(FillError::NotPresent) => {}
-        _ => return Allowance::NoNumber,
+        _ => return None,
     }
     match rt.arg(1, &mut argument) {
         Ok(len) => arguments::allowance_of(&argument[..len]),
-        Err(FillError::NotPresent) => Allowance::Steps(u64::MAX),
-        Err(FillError::TooLong) => Allowance::NoNumber,
+        Err(FillError::NotPresent) => Some(u64::MAX),
+        Err(FillError::TooLong) => None,
     }
 }
 
@@ -55,28 +55,23 @@ fn say(rt: &(impl Print + Eprint), len: u64, steps: u64, ending: &[u8])
     text::say(rt, &line[..n]);
 }
 
-// Saves the front of the buffer, and says so once it is saved.
-fn deliver(
-    rt: &(impl Files + RandomSource + Print + Eprint),
-    simple: &[u8],
-    len: usize,
-    steps: u64,
-    ending: Ending,
-)
-    requires { IsPrefixLen len simple.now }
+// Saves what was written into the buffer, and says so once it is saved.
+fn deliver(rt: &(impl Files + RandomSource + Print + Eprint), simple: &[u8], simplified: Simplified)
+    requires { IsPrefixLen simplified.length simple.now }
 {
-    if files::save(rt, &SIMPLE, &simple[..len]) {
-        match ending {
-            Ending::Finished => say(rt, len as u64, steps, b" finished\n"),
-            Ending::Spent => say(rt, len as u64, steps, b" spent\n"),
+    let length = simplified.length;
+    if files::save(rt, &SIMPLE, &simple[..length]) {
+        match simplified.ending {
+            Ending::Finished => say(rt, length as u64, simplified.steps, b" finished\n"),
+            Ending::Spent => say(rt, length as u64, simplified.steps, b" spent\n"),
         }
     }
 }
 
 // Removes an older simple.tab, which is not this tree's, and says so once it is gone: a sister house would quote from it.
-fn refuse(rt: &(impl Files + Print + Eprint), number: u64) {
+fn refuse(rt: &(impl Files + Print + Eprint), refusal: Refusal) {
     if files::remove(rt, &SIMPLE) {
-        text::say_number(rt, b"refused ", number);
+        text::say_number(rt, b"refused ", u64::from(refusal));
     }
 }
 
@@ -87,10 +82,9 @@ fn simplify_into(
     allowance: u64,
     simple: &mut [u8],
 ) {
-    let answer = simplifying::simplify(tree, allowance, simple);
-    match answer {
-        Simplified::Written(len, steps, ending) => deliver(rt, simple, len, steps, ending),
-        Simplified::Refused(number) => refuse(rt, number),
+    match simplifying::simplify(tree, allowance, simple) {
+        Ok(simplified) => deliver(rt, simple, simplified),
+        Err(refusal) => refuse(rt, refusal),
     }
 }
 
@@ -103,17 +97,14 @@ fn complain(rt: &impl Eprint) {
 fn run(rt: &(impl Files + RandomSource + Print + Eprint), allowance: u64) {
     let mut tree = [0u8; ROOM];
     let mut simple = [0u8; ROOM];
-    let t = files::load(rt, b"tree.tab", &mut tree);
-    if t.readable {
-        let len = t.len;
-        simplify_into(rt, &tree[..len], allowance, &mut simple);
+    if let Some(tree) = files::load(rt, b"tree.tab", &mut tree) {
+        simplify_into(rt, tree, allowance, &mut simple);
     }
 }
 
 fn main(rt: HostRuntime) {
-    let asked = allowance(&rt);
-    match asked {
-        Allowance::Steps(steps) => run(&rt, steps),
-        Allowance::NoNumber => complain(&rt),
+    match allowance(&rt) {
+        Some(steps) => run(&rt, steps),
+        None => complain(&rt),
     }
 }

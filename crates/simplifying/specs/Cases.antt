@@ -1,6 +1,7 @@
 -- The starred cases A to K of document 01, "Cases": one list that one proof checks against the definitions.
 use Rattle.std.specs.Prelude.{◌≡◌, refl, Bool, true, false, List, [], ◌∷◌, ℕ, eqb, length, replicate}
 use Rattle.booleans.specs.Tests.{◌and◌}
+use Rattle.refusals.specs.Refusals.{Answer, Given, Refused}
 use Rattle.table.specs.Numbers.{most_records}
 use Rattle.table.specs.Notation.{◌/◌at◌, all_hold, block, both, either, loop, sequence, symbol}
 use Rattle.table.specs.Table.{encode}
@@ -11,7 +12,7 @@ use Rattle.lists.specs.Pairs.{ever, run}
 use Rattle.quoting.specs.Cases.{computed, lists, quotes}
 use Rattle.simplifying.specs.declared.Ending.{Ending}
 use Rattle.simplifying.specs.declared.Simplified.{Simplified}
-use Rattle.simplifying.specs.Answers.{ending_of, made, made_answer, simplify_answer, simplify_refusal, simplify_writes}
+use Rattle.simplifying.specs.Answers.{made, made_answer, simplify_answer, simplify_refusal, simplify_writes}
 
 pub same_numbers : List ℕ → List ℕ → Bool
 same_numbers [] [] = true
@@ -23,9 +24,9 @@ pub is_finished : Ending → Bool
 is_finished Ending.Finished = true
 is_finished Ending.Spent = false
 
-pub has_written : (long count : ℕ) → Simplified → Bool
-has_written long count (Simplified.Written l n e) = eqb long l and eqb count n and is_finished e
-has_written long count (Simplified.Refused q) = false
+pub has_written : (long count : ℕ) → Answer Simplified → Bool
+has_written long count (Given s) = eqb long s.length and eqb count s.steps and is_finished s.ending
+has_written long count (Refused q) = false
 
 -- simplifying the tree's table, into a buffer of its length, writes this tree's and finishes after so many steps
 pub becomes : (original result : Tree) → (count : ℕ) → Bool
@@ -63,5 +64,5 @@ starred =
     ∷ []
 
 pub starred-hold : all_hold starred ≡ true
-unfolding starred case_c case_e term case_h case_i limited_zero computed computed_steps same_numbers is_finished has_written becomes simplify_refusal ending_of made made_answer simplify_answer simplify_writes
+unfolding starred case_c case_e term case_h case_i limited_zero computed computed_steps same_numbers is_finished has_written becomes simplify_refusal made made_answer simplify_answer simplify_writes
 starred-hold = refl

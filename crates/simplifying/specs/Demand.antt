@@ -1,20 +1,20 @@
 -- Document 01, "For demand 3": one claim about checking, simplifying and the figure call together.
 use Rattle.std.specs.Prelude.{◌≡◌, List, ℕ, ◌≤◌, length, take}
 use Rattle.std.proofs.Math.Option.{some}
+use Rattle.refusals.specs.Refusals.{Answer, refused}
 use Rattle.table.specs.Trees.{Tree}
 use Rattle.table.specs.Table.{encode, decode}
 use Rattle.table.specs.Checking.{refusal}
 use Rattle.simplify.specs.Steps.{step, is_none, after}
-use Rattle.quoting.specs.declared.Checked.{Checked}
 use Rattle.quoting.specs.declared.Quote.{Quote}
 use Rattle.simplifying.specs.declared.Simplified.{Simplified}
 use Rattle.values.specs.Values.{NoneLower}
 use Rattle.quoting.specs.Promises.{Promises}
 use Rattle.writing.specs.Over.{over}
-use Rattle.quoting.specs.Answers.{check_answer, figure_answer, quoted_figure, quoted_refusal}
-use Rattle.simplifying.specs.Answers.{ending_of, finished_number, simplified_finished, simplified_length, simplified_refusal, simplified_steps, simplify_answer, simplify_writes}
+use Rattle.quoting.specs.Answers.{check_answer, figure_answer, quoted_figure}
+use Rattle.simplifying.specs.Answers.{ending_of, finished_number, simplified_finished, simplified_length, simplified_steps, simplify_answer, simplify_writes}
 
--- The claim speaks of answers by document 01's numbers, so that one serves answers that are enums and the structs that C gets.
+-- The claim speaks of answers by document 01's numbers, so that one serves what the calls answer and the structs that C gets.
 -- Simplifying's: the refusal's number, 0 for none; the length; the steps; finished (1) or spent (0).
 pub record SimplifyNumbers : Type 0 where
   pub refused : ℕ
@@ -27,11 +27,11 @@ pub record FigureNumbers : Type 0 where
   pub refused : ℕ
   pub figure : ℕ
 
-abbrev pub simplified_numbers : Simplified → SimplifyNumbers
-simplified_numbers r = record { refused = simplified_refusal r; length = simplified_length r; steps = simplified_steps r; finished = simplified_finished r }
+abbrev pub simplified_numbers : Answer Simplified → SimplifyNumbers
+simplified_numbers r = record { refused = refused r; length = simplified_length r; steps = simplified_steps r; finished = simplified_finished r }
 
-abbrev pub quoted_numbers : Quote → FigureNumbers
-quoted_numbers r = record { refused = quoted_refusal r; figure = quoted_figure r }
+abbrev pub quoted_numbers : Answer Quote → FigureNumbers
+quoted_numbers r = record { refused = refused r; figure = quoted_figure r }
 
 -- Simplifying the accepted table b under an allowance wrote the bytes `written`, with this count of steps, finished (1) or spent (0).
 -- Reception, with values v, was lent b; sales, with values w, were lent `written` alone; each was answered these numbers.
@@ -55,7 +55,7 @@ pub record Sold (b : List ℕ) (allowance : ℕ) (v w written : List ℕ) (count
 
 -- too large: no values at all give the table a figure
 abbrev pub TooLarge : List ℕ → Type 0
-TooLarge b = (u : List ℕ) → quoted_refusal (figure_answer b u) ≡ 0 → ⊥
+TooLarge b = (u : List ℕ) → refused (figure_answer b u) ≡ 0 → ⊥
 
 -- the bytes that sales are lent: those that simplifying wrote into the buffer, in the length that it answered
 abbrev pub sold_bytes : SimplifyNumbers → (buffer : List ℕ) → List ℕ
@@ -69,7 +69,7 @@ pub record Demand3 (b : List ℕ) (allowance : ℕ) (v w buffer : List ℕ) (che
   pub too_large : checked ≡ 0 → answer.refused ≡ 10 → TooLarge b
 
 -- The four calls of one claim: checking, simplifying into the buffer `out`, reception's figure of the table, and sales' of what was written.
-pub record Asked (b : List ℕ) (allowance : ℕ) (v w out buffer : List ℕ) (checked : Checked) (answer : Simplified) (reception sales : Quote) : Type 0 where
+pub record Asked (b : List ℕ) (allowance : ℕ) (v w out buffer : List ℕ) (checked : Answer ℕ) (answer : Answer Simplified) (reception sales : Answer Quote) : Type 0 where
   pub checks : checked ≡ check_answer b
   pub simplifies : answer ≡ simplify_answer b allowance out
   pub writes : buffer ≡ over (simplify_writes b allowance out) out

@@ -2,14 +2,15 @@
 #![tactic(auto)]
 
 ghost use Rattle.std.specs.Prelude.{◌≡◌, ◌≤◌, length};
+ghost use Rattle.refusals.specs.Refusals.{answer, refused};
 ghost use Rattle.table.specs.Table.{encode};
-ghost use Rattle.quoting.specs.Answers.{checked_refusal};
 ghost use Rattle.subtrees.specs.Parts.{Simplifiable};
 ghost use Rattle.writing.specs.Over.{over};
 ghost use Rattle.simplifying.specs.Demand.{Asked, Demand3, quoted_numbers, simplified_numbers};
-ghost use Rattle.simplifying.specs.Answers.{ending_of, made, made_answer, simplified_length, simplify_answer, simplify_writes};
+ghost use Rattle.simplifying.specs.Answers.{ending_of, finished_number, made, made_answer, simplify_answer, simplify_writes};
 
-use quoting::{Checked, LIST_ROOM, Quote};
+use quoting::{LIST_ROOM, Quote};
+use refusals::Refusal;
 use subtrees::MARKS;
 use table::{MOST_RECORDS, RECORD_LENGTH};
 
@@ -20,21 +21,36 @@ pub enum Ending {
     Spent,
 }
 
-// Simplifying: the length of the table that was written, and the steps taken.
-#[derive(Clone, Copy)]
-pub enum Simplified {
-    Written(usize, u64, Ending),
-    Refused(u64),
+impl From<bool> for Ending {
+    ghost from_gives = { λ finished ending. ending ≡ ending_of finished };
+
+    fn from(finished: bool) -> Ending {
+        if finished {
+            Ending::Finished
+        } else {
+            Ending::Spent
+        }
+    }
 }
 
-fn ending_of(finished: bool) -> Ending
-    ensures { result ≡ ending_of finished }
-{
-    if finished {
-        Ending::Finished
-    } else {
-        Ending::Spent
+// Document 01's number for an ending.
+impl From<Ending> for u64 {
+    ghost from_gives = { λ ending n. n ≡ finished_number ending };
+
+    fn from(ending: Ending) -> u64 {
+        match ending {
+            Ending::Finished => 1,
+            Ending::Spent => 0,
+        }
     }
+}
+
+// The length of the table that was written, the steps taken, and how they ended.
+#[derive(Clone, Copy)]
+pub struct Simplified {
+    pub length: usize,
+    pub steps: u64,
+    pub ending: Ending,
 }
 
 // Steps on a table that simplifying accepts. They are made in a copy, and only the answer's length of `out` is written.
@@ -59,29 +75,30 @@ fn make_steps(table: &[u8], allowance: u64, out: &mut [u8]) -> Simplified
     );
     let n = run.len;
     writing::write_front(&work, n, out);
-    Simplified::Written(n, run.steps, ending_of(run.finished))
+    Simplified {
+        length: n,
+        steps: run.steps,
+        ending: Ending::from(run.finished),
+    }
 }
 
 // The table of a tree after as many steps of simplification as the allowance has, or until no rule fits, written over the front of `out`: questions 1
 // to 8, then 10 with every value 0.
-pub fn simplify(table: &[u8], allowance: u64, out: &mut [u8]) -> Simplified
-    ensures answer { result ≡ simplify_answer table.now allowance out.old }
+pub fn simplify(table: &[u8], allowance: u64, out: &mut [u8]) -> Result<Simplified, Refusal>
+    ensures answer { answer result ≡ simplify_answer table.now allowance out.old }
     ensures written { out.new ≡ over (simplify_writes table.now allowance out.old) out.old }
 {
-    let number = table::refusal_of(table);
-    if number != 0 {
-        return Simplified::Refused(number);
-    }
+    table::accept(table)?;
     if out.len() < table.len() {
-        return Simplified::Refused(8);
+        return Err(Refusal::Room);
     }
     let zeros = [0; 0];
     let mut list = [0; LIST_ROOM];
     let found = walking::evaluate(table, &zeros, &mut list);
     if found.fits {
-        make_steps(table, allowance, out)
+        Ok(make_steps(table, allowance, out))
     } else {
-        Simplified::Refused(10)
+        Err(Refusal::Ceiling)
     }
 }
 
@@ -90,20 +107,10 @@ pub fn simplify(table: &[u8], allowance: u64, out: &mut [u8]) -> Simplified
 // What checking, simplifying and the figure call answer both desks.
 #[derive(Clone, Copy)]
 pub struct BothDesks {
-    pub checked: Checked,
-    pub simplified: Simplified,
-    pub reception: Quote,
-    pub sales: Quote,
-}
-
-// How many bytes simplifying wrote.
-fn length_of(answer: Simplified) -> usize
-    ensures { result ≡ simplified_length answer }
-{
-    match answer {
-        Simplified::Written(n, _, _) => n,
-        Simplified::Refused(_) => 0,
-    }
+    pub checked: Result<usize, Refusal>,
+    pub simplified: Result<Simplified, Refusal>,
+    pub reception: Result<Quote, Refusal>,
+    pub sales: Result<Quote, Refusal>,
 }
 
 // Demand 3. Checks a table and simplifies it into `out`. Reception quotes the table with its values; sales quote with theirs and are lent the written
@@ -115,12 +122,12 @@ pub fn both_desks(
     reception: &[u64],
     sales: &[u64],
 ) -> BothDesks
-    ensures demand { Demand3 table.now allowance reception.now sales.now out.new (checked_refusal result.checked) (simplified_numbers result.simplified) (quoted_numbers result.reception) (quoted_numbers result.sales) }
-    ensures answers { Asked table.now allowance reception.now sales.now out.old out.new result.checked result.simplified result.reception result.sales }
+    ensures demand { Demand3 table.now allowance reception.now sales.now out.new (refused (answer result.checked)) (simplified_numbers (answer result.simplified)) (quoted_numbers (answer result.reception)) (quoted_numbers (answer result.sales)) }
+    ensures answers { Asked table.now allowance reception.now sales.now out.old out.new (answer result.checked) (answer result.simplified) (answer result.reception) (answer result.sales) }
 {
     let checked = quoting::check(table);
     let simplified = simplify(table, allowance, out);
-    let n = length_of(simplified);
+    let n = simplified.map_or(0, |written| written.length);
     let quoted = quoting::figure(table, reception);
     let sold = quoting::figure(&out[0..n], sales);
     BothDesks {

@@ -2,12 +2,13 @@
 #![tactic(auto)]
 
 ghost use Rattle.std.specs.Prelude.{◌≡◌, ◌%◌, length, take};
-ghost use Rattle.quoting.specs.Answers.{check_answer, figure_answer, list_answer, listed_refusal, listed_pairs, list_writes};
+ghost use Rattle.refusals.specs.Refusals.{answer, given, refused};
+ghost use Rattle.quoting.specs.Answers.{check_answer, figure_answer, list_answer, list_writes};
 ghost use Rattle.quoting.specs.Promises.{Listing};
 ghost use Rattle.evaluate.specs.Evaluate.{values_of};
 ghost use Rattle.table.specs.Table.{decode};
 ghost use Rattle.writing.specs.Over.{over};
-ghost use Rattle.simplifying.specs.Answers.{finished_number, simplify_answer, simplify_writes};
+ghost use Rattle.simplifying.specs.Answers.{simplify_answer, simplify_writes};
 ghost use Rattle.simplifying.specs.Demand.{Demand3};
 ghost use Rattle.graft.specs.Answers.{graft_answer, graft_writes, grafted_length, grafted_refusal};
 ghost use Rattle.graft.specs.Promises.{GraftPromised};
@@ -25,9 +26,17 @@ ghost use Rattle.volefleece.specs.BothDesks.{AskedInC, quoted_by, simplified_by}
 use fill::Filled;
 use former::Conversion;
 use graft::Grafted;
-use quoting::{Checked, Listed, Quote};
-use retime::{Committed, Previewed};
-use simplifying::{Ending, Simplified};
+use refusals::Refusal;
+
+// The number of a refusal, 0 for none, and the number that was asked for, 0 where there is none.
+fn numbers_of(outcome: Result<usize, Refusal>) -> (u64, u64)
+    ensures { (result.0 ≡ refused (answer outcome)) × (result.1 ≡ given (answer outcome)) }
+{
+    match outcome {
+        Ok(number) => (0, number as u64),
+        Err(refusal) => (u64::from(refusal), 0),
+    }
+}
 
 #[repr(C)]
 #[derive(Clone, Copy)]
@@ -40,17 +49,8 @@ pub struct VfChecked {
 pub extern "C" fn vf_check(table: &[u8]) -> VfChecked
     ensures { CheckedAs result (check_answer table.now) }
 {
-    let answer = quoting::check(table);
-    match answer {
-        Checked::Accepted(records) => VfChecked {
-            refused: 0,
-            records: records as u64,
-        },
-        Checked::Refused(number) => VfChecked {
-            refused: number,
-            records: 0,
-        },
-    }
+    let (refused, records) = numbers_of(quoting::check(table));
+    VfChecked { refused, records }
 }
 
 #[repr(C)]
@@ -68,15 +68,14 @@ pub extern "C" fn vf_figure(table: &[u8], values: &[u64]) -> VfFigureAnswer
     ensures branch { BranchPromised table.now values.now result }
     ensures rising { FigureRises table.now values.now result }
 {
-    let answer = quoting::figure(table, values);
-    match answer {
-        Quote::Figure(figure, branch) => VfFigureAnswer {
+    match quoting::figure(table, values) {
+        Ok(quote) => VfFigureAnswer {
             refused: 0,
-            figure: figure,
-            branch: branch,
+            figure: quote.figure,
+            branch: quote.branch,
         },
-        Quote::Refused(number) => VfFigureAnswer {
-            refused: number,
+        Err(refusal) => VfFigureAnswer {
+            refused: u64::from(refusal),
             figure: 0,
             branch: 0,
         },
@@ -92,21 +91,12 @@ pub struct VfListAnswer {
 
 #[unsafe(no_mangle)]
 pub extern "C" fn vf_list(table: &[u8], values: &[u64], out: &mut [u64]) -> VfListAnswer
-    ensures answer { (result.refused ≡ listed_refusal (list_answer table.now values.now out.old)) × (result.pairs ≡ listed_pairs (list_answer table.now values.now out.old)) }
+    ensures answer { (result.refused ≡ refused (list_answer table.now values.now out.old)) × (result.pairs ≡ given (list_answer table.now values.now out.old)) }
     ensures written { out.new ≡ over (list_writes table.now values.now out.old) out.old }
     ensures promise { result.refused ≡ 0 → Listing (values_of values.now) (decode table.now) result.pairs out.new }
 {
-    let answer = quoting::list(table, values, out);
-    match answer {
-        Listed::Pairs(pairs) => VfListAnswer {
-            refused: 0,
-            pairs: pairs as u64,
-        },
-        Listed::Refused(number) => VfListAnswer {
-            refused: number,
-            pairs: 0,
-        },
-    }
+    let (refused, pairs) = numbers_of(quoting::list(table, values, out));
+    VfListAnswer { refused, pairs }
 }
 
 #[repr(C)]
@@ -118,31 +108,20 @@ pub struct VfSimplified {
     pub finished: u64,
 }
 
-// Document 01's number for an ending.
-fn number_of(ending: Ending) -> u64
-    ensures { result ≡ finished_number ending }
-{
-    match ending {
-        Ending::Finished => 1,
-        Ending::Spent => 0,
-    }
-}
-
 #[unsafe(no_mangle)]
 pub extern "C" fn vf_simplify(table: &[u8], allowance: u64, out: &mut [u8]) -> VfSimplified
     ensures answer { SimplifiedAs result (simplify_answer table.now allowance out.old) }
     ensures written { out.new ≡ over (simplify_writes table.now allowance out.old) out.old }
 {
-    let answer = simplifying::simplify(table, allowance, out);
-    match answer {
-        Simplified::Written(length, steps, ending) => VfSimplified {
+    match simplifying::simplify(table, allowance, out) {
+        Ok(simplified) => VfSimplified {
             refused: 0,
-            length: length as u64,
-            steps: steps,
-            finished: number_of(ending),
+            length: simplified.length as u64,
+            steps: simplified.steps,
+            finished: u64::from(simplified.ending),
         },
-        Simplified::Refused(number) => VfSimplified {
-            refused: number,
+        Err(refusal) => VfSimplified {
+            refused: u64::from(refusal),
             length: 0,
             steps: 0,
             finished: 0,
@@ -150,37 +129,31 @@ pub extern "C" fn vf_simplify(table: &[u8], allowance: u64, out: &mut [u8]) -> V
     }
 }
 
+// What the calls answer that write a table, and nothing else, into a lent buffer or in place: how long it is.
 #[repr(C)]
 #[derive(Clone, Copy)]
-pub struct VfGrafted {
+pub struct VfWritten {
     pub refused: u64,
     pub length: u64,
 }
 
 #[unsafe(no_mangle)]
-pub extern "C" fn vf_graft(host: &[u8], sent: &[u8], symbol: u64, out: &mut [u8]) -> VfGrafted
+pub extern "C" fn vf_graft(host: &[u8], sent: &[u8], symbol: u64, out: &mut [u8]) -> VfWritten
     ensures answer { (result.refused ≡ grafted_refusal (graft_answer host.now sent.now symbol out.old)) × (result.length ≡ grafted_length (graft_answer host.now sent.now symbol out.old)) }
     ensures promise { result.refused ≡ 0 → GraftPromised host.now sent.now symbol (take result.length out.new) }
     ensures written { out.new ≡ over (graft_writes host.now sent.now symbol out.old) out.old }
 {
     let answer = graft::graft(host, sent, symbol, out);
     match answer {
-        Grafted::Written(bytes) => VfGrafted {
+        Grafted::Written(bytes) => VfWritten {
             refused: 0,
             length: bytes as u64,
         },
-        Grafted::Refused(question) => VfGrafted {
+        Grafted::Refused(question) => VfWritten {
             refused: question,
             length: 0,
         },
     }
-}
-
-#[repr(C)]
-#[derive(Clone, Copy)]
-pub struct VfFilled {
-    pub refused: u64,
-    pub length: u64,
 }
 
 #[unsafe(no_mangle)]
@@ -190,7 +163,7 @@ pub extern "C" fn vf_fill(
     number: u64,
     out: &mut [u8],
     marks: &mut [u8],
-) -> VfFilled
+) -> VfWritten
     ensures answer { FilledAs result (fill_answer table.now symbol number out.old marks.old) }
     ensures promise { result.refused ≡ 0 → FillPromised table.now symbol number (take result.length out.new) (take mark_length marks.new) }
     ensures written { out.new ≡ over (fill_writes table.now symbol number out.old marks.old) out.old }
@@ -198,22 +171,15 @@ pub extern "C" fn vf_fill(
 {
     let answer = fill::fill(table, symbol, number, out, marks);
     match answer {
-        Filled::Written(written) => VfFilled {
+        Filled::Written(written) => VfWritten {
             refused: 0,
             length: written as u64,
         },
-        Filled::Refused(why) => VfFilled {
+        Filled::Refused(why) => VfWritten {
             refused: why,
             length: 0,
         },
     }
-}
-
-#[repr(C)]
-#[derive(Clone, Copy)]
-pub struct VfOpened {
-    pub refused: u64,
-    pub length: u64,
 }
 
 #[unsafe(no_mangle)]
@@ -223,18 +189,18 @@ pub extern "C" fn vf_open(
     symbol: u64,
     number: u64,
     out: &mut [u8],
-) -> VfOpened
+) -> VfWritten
     ensures answer { OpenedAs result (open_answer table.now marks.now symbol number out.old) }
     ensures promise { result.refused ≡ 0 → OpenPromised table.now symbol number (take result.length out.new) }
     ensures written { out.new ≡ over (open_writes table.now marks.now symbol number out.old) out.old }
 {
     let answer = fill::open(table, marks, symbol, number, out);
     match answer {
-        Filled::Written(restored) => VfOpened {
+        Filled::Written(restored) => VfWritten {
             refused: 0,
             length: restored as u64,
         },
-        Filled::Refused(reason) => VfOpened {
+        Filled::Refused(reason) => VfWritten {
             refused: reason,
             length: 0,
         },
@@ -264,17 +230,16 @@ pub extern "C" fn vf_preview(
     ensures answer { PreviewedAs result (preview_answer table.now place old new values.now) }
     ensures promise { FiguresPromised table.now place old new values.now result }
 {
-    let answer = retime::preview(table, place, old, new, values);
-    match answer {
-        Previewed::Figures(figure, branch, next, other) => VfPreviewed {
+    match retime::preview(table, place, old, new, values) {
+        Ok(previewed) => VfPreviewed {
             refused: 0,
-            before: figure,
-            branch_before: branch,
-            after: next,
-            branch_after: other,
+            before: previewed.before.figure,
+            branch_before: previewed.before.branch,
+            after: previewed.after.figure,
+            branch_after: previewed.after.branch,
         },
-        Previewed::Refused(no) => VfPreviewed {
-            refused: no,
+        Err(refusal) => VfPreviewed {
+            refused: u64::from(refusal),
             before: 0,
             branch_before: 0,
             after: 0,
@@ -283,43 +248,20 @@ pub extern "C" fn vf_preview(
     }
 }
 
-#[repr(C)]
-#[derive(Clone, Copy)]
-pub struct VfCommitted {
-    pub refused: u64,
-    pub length: u64,
-}
-
 #[unsafe(no_mangle)]
-pub extern "C" fn vf_commit(table: &mut [u8], place: u64, old: u64, new: u64) -> VfCommitted
+pub extern "C" fn vf_commit(table: &mut [u8], place: u64, old: u64, new: u64) -> VfWritten
     ensures answer { CommittedAs result (commit_answer table.old place old new) }
     ensures written { table.new ≡ commit_leaves table.old place old new }
     ensures promise { CommitPromises table.old place old new table.new result.refused }
 {
-    let answer = retime::commit(table, place, old, new);
-    match answer {
-        Committed::Written(whole) => VfCommitted {
-            refused: 0,
-            length: whole as u64,
-        },
-        Committed::Refused(stale) => VfCommitted {
-            refused: stale,
-            length: 0,
-        },
-    }
+    let (refused, length) = numbers_of(retime::commit(table, place, old, new));
+    VfWritten { refused, length }
 }
 
 // ---- Former tables
 
-#[repr(C)]
-#[derive(Clone, Copy)]
-pub struct VfConverted {
-    pub refused: u64,
-    pub length: u64,
-}
-
 #[unsafe(no_mangle)]
-pub extern "C" fn vf_convert(old: &[u8], out: &mut [u8]) -> VfConverted
+pub extern "C" fn vf_convert(old: &[u8], out: &mut [u8]) -> VfWritten
     ensures answer { (result.refused ≡ conversion_refusal (convert_answer old.now out.old)) × (result.length ≡ conversion_length (convert_answer old.now out.old)) }
     ensures written { out.new ≡ over (convert_writes old.now out.old) out.old }
     ensures promise { Converts old.now }
@@ -327,11 +269,11 @@ pub extern "C" fn vf_convert(old: &[u8], out: &mut [u8]) -> VfConverted
 {
     let answer = former::convert(old, out);
     match answer {
-        Conversion::Written(len) => VfConverted {
+        Conversion::Written(len) => VfWritten {
             refused: 0,
             length: len as u64,
         },
-        Conversion::Refused(no) => VfConverted {
+        Conversion::Refused(no) => VfWritten {
             refused: no,
             length: 0,
         },

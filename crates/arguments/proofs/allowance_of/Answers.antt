@@ -1,42 +1,40 @@
-use Rattle.std.specs.Prelude.{not}
-use Rattle.std.proofs.Math.Path.{ap}
-use mathlib.Core.Path.{sym, ◌∙◌}
+use mathlib.Core.Path.{◌≡◌, sym, ◌∙◌}
 use native.Mathlib.Numerals.{add-one}
 use native.Mathlib.Omega.{arith}
-use borrow.Author.Tests.{not-true, not-false}
-use Rattle.arguments.specs.Laws.Reading.{no-digits, none_read, digit-range, one-read, other-character, too_large, has_room, no_room, all_read}
+use borrow.Author.Rules.{rules}
+use lib.ListN.{get_or}
+use Prim.Native.Nat.{◌+◌, ◌*◌, ◌-◌}
+use Rattle.std.proofs.lemmas.Bool.{eqb-false}
+use Rattle.arguments.specs.Laws.Reading.{no-digits, none_read, one-read, other-character, too_large, all_read}
 use Rattle.arguments.proofs.allowance_of.Goals as goal
 
-pub returns-then-characters-eq0 : goal.returns-then-characters-eq0
-returns-then-characters-eq0 c = no-digits _ c.if-characters-eq0.true
+pub returns-then-is_empty : goal.returns-then-is_empty
+returns-then-is_empty c = no-digits _ (search rules)
 
-pub loop-i-init : goal.loop-i-init
-loop-i-init c = (omega arith, omega arith, none_read _ c.if-characters-eq0.false)
+pub loop-c-init : goal.loop-c-init
+loop-c-init c = (omega arith, none_read _ (eqb-false _ _ (sym c.if-is_empty.ensures)))
 
-pub returns-then-not-is_digit : goal.returns-then-not-is_digit
-returns-then-not-is_digit c =
-    other-character _ _ _ (omega arith) c.loop-i.invariant.2 (sym c.is_digit.ensures ∙ not-true _ (ap not c.if-not-is_digit.true))
+pub returns-then-not-is_ascii_digit : goal.returns-then-not-is_ascii_digit
+returns-then-not-is_ascii_digit c =
+    other-character _ _ _ c.loop-c-test.true c.loop-c.invariant.1 (sym c.if-not-is_ascii_digit.ensures.value)
 
-pub digit_of-digit-requires : goal.digit_of-digit-requires
-digit_of-digit-requires c = digit-range _ (sym c.is_digit.ensures ∙ not-false _ (ap not c.if-not-is_digit.false))
+pub returns-in_err-checked_mul : goal.returns-in_err-checked_mul
+returns-in_err-checked_mul c =
+    c.from_residual.ensures
+    ∙ too_large _ _ _ _ c.loop-c-test.true c.loop-c.invariant.1 (sym c.if-not-is_ascii_digit.ensures.value) c.from-digit.ensures (omega (arith, c.in_err-checked_mul.ensures))
 
-pub returns-then-not-has_room : goal.returns-then-not-has_room
-returns-then-not-has_room c =
-    too_large _ _ _ _ (omega arith) c.loop-i.invariant.2 (sym c.is_digit.ensures ∙ not-false _ (ap not c.if-not-is_digit.false)) c.digit_of-digit.ensures.0
-    (no_room _ _ _ c.has_room.ensures (ap not c.if-not-has_room.true))
+pub returns-in_err-number : goal.returns-in_err-number
+returns-in_err-number c =
+    c.from_residual-in_err-number.ensures
+    ∙ too_large _ _ _ _ c.loop-c-test.true c.loop-c.invariant.1 (sym c.if-not-is_ascii_digit.ensures.value) c.from-digit.ensures
+    (omega (arith, c.in_err-number.ensures, c.in_ok-checked_mul.ensures.1))
 
-pub overflow_mul-number : goal.overflow_mul-number
-overflow_mul-number c =
-    omega (arith, has_room c.loop-i.number c.digit_of-digit.result _ c.has_room.ensures (ap not c.if-not-has_room.false))
-
-pub overflow_add-number : goal.overflow_add-number
-overflow_add-number c =
-    omega (arith, has_room c.loop-i.number c.digit_of-digit.result _ c.has_room.ensures (ap not c.if-not-has_room.false))
-
-pub loop-i-preserved : goal.loop-i-preserved
-loop-i-preserved c =
-    let r = one-read _ _ _ (omega arith) c.loop-i.invariant.2 (sym c.is_digit.ensures ∙ not-false _ (ap not c.if-not-is_digit.false)) in
-    (omega arith, has_room _ _ _ c.has_room.ensures (ap not c.if-not-has_room.false), rw (add-one, c.digit_of-digit.ensures.0) r)
+pub loop-c-preserved : goal.loop-c-preserved
+loop-c-preserved c =
+    let n = c.in_ok-number.ensures in
+    let m = c.in_ok-checked_mul.ensures.1 in
+    let is : c.in_ok-number.number ≡ 10 * c.loop-c.number + (get_or c.args.characters.now c.loop-c.c-index 0 - 48) = omega (arith, n.1, m, c.from-digit.ensures) in
+    (omega (arith, n.0, n.1), rw (add-one, is) (one-read _ c.loop-c.number _ c.loop-c-test.true c.loop-c.invariant.1 (sym c.if-not-is_ascii_digit.ensures.value)))
 
 pub returns : goal.returns
-returns c = all_read _ _ c.loop-i.i (omega arith) (omega arith) c.loop-i.invariant.2
+returns c = all_read _ _ c.loop-c.c-index (omega arith) c.loop-c.invariant.0 c.loop-c.invariant.1

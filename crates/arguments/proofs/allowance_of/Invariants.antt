@@ -1,12 +1,8 @@
--- The invariant: the digits before i are read. The measure: the characters left.
-use Prim.Native.Nat.{◌-◌, ◌≤◌}
-use lib.ListN.{length}
+-- The invariant: the digits so far are read.
+use Prim.Native.Nat.{◌≤◌}
 use Rattle.arguments.specs.Allowances.{most_steps}
 use Rattle.arguments.specs.Laws.Reading.{Read}
 use Rattle.arguments.proofs.allowance_of.Given as goal
 
-abbrev pub invariant-loop-i : goal.invariant-loop-i
-invariant-loop-i l = (l.i ≤ length l.characters) × (l.number ≤ most_steps) × Read l.characters l.number l.i
-
-abbrev pub decreases-loop-i : goal.decreases-loop-i
-decreases-loop-i l = length l.characters - l.i
+abbrev pub invariant-loop-c : goal.invariant-loop-c
+invariant-loop-c l = (l.number ≤ most_steps) × Read l.characters l.number l.c-index

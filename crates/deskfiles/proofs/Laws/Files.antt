@@ -1,22 +1,26 @@
 -- The values of a file, as a program reads them into an array; what is decided from both files, and that values left out never lower it.
-use Rattle.std.specs.Prelude.{◌≡◌, Bool, List, [], ◌∷◌, ◌++◌, ℕ, zero, suc, ◌+◌, ◌*◌, ◌-◌, ◌%◌, ◌<◌, ◌≤◌, length, get_or, take, drop, set, T}
+use Rattle.std.specs.Prelude.{◌≡◌, Bool, List, [], ◌∷◌, ◌++◌, ℕ, zero, suc, ◌+◌, ◌*◌, ◌-◌, ◌%◌, ◌<◌, ◌≤◌, eqb, length, get_or, take, drop, T}
 use Rattle.std.proofs.Math.Path.{refl, sym, ap}
-use Rattle.std.proofs.Common.{ap₂, ◌∙◌, subst, add-zero, zero-add, arith, length-append, length-drop, eqb→eq, take-suc-set, take-suc, take_all, le-ltb, lt-ltb, ltb-false, ltb-true}
+use Rattle.std.proofs.Common.{◌∙◌, subst, add-zero, zero-add, arith, length-append, length-drop, eqb→eq, le-ltb, lt-ltb, ltb-false, ltb-true}
 use Rattle.std.proofs.Math.Bool.{true, false}
 use Rattle.std.proofs.Math.ListN.{get_or-eq_default}
 use Rattle.std.proofs.Math.Dec.{ltb}
-use Rattle.std.proofs.lemmas.List.{take-append-le, drop-append-le}
+use Rattle.std.proofs.lemmas.Bool.{eqb-false}
+use Rattle.std.specs.Array.{IsFromFnResult, IsFromFnResultFrom}
+use Rattle.std.specs.Fn.{Called, Mut}
+use Rattle.std.proofs.lemmas.List.{ext_get_or, take-append-le, drop-append-le}
 use Rattle.booleans.specs.Laws.{both, is_T, T-is}
+use Rattle.refusals.specs.Refusals.{Answer, Given, Refused, refused}
 use Rattle.table.specs.Numbers.{how_many_symbols, how_many_values, later_place}
 use Rattle.table.specs.Bytes.{from_bytes}
 use Rattle.table.specs.Asking.{◌asks◌, by_refusal, first_no}
 use Rattle.table.specs.Checking.{questions, refusal}
-use Rattle.table.proofs.Laws.Asking.{Yes, all_yes, left_out, number_is, numbered, refused}
+use Rattle.table.proofs.Laws.Asking.{Yes, all_yes, left_out, number_is, numbered, refused as refused-is}
 use Rattle.table.proofs.Laws.Refusal.{check-passed, check-passes, check-stops}
 use Rattle.quoting.specs.declared.Quote.{Quote}
 use Rattle.evaluate.specs.Evaluate.{values_of}
 use Rattle.values.specs.Values.{NoneLower, ceiling, question14, question9, value_questions}
-use Rattle.quoting.specs.Answers.{figure_answer, figure_refusal, quote_of, quote_questions, quoted_refusal}
+use Rattle.quoting.specs.Answers.{figure_answer, figure_refusal, quote_of, quote_questions}
 use Rattle.deskfiles.specs.Files.{FilesPromise, file_values, files_answer, file_value, files_refusal, symbol_value, value_length, value_or, values_from, values_whole}
 use Rattle.quoting.proofs.Laws.Figures.{figure-monotone, figured}
 use Rattle.values.proofs.Laws.Values.{pair-low, value-ranged, values-fourteen, values-nine}
@@ -35,18 +39,21 @@ values-at (suc n) i (suc j) b l = let k : suc i + j ≡ i + suc j = omega arith 
 value-at : (b : List ℕ) (i : ℕ) → i < how_many_values → values_of (file_values b) i ≡ file_value b i
 value-at b i l = values-at how_many_values 0 i b l ∙ ap (file_value b) (zero-add i)
 
--- the array's first i values are the file's
-abbrev pub Read : (b : List ℕ) (values : List ℕ) (i : ℕ) → Type 0
-Read b values i = take i values ≡ take i (file_values b)
+-- an array that calls of f fill, where a call at i gives h f i and leaves f as it was
+module _ {F : Type 0} (g : Mut F (ℕ × Unit {0}) ℕ) (h : F → ℕ → ℕ) (called : (f p : F) (i y : ℕ) → Called g f (i, tt) y p → (y ≡ h f i) × (p ≡ f)) (ys : List ℕ) where
+  called-at : (f : F) (n i j : ℕ) → IsFromFnResultFrom g f ys i n → i ≤ j → j < i + n → get_or ys j 0 ≡ h f j
+  called-at f zero i j r l m = absurd (omega arith)
+  called-at f (suc n) i j (p, y, at, k, r) l m =
+      go (eqb i j) refl (λ e. called-at p n (i + 1) j r (omega (arith, e)) (omega arith) ∙ ap (λ q. h q j) (called f p i y k).1)
+    where
+      go : (b : Bool) → eqb i j ≡ b → ((i ≡ j → ⊥) → get_or ys j 0 ≡ h f j) → get_or ys j 0 ≡ h f j
+      go true e w = let q : j ≡ i = sym (eqb→eq i j (is_T _ e)) in rw q (at.1 0 ∙ (called f p i y k).0)
+      go false e w = w (eqb-false i j e)
 
-pub one-read : (b values : List ℕ) (i : ℕ) → i < how_many_values → length values ≡ how_many_values → Read b values i → (x : ℕ) → x ≡ file_value b i → Read b (set values i x) (suc i)
-one-read b values i l e h x q =
-    take-suc-set values i x (omega arith)
-    ∙ ap₂ (λ a y. a ++ (y ∷ [])) h (q ∙ sym (value-at b i l))
-    ∙ sym (take-suc (file_values b) i 0 (omega (arith, values_length how_many_values 0 b)))
-
-pub all_read : (b values : List ℕ) (i : ℕ) → i ≡ how_many_values → length values ≡ how_many_values → Read b values i → values ≡ file_values b
-all_read b values i q e h = sym (take_all i values (omega arith)) ∙ h ∙ take_all i _ (omega (arith, values_length how_many_values 0 b))
+  pub values-filled : (f : F) (b : List ℕ) → h f ≡ file_value b → IsFromFnResult g f ys how_many_values → ys ≡ file_values b
+  values-filled f b e r =
+      ext_get_or 0 ys (file_values b) (r.long ∙ sym (values_length how_many_values 0 b))
+      (λ i l. called-at f how_many_values 0 i r.each (omega arith) (omega (arith, l, r.long)) ∙ ap (λ k. k i) e ∙ sym (value-at b i (omega (arith, l, r.long))))
 
 -- ---- one value
 
@@ -74,15 +81,15 @@ value-later b i l = rw (le-ltb i how_many_symbols l) refl
 module _ (t v : List ℕ) where
   pub files-whole : values_whole v ≡ true → figure_answer t (file_values v) ≡ files_answer t v
   unfolding figure_answer figure_refusal files_answer files_refusal
-  files-whole w = ap (λ n. by_refusal n (quote_of t (file_values v)) Quote.Refused) (sym (left_out (questions t) (quote_questions t (file_values v)) 9 w))
+  files-whole w = ap (λ n. by_refusal n (Given (quote_of t (file_values v))) Refused) (sym (left_out (questions t) (quote_questions t (file_values v)) 9 w))
 
-  pub files-refused : {n : ℕ} → n ≡ refusal t → (n ≡ 0 → ⊥) → Quote.Refused n ≡ files_answer t v
+  pub files-refused : {n : ℕ} → n ≡ refusal t → (n ≡ 0 → ⊥) → Refused n ≡ files_answer t v
   unfolding files_answer files_refusal
-  files-refused e z = sym (refused _ _ Quote.Refused (check-stops t _ e z) z)
+  files-refused e z = sym (refused-is _ _ Refused (check-stops t _ e z) z)
 
-  pub files-other : values_whole v ≡ false → refusal t ≡ 0 → Quote.Refused 9 ≡ files_answer t v
+  pub files-other : values_whole v ≡ false → refusal t ≡ 0 → Refused 9 ≡ files_answer t v
   unfolding files_answer files_refusal first_no
-  files-other w e = sym (refused _ _ Quote.Refused (check-passes t _ e ∙ rw w refl) (λ z. omega (arith, z)))
+  files-other w e = sym (refused-is _ _ Refused (check-passes t _ e ∙ rw w refl) (λ z. omega (arith, z)))
 
 -- whole values make a length that is a multiple of a value's
 pub whole_length : (v : List ℕ) → values_whole v ≡ true → length v % value_length ≡ 0
@@ -147,10 +154,10 @@ module _ (v more : List ℕ) (whole : length v % value_length ≡ 0) where
 
 module _ (t : List ℕ) where
   -- a file that gets a figure holds whole values
-  files-quoted : (v : List ℕ) → quoted_refusal (files_answer t v) ≡ 0 → values_whole v ≡ true
-  unfolding files_answer files_refusal quote_questions value_questions quoted_refusal numbered Yes
+  files-quoted : (v : List ℕ) → refused (files_answer t v) ≡ 0 → values_whole v ≡ true
+  unfolding files_answer files_refusal quote_questions value_questions numbered Yes
   files-quoted v p =
-      let n = number_is quoted_refusal (files_refusal t v) _ Quote.Refused refl (λ q. refl) in
+      let n = number_is refused (files_refusal t v) _ Refused refl (λ q. refl) in
       let (e, m) = check-passed t (9 asks values_whole v ∷ quote_questions t (file_values v)) (sym n ∙ p) in
       T-is _ (all_yes (9 asks values_whole v ∷ quote_questions t (file_values v)) tt m).0
 
@@ -160,11 +167,11 @@ module _ (t : List ℕ) where
       let a = files-quoted v p in
       let e = files-whole t v a in
       let f = files-whole t (v ++ more) (files-quoted (v ++ more) q) in
-      let q' = ap quoted_refusal f ∙ q in
+      let q' = ap refused f ∙ q in
       let allowed = (figured t _ q').allowed in
       let low = more-lower v more (whole_length v a) (values-nine t _ allowed) (values-fourteen t _ allowed) in
-      rw (← e, ← f) (figure-monotone t _ _ low q' (ap quoted_refusal e ∙ p))
+      rw (← e, ← f) (figure-monotone t _ _ low q' (ap refused e ∙ p))
 
   -- an answer that is the desk's keeps it
-  pub files-kept : (v : List ℕ) (r : Quote) → r ≡ files_answer t v → (r ≡ files_answer t v) × FilesPromise t v r
+  pub files-kept : (v : List ℕ) (r : Answer Quote) → r ≡ files_answer t v → (r ≡ files_answer t v) × FilesPromise t v r
   files-kept v r e = (e, subst (FilesPromise t v) (sym e) (files-promise v))

@@ -5,6 +5,7 @@ use Rattle.std.proofs.Common.{ap, subst, ◌∙◌}
 use Rattle.std.specs.Prelude.{false, true, List, [], ◌∷◌, ◌++◌, ℕ, zero, suc, ◌≤◌, ◌%◌, length}
 use Rattle.std.proofs.Math.Dec.{T, leb}
 use Rattle.booleans.specs.Laws.{T-is, both, join-and}
+use Rattle.refusals.specs.Refusals.{Given, Refused}
 use Rattle.table.specs.Asking.{Question, ◌asks◌, by_refusal, first_no}
 use Rattle.table.specs.Checking.{limit_count, question7, record_in_range, refusal}
 use Rattle.table.specs.Limits.{most_holds}
@@ -19,9 +20,7 @@ use Rattle.evaluate.specs.Evaluate.{Values, fits, values_of}
 use Rattle.evaluate.specs.ListPairs.{list_pairs}
 use Rattle.values.specs.Values.{question13, question14, record_small, triangle_small, value_questions}
 use Rattle.quoting.specs.Answers.{check_answer, figure_answer, figure_refusal, list_answer, list_refusal, list_writes, quote_questions}
-use Rattle.quoting.specs.declared.Checked.{Checked}
-use Rattle.quoting.specs.declared.Listed.{Listed}
-use Rattle.quoting.specs.declared.Quote.{Quote}
+use Rattle.quoting.proofs.Laws.Evaluated.{quote_found}
 use Rattle.former.specs.Former.{former_count, former_length, former_node, former_questions, former_refusal, former_tree}
 use Rattle.former.specs.Converted.{new_record, new_table}
 use Rattle.former.proofs.Laws.Records.{same-node}
@@ -47,7 +46,7 @@ after (k asks true ∷ qs) rs ss h = after qs rs ss h
 after (k asks false ∷ qs) rs ss h = refl
 
 -- 7 after them, where it says no
-seven-last : (n : ℕ) (qs : List Question) → T (numbered qs) → by_refusal (first_no (qs ++ 7 asks false ∷ [])) (Checked.Accepted n) Checked.Refused ≡ Checked.Refused (by_refusal (first_no qs) 7 (λ q. q))
+seven-last : (n : ℕ) (qs : List Question) → T (numbered qs) → by_refusal (first_no (qs ++ 7 asks false ∷ [])) (Given n) Refused ≡ Refused (by_refusal (first_no qs) 7 (λ q. q))
 unfolding first_no by_refusal numbered
 seven-last n [] h = refl
 seven-last n (zero asks q ∷ qs) h = absurd h
@@ -122,7 +121,7 @@ module _ (b : List ℕ) where
           (by-refusals ◌≡◌ (first_no (former_questions b ++ former_quote_questions b vs)) _ _ _ _
           (λ e.
           let (r, l) = figure-passed e in
-          ap₂ Quote.Figure (figure-was (values_of vs) (values_of (with_laters vs)) (repeats vs l) (former_tree b) (nodes-ranged r)) (branch-was (values_of vs) (values_of (with_laters vs)) (repeats vs l) (former_tree b) (nodes-ranged r)))
+          ap₂ (λ x c. Given (quote_found x c)) (figure-was (values_of vs) (values_of (with_laters vs)) (repeats vs l) (former_tree b) (nodes-ranged r)) (branch-was (values_of vs) (values_of (with_laters vs)) (repeats vs l) (former_tree b) (nodes-ranged r)))
           (λ z. refl))
 
       -- whatever is taken of the list's pairs
@@ -140,7 +139,7 @@ module _ (b : List ℕ) where
     unfolding check_answer former_check_answer refusal former_refusal
     checked-was y = rw (same-questions b h y, same_count b) refl
 
-    heavier-now : question7 (new_table b) ≡ false → check_answer (new_table b) ≡ Checked.Refused (by_refusal (former_refusal b) 7 (λ q. q))
+    heavier-now : question7 (new_table b) ≡ false → check_answer (new_table b) ≡ Refused (by_refusal (former_refusal b) 7 (λ q. q))
     unfolding check_answer former_refusal
     heavier-now e = rw (same-refusal b h, e) (seven-last _ (former_questions b) (unfold numbered in unfold former_questions in tt))
 
@@ -149,7 +148,7 @@ module _ (b : List ℕ) where
       same = λ y. record {
         checked = checked-was y;
         quoted = λ vs. quoted-was vs h y;
-        listed = λ vs out. unfold list_answer in unfold former_list_answer in of-pairs vs h y _ (λ p. Listed.Pairs (suc (width p))) Listed.Refused out;
+        listed = λ vs out. unfold list_answer in unfold former_list_answer in of-pairs vs h y _ (λ p. Given (suc (width p))) Refused out;
         written = λ vs out. unfold list_writes in unfold former_list_writes in of-pairs vs h y _ numbers (λ q. []) out;
       };
       heavier = heavier-now;

@@ -16,3 +16,7 @@ module _ {A : Type 0} (n : ℕ) (x : A) (f : ℕ → A) (front out : List ℕ) w
 
   pub writes : {r : A} {new : List ℕ} → n ≡ 0 → r ≡ x → new ≡ over front out → Answers r new
   writes e i w = (i ∙ sym (answered n x f e), w ∙ ap (λ y. over y out) (sym (answered n front (λ q. []) e)))
+
+-- another spelling of the answer does as well
+pub told : {A B : Type 0} {r s a : A} → r ≡ s → (s ≡ a) × B → (r ≡ a) × B
+told e h = (e ∙ h.0, h.1)

@@ -5,6 +5,7 @@ use Rattle.std.proofs.Common.{ap₂, ◌∙◌, arith, le-leb}
 use Prim.Native.Nat.{ℕ, suc, ◌≤◌, ◌<◌}
 use Rattle.std.proofs.lemmas.Bool.{lt-leb}
 use Rattle.booleans.specs.Laws.{is_T}
+use Rattle.refusals.specs.Refusals.{Answer, Given, Refused}
 use Rattle.table.specs.Numbers.{most_depth, list_room}
 use Rattle.table.specs.Bytes.{AreBytes}
 use Rattle.table.specs.Table.{decode}
@@ -20,7 +21,6 @@ use Rattle.evaluate.specs.ListPairs.{list_pairs}
 use Rattle.evaluate.specs.Evaluator.{Agree, alike, evaluate_node}
 use Rattle.evaluate.proofs.Laws.Evaluator.{Evaluated, evaluated-table}
 use Rattle.quoting.specs.declared.Quote.{Quote}
-use Rattle.quoting.specs.declared.Listed.{Listed}
 use Rattle.values.specs.Values.{values_refusal}
 use Rattle.writing.specs.Over.{over}
 use Rattle.quoting.specs.Answers.{figure_answer, figure_refusal, list_answer, list_refusal, list_writes, quote_questions}
@@ -29,6 +29,9 @@ use Rattle.quoting.proofs.Laws.Figures.{figure-is, quote-fits}
 use Rattle.values.proofs.Laws.Values.{counts-ranged, values-nine}
 
 -- ---- the walk answers question 10
+
+abbrev pub quote_found : (x c : ℕ) → Quote
+quote_found x c = record { figure = x; branch = c }
 
 module _ (b vs : List ℕ) (e : refusal b ≡ 0) (h : AreBytes b) (q : values_refusal b vs ≡ 0) (u : Values) (a : Agree u (values_of vs)) (y : IsTable b → T (every_most (alike u (values_of vs)) (decode b))) where
   walk : Evaluated (values_of vs) (decode b) (evaluate_node u most_depth b)
@@ -45,39 +48,39 @@ module _ (b vs : List ℕ) (e : refusal b ≡ 0) (h : AreBytes b) (q : values_re
   unfolding first_no
   quote-found = quote-walked
 
-  pub figure-found : (evaluate_node u most_depth b).fits ≡ true → Quote.Figure (top (evaluate_node u most_depth b).pairs) (evaluate_node u most_depth b).branch ≡ figure_answer b vs
+  pub figure-found : (evaluate_node u most_depth b).fits ≡ true → Given (quote_found (top (evaluate_node u most_depth b).pairs) (evaluate_node u most_depth b).branch) ≡ figure_answer b vs
   figure-found n =
       let f = is_T (fits (values_of vs) (decode b)) (sym walk.fits ∙ n) in
-      ap₂ Quote.Figure (walk.figure f) (walk.branch f) ∙ sym (figure-is b vs e q f)
+      ap₂ (λ x c. Given (quote_found x c)) (walk.figure f) (walk.branch f) ∙ sym (figure-is b vs e q f)
 
 -- ---- the figure call
 
 module _ (b vs : List ℕ) where
-  pub figure-refused : {n : ℕ} → n ≡ refusal b → (n ≡ 0 → ⊥) → Quote.Refused n ≡ figure_answer b vs
+  pub figure-refused : {n : ℕ} → n ≡ refusal b → (n ≡ 0 → ⊥) → Refused n ≡ figure_answer b vs
   unfolding figure_answer figure_refusal
-  figure-refused e z = sym (refused _ _ Quote.Refused (check-stops b (quote_questions b vs) e z) z)
+  figure-refused e z = sym (refused _ _ Refused (check-stops b (quote_questions b vs) e z) z)
 
-  pub figure-no : refusal b ≡ 0 → {n : ℕ} → first_no (quote_questions b vs) ≡ n → (n ≡ 0 → ⊥) → Quote.Refused n ≡ figure_answer b vs
+  pub figure-no : refusal b ≡ 0 → {n : ℕ} → first_no (quote_questions b vs) ≡ n → (n ≡ 0 → ⊥) → Refused n ≡ figure_answer b vs
   unfolding figure_answer figure_refusal
-  figure-no e f z = sym (refused _ _ Quote.Refused (check-passes b _ e ∙ f) z)
+  figure-no e f z = sym (refused _ _ Refused (check-passes b _ e ∙ f) z)
 
 -- ---- the list call
 
 module _ (b vs out : List ℕ) where
   -- what it answers, and what its buffer then holds
-  abbrev pub Lists : Listed → (new : List ℕ) → Type 0
+  abbrev pub Lists : Answer ℕ → (new : List ℕ) → Type 0
   Lists r new = (r ≡ list_answer b vs out) × (new ≡ over (list_writes b vs out) out)
 
-  by-refusal : {n : ℕ} → list_refusal b vs out ≡ n → (n ≡ 0 → ⊥) → Lists (Listed.Refused n) out
+  by-refusal : {n : ℕ} → list_refusal b vs out ≡ n → (n ≡ 0 → ⊥) → Lists (Refused n) out
   unfolding list_answer list_writes
-  by-refusal = refuses _ _ Listed.Refused _ out
+  by-refusal = refuses _ _ Refused _ out
 
-  pub list-refused : {n : ℕ} → n ≡ refusal b → (n ≡ 0 → ⊥) → Lists (Listed.Refused n) out
+  pub list-refused : {n : ℕ} → n ≡ refusal b → (n ≡ 0 → ⊥) → Lists (Refused n) out
   unfolding list_refusal
   list-refused e z = by-refusal (check-stops b _ e z) z
 
   module _ (e : refusal b ≡ 0) where
-    pub list-short : length out < list_room → Lists (Listed.Refused 8) out
+    pub list-short : length out < list_room → Lists (Refused 8) out
     unfolding list_refusal first_no
     list-short s = by-refusal (check-passes b _ e ∙ rw (lt-leb list_room (length out) s) refl) (λ z. omega (arith, z))
 
@@ -86,13 +89,13 @@ module _ (b vs out : List ℕ) where
       unfolding list_refusal first_no
       asked = check-passes b _ e ∙ rw (le-leb list_room (length out) r) refl
 
-      pub list-no : {n : ℕ} → first_no (quote_questions b vs) ≡ n → (n ≡ 0 → ⊥) → Lists (Listed.Refused n) out
+      pub list-no : {n : ℕ} → first_no (quote_questions b vs) ≡ n → (n ≡ 0 → ⊥) → Lists (Refused n) out
       list-no f z = by-refusal (asked ∙ f) z
 
       pub list-found : (h : AreBytes b) (q : values_refusal b vs ≡ 0) (u : Values) (a : Agree u (values_of vs)) (y : IsTable b → T (every_most (alike u (values_of vs)) (decode b))) → (evaluate_node u most_depth b).fits ≡ true
           → {k : ℕ} {ns new : List ℕ} → let p = (evaluate_node u most_depth b).pairs in
-          k ≡ suc (width p) → ns ≡ numbers p → new ≡ over ns out → Lists (Listed.Pairs k) new
+          k ≡ suc (width p) → ns ≡ numbers p → new ≡ over ns out → Lists (Given k) new
       unfolding list_answer list_writes
       list-found h q u a y n l w i =
           let p : (evaluate_node u most_depth b).pairs ≡ list_pairs (values_of vs) (decode b) = (walk b vs e h q u a y).pairs (is_T _ (sym (walk b vs e h q u a y).fits ∙ n)) in
-          writes _ _ Listed.Refused _ out (asked ∙ quote-found b vs e h q u a y n) (ap Listed.Pairs (l ∙ ap (λ x. suc (width x)) p)) (i ∙ ap (λ x. over x out) (w ∙ ap numbers p))
+          writes _ _ Refused _ out (asked ∙ quote-found b vs e h q u a y n) (ap Given (l ∙ ap (λ x. suc (width x)) p)) (i ∙ ap (λ x. over x out) (w ∙ ap numbers p))

@@ -3,6 +3,7 @@ use Rattle.std.specs.Prelude.{◌≡◌, List, [], ◌∷◌, ℕ, zero, suc, �
 use Rattle.std.proofs.Math.Path.{refl, ap}
 use Rattle.std.proofs.Common.{sym, ◌∙◌, arith}
 use Rattle.booleans.specs.Laws.{T-is}
+use Rattle.refusals.specs.Refusals.{Given, Refused, refused}
 use Rattle.table.specs.Table.{decode, record_count}
 use Rattle.table.specs.Asking.{◌asks◌, by_refusal, first_no}
 use Rattle.table.specs.Checking.{refusal}
@@ -10,10 +11,8 @@ use Rattle.table.proofs.Laws.Asking.{Yes, all_yes, answered, number_is, numbered
 use Rattle.table.proofs.Laws.Refusal.{check-passed, check-passes}
 use Rattle.evaluate.specs.Evaluate.{values_of, figure, branch, fits}
 use Rattle.evaluate.proofs.Laws.Monotone.{figure-mono}
-use Rattle.quoting.specs.declared.Checked.{Checked}
-use Rattle.quoting.specs.declared.Quote.{Quote}
 use Rattle.values.specs.Values.{NoneLower, value_questions, values_refusal}
-use Rattle.quoting.specs.Answers.{check_answer, figure_answer, figure_refusal, quote_of, quote_questions, quoted_branch, quoted_figure, quoted_refusal}
+use Rattle.quoting.specs.Answers.{check_answer, figure_answer, figure_refusal, quote_of, quote_questions, quoted_branch, quoted_figure}
 
 module _ (b vs : List ℕ) where
   -- a question about the values says no
@@ -27,11 +26,11 @@ module _ (b vs : List ℕ) where
   quote-fits = passes (value_questions b vs) _ tt
 
   -- the figure call on an accepted table
-  pub figure-asked : refusal b ≡ 0 → figure_answer b vs ≡ by_refusal (first_no (quote_questions b vs)) (quote_of b vs) Quote.Refused
+  pub figure-asked : refusal b ≡ 0 → figure_answer b vs ≡ by_refusal (first_no (quote_questions b vs)) (Given (quote_of b vs)) Refused
   unfolding figure_answer figure_refusal
-  figure-asked e = ap (λ x. by_refusal x (quote_of b vs) Quote.Refused) (check-passes b _ e)
+  figure-asked e = ap (λ x. by_refusal x (Given (quote_of b vs)) Refused) (check-passes b _ e)
 
-  pub figure-is : refusal b ≡ 0 → values_refusal b vs ≡ 0 → T (fits (values_of vs) (decode b)) → figure_answer b vs ≡ quote_of b vs
+  pub figure-is : refusal b ≡ 0 → values_refusal b vs ≡ 0 → T (fits (values_of vs) (decode b)) → figure_answer b vs ≡ Given (quote_of b vs)
   unfolding by_refusal first_no
   figure-is e q f = figure-asked e ∙ rw (quote-fits q, T-is (fits (values_of vs) (decode b)) f) refl
 
@@ -42,11 +41,11 @@ module _ (b vs : List ℕ) where
     pub is : quoted_figure (figure_answer b vs) ≡ figure (values_of vs) (decode b)
     pub branches : quoted_branch (figure_answer b vs) ≡ branch (values_of vs) (decode b)
 
-  asked : quoted_refusal (figure_answer b vs) ≡ figure_refusal b vs
-  unfolding figure_answer quoted_refusal
-  asked = number_is quoted_refusal (figure_refusal b vs) _ Quote.Refused refl (λ q. refl)
+  asked : refused (figure_answer b vs) ≡ figure_refusal b vs
+  unfolding figure_answer
+  asked = number_is refused (figure_refusal b vs) _ Refused refl (λ q. refl)
 
-  pub figured : quoted_refusal (figure_answer b vs) ≡ 0 → Figured
+  pub figured : refused (figure_answer b vs) ≡ 0 → Figured
   unfolding figure_refusal quote_questions values_refusal value_questions quoted_figure quoted_branch numbered Yes
   figured p =
       let (e, m) = check-passed b (quote_questions b vs) (sym asked ∙ p) in
@@ -62,16 +61,27 @@ pub quotes-alike : (b c vs ws : List ℕ) → refusal b ≡ 0 → refusal c ≡ 
     → figure_answer b vs ≡ figure_answer c ws
 quotes-alike b c vs ws e f q w = figure-asked b vs e ∙ go (values_refusal b vs) refl ∙ sym (figure-asked c ws f)
   where
-    go : (n : ℕ) → values_refusal b vs ≡ n → by_refusal (first_no (quote_questions b vs)) (quote_of b vs) Quote.Refused ≡ by_refusal (first_no (quote_questions c ws)) (quote_of c ws) Quote.Refused
+    go : (n : ℕ) → values_refusal b vs ≡ n → by_refusal (first_no (quote_questions b vs)) (Given (quote_of b vs)) Refused ≡ by_refusal (first_no (quote_questions c ws)) (Given (quote_of c ws)) Refused
     go zero z = let (x, (y, u)) = w z in rw (quote-fits b vs z, quote-fits c ws (sym q ∙ z), x, y, u) refl
     go (suc n) z = unfold by_refusal in rw (quote-values b vs (sym z) (λ k. omega (arith, k)), quote-values c ws (sym z ∙ q) (λ k. omega (arith, k))) refl
 
 -- checking answers an accepted table's number of records
-pub checked-accepted : (b : List ℕ) → refusal b ≡ 0 → check_answer b ≡ Checked.Accepted (record_count b)
+pub checked-accepted : (b : List ℕ) → refusal b ≡ 0 → check_answer b ≡ Given (record_count b)
 unfolding check_answer
-checked-accepted b e = answered (refusal b) _ Checked.Refused e
+checked-accepted b e = answered (refusal b) _ Refused e
+
+-- the number of its refusal is the table's
+checked-number : (b : List ℕ) → refused (check_answer b) ≡ refusal b
+unfolding check_answer
+checked-number b = number_is refused (refusal b) _ Refused refl (λ q. refl)
+
+pub checked-no : (b : List ℕ) {q : ℕ} → Refused q ≡ check_answer b → q ≡ refusal b
+checked-no b e = ap refused e ∙ checked-number b
+
+pub checked-yes : (b : List ℕ) {n : ℕ} → Given n ≡ check_answer b → refusal b ≡ 0
+checked-yes b e = sym (ap refused e ∙ checked-number b)
 
 -- values none lower give no lower figure, where both get one
-pub figure-monotone : (b vs ws : List ℕ) → NoneLower vs ws → quoted_refusal (figure_answer b vs) ≡ 0 → quoted_refusal (figure_answer b ws) ≡ 0
+pub figure-monotone : (b vs ws : List ℕ) → NoneLower vs ws → refused (figure_answer b vs) ≡ 0 → refused (figure_answer b ws) ≡ 0
     → quoted_figure (figure_answer b vs) ≤ quoted_figure (figure_answer b ws)
 figure-monotone b vs ws l p q = omega (arith, (figured b vs p).is, (figured b ws q).is, figure-mono (values_of vs) (values_of ws) l (decode b))

@@ -2,6 +2,7 @@
 use Rattle.std.specs.Prelude.{◌≡◌, refl, List, ℕ, ◌*◌, suc, T, length, take}
 use Rattle.std.proofs.Common.{ap, sym, subst, ◌∙◌, arith}
 use Rattle.std.proofs.Math.Dec.{eqb_refl}
+use Rattle.refusals.specs.Refusals.{Answer, Refused, refused}
 use Rattle.table.specs.Limits.{every_most}
 use Rattle.table.specs.Trees.{Tree}
 use Rattle.table.specs.Bytes.{AreBytes}
@@ -18,10 +19,9 @@ use Rattle.evaluate.specs.ListPairs.{list_pairs}
 use Rattle.evaluate.proofs.Laws.ListPairs.{list-pairs}
 use Rattle.runs.proofs.Laws.Covered.{covered}
 use Rattle.runs.proofs.Laws.Reached.{reached}
-use Rattle.quoting.specs.declared.Listed.{Listed}
 use Rattle.quoting.specs.declared.Quote.{Quote}
 use Rattle.writing.specs.Over.{over}
-use Rattle.quoting.specs.Answers.{figure_answer, list_answer, list_refusal, list_writes, listed_pairs, listed_refusal, quoted_figure, quoted_refusal}
+use Rattle.quoting.specs.Answers.{figure_answer, list_answer, list_refusal, list_writes, quoted_figure}
 use Rattle.quoting.specs.Branches.{BranchPromises}
 use Rattle.quoting.specs.Promises.{ListPromises, NeverLowered, Promised, Promises, by_rule}
 use Rattle.values.specs.Values.{question14, triangle_small}
@@ -61,12 +61,12 @@ branch-promises b vs h = λ p.
     rw (f.is, f.branches) (branch-of (values_of vs) (decode b) (is-table b h f.accepted).accepted.listed)
 
 -- an answer that is the figure call's keeps them too, and values none lower never lower it
-pub kept : (b vs : List ℕ) → AreBytes b → (r : Quote) → r ≡ figure_answer b vs
-    → (r ≡ figure_answer b vs) × (Promises b vs r × (BranchPromises b vs r × (quoted_refusal r ≡ 0 → NeverLowered b vs (quoted_figure r))))
+pub kept : (b vs : List ℕ) → AreBytes b → (r : Answer Quote) → r ≡ figure_answer b vs
+    → (r ≡ figure_answer b vs) × (Promises b vs r × (BranchPromises b vs r × (refused r ≡ 0 → NeverLowered b vs (quoted_figure r))))
 unfolding NeverLowered
 kept b vs h r e = (
   e,
-  (subst (Promises b vs) (sym e) (figure-promises b vs h), (subst (BranchPromises b vs) (sym e) (branch-promises b vs h), λ p w l q. rw e (figure-monotone b vs w l (ap quoted_refusal (sym e) ∙ p) q))),
+  (subst (Promises b vs) (sym e) (figure-promises b vs h), (subst (BranchPromises b vs) (sym e) (branch-promises b vs h), λ p w l q. rw e (figure-monotone b vs w l (ap refused (sym e) ∙ p) q))),
 )
 
 -- ---- the list call
@@ -80,8 +80,8 @@ take-numbers : (p : Pairs) (out : List ℕ) → take (2 * suc (width p)) (over (
 take-numbers p out = front-over (numbers p) out (2 * suc (width p)) (long-numbers p)
 
 -- an answer that is the list call's, with its buffer, keeps them
-pub list-kept : (b vs out : List ℕ) {r : Listed} {x : List ℕ} → Lists b vs out r x → (r ≡ list_answer b vs out) × ((x ≡ over (list_writes b vs out) out) × ListPromises b vs r x)
-unfolding list_answer list_writes ListPromises listed_refusal listed_pairs
+pub list-kept : (b vs out : List ℕ) {r : Answer ℕ} {x : List ℕ} → Lists b vs out r x → (r ≡ list_answer b vs out) × ((x ≡ over (list_writes b vs out) out) × ListPromises b vs r x)
+unfolding list_answer list_writes ListPromises
 list-kept b vs out (e, w) = (e, (w, rw (e, w) kept_by))
   where
     p : Pairs
@@ -89,6 +89,6 @@ list-kept b vs out (e, w) = (e, (w, rw (e, w) kept_by))
 
     kept_by : ListPromises b vs (list_answer b vs out) (over (list_writes b vs out) out)
     kept_by =
-        by-refusals (λ r y. ListPromises b vs r (over y out)) (list_refusal b vs out) _ Listed.Refused _ _
+        by-refusals (λ r y. ListPromises b vs r (over y out)) (list_refusal b vs out) _ Refused _ _
         (λ n z. record { pairs = p; are = list-pairs (values_of vs) (decode b); many = refl; written = take-numbers p out })
         (λ n z. absurd (n z))

@@ -2,37 +2,39 @@
 use mathlib.Core.Path.{sym, ◌∙◌}
 use native.Mathlib.Omega.{arith}
 use borrow.Author.Rules.{rules}
+use Rattle.refusals.specs.Laws.{number-some, passed_on}
 use Rattle.table.specs.Bytes.{AreBytes}
 use Rattle.table.proofs.Laws.Refusal.{accepted-short}
 use Rattle.lists.specs.Laws.Numbers.{list-width, list-numbers}
+use Rattle.quoting.proofs.Laws.Answers.{told}
 use Rattle.quoting.proofs.Laws.Evaluated.{list-found, list-no, list-refused, list-short, quote-large}
-use Rattle.quoting.proofs.Laws.Figures.{quote-values}
+use Rattle.quoting.proofs.Laws.Figures.{checked-no, checked-yes, quote-values}
 use Rattle.quoting.proofs.Laws.Promises.{list-kept}
 use Rattle.values.proofs.Laws.Values.{values-long}
 use Rattle.quoting.proofs.list.Goals as goal
 
-pub returns-then-number-ne0 : goal.returns-then-number-ne0
-returns-then-number-ne0 c =
-    let k = list-kept c.args.table.now c.args.values.now c.args.out.now (list-refused _ _ _ c.refusal_of-number.ensures c.if-number-ne0.true) in
+pub returns-in_err-check : goal.returns-in_err-check
+returns-in_err-check c =
+    let k = list-kept c.args.table.now c.args.values.now c.args.out.now (told (passed_on _ _ c.from_residual.ensures.1) (list-refused _ _ _ (checked-no _ c.in_err-check.ensures) (number-some _))) in
     record { answer = k.0; written = k.1.0; promise = k.1.1 }
 
 pub returns-then-out-lt-LIST_ROOM : goal.returns-then-out-lt-LIST_ROOM
 returns-then-out-lt-LIST_ROOM c =
-    let k = list-kept c.args.table.now c.args.values.now c.args.out.now (list-short _ _ _ (sym c.refusal_of-number.ensures ∙ c.if-number-ne0.false) c.if-out-lt-LIST_ROOM.true) in
+    let k = list-kept c.args.table.now c.args.values.now c.args.out.now (list-short _ _ _ (checked-yes _ c.in_ok-check.ensures) c.if-out-lt-LIST_ROOM.true) in
     record { answer = k.0; written = k.1.0; promise = k.1.1 }
 
-pub returns-then-question-ne0 : goal.returns-then-question-ne0
-returns-then-question-ne0 c =
+pub returns-in_err-accept : goal.returns-in_err-accept
+returns-in_err-accept c =
     let k = list-kept c.args.table.now c.args.values.now c.args.out.now
-    (list-no _ _ _ (sym c.refusal_of-number.ensures ∙ c.if-number-ne0.false) c.if-out-lt-LIST_ROOM.false (quote-values _ _ c.values_refusal-question.ensures c.if-question-ne0.true) c.if-question-ne0.true) in
+    (told (passed_on _ _ c.from_residual-in_err-accept.ensures.1) (list-no _ _ _ (checked-yes _ c.in_ok-check.ensures) c.if-out-lt-LIST_ROOM.false (quote-values _ _ c.in_err-accept.ensures (number-some _)) (number-some _))) in
     record { answer = k.0; written = k.1.0; promise = k.1.1 }
 
 pub walk-found-requires : goal.walk-found-requires
 walk-found-requires c =
     let bytes : AreBytes c.args.table.now = λ i. omega (arith, c.type_inv.table i) in
     record {
-      fact_1 = accepted-short _ bytes (sym c.refusal_of-number.ensures ∙ c.if-number-ne0.false);
-      fact_2 = values-long _ _ (sym c.values_refusal-question.ensures ∙ c.if-question-ne0.false);
+      fact_1 = accepted-short _ bytes (checked-yes _ c.in_ok-check.ensures);
+      fact_2 = values-long _ _ (sym c.in_ok-accept.ensures);
       fact_3 = c.flag_free-free.ensures;
       fact_4 = search rules;
     }
@@ -51,7 +53,7 @@ returns-then-found c =
     let is = walk.shows.list c.if-found.true in
     let bytes : AreBytes c.args.table.now = λ i. omega (arith, c.type_inv.table i) in
     let k = list-kept c.args.table.now c.args.values.now c.args.out.now
-    (list-found _ _ _ (sym c.refusal_of-number.ensures ∙ c.if-number-ne0.false) c.if-out-lt-LIST_ROOM.false bytes (sym c.values_refusal-question.ensures ∙ c.if-question-ne0.false) _ walk.agree walk.same (sym walk.shows.fits ∙ c.if-found.true)
+    (list-found _ _ _ (checked-yes _ c.in_ok-check.ensures) c.if-out-lt-LIST_ROOM.false bytes (sym c.in_ok-accept.ensures) _ walk.agree walk.same (sym walk.shows.fits ∙ c.if-found.true)
     (list-width _ _ is) (list-numbers _ _ walk.shows.room is) c.write_front.ensures) in
     record { answer = k.0; written = k.1.0; promise = k.1.1 }
 
@@ -59,7 +61,7 @@ pub returns-else-found : goal.returns-else-found
 returns-else-found c =
     let walk = c.walk-found.ensures in
     let bytes : AreBytes c.args.table.now = λ i. omega (arith, c.type_inv.table i) in
-    let no = sym c.refusal_of-number.ensures ∙ c.if-number-ne0.false in
-    let large = quote-large _ _ no bytes (sym c.values_refusal-question.ensures ∙ c.if-question-ne0.false) _ walk.agree walk.same (sym walk.shows.fits ∙ c.if-found.false) in
+    let no = checked-yes _ c.in_ok-check.ensures in
+    let large = quote-large _ _ no bytes (sym c.in_ok-accept.ensures) _ walk.agree walk.same (sym walk.shows.fits ∙ c.if-found.false) in
     let k = list-kept c.args.table.now c.args.values.now c.args.out.now (list-no _ _ _ no c.if-out-lt-LIST_ROOM.false large (λ z. omega (arith, z))) in
     record { answer = k.0; written = k.1.0; promise = k.1.1 }

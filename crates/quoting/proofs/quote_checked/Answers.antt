@@ -1,18 +1,20 @@
 -- Each return has the answers to the questions before it; the last two have what the walk found.
 use mathlib.Core.Path.{sym, ap₂, ◌∙◌}
 use native.Mathlib.Omega.{arith}
+use Rattle.refusals.specs.Laws.{number-some, passed_on}
+use Rattle.refusals.specs.Refusals.{Given}
 use Rattle.table.specs.Bytes.{AreBytes}
 use Rattle.table.proofs.Laws.Refusal.{accepted-short}
 use Rattle.lists.specs.Laws.Numbers.{list-top}
-use Rattle.quoting.specs.declared.Quote.{Quote}
-use Rattle.quoting.proofs.Laws.Evaluated.{figure-found, figure-no, quote-large}
+use Rattle.quoting.proofs.Laws.Evaluated.{figure-found, figure-no, quote-large, quote_found}
 use Rattle.quoting.proofs.Laws.Figures.{quote-values}
 use Rattle.values.proofs.Laws.Values.{values-long}
 use Rattle.quoting.proofs.quote_checked.Goals as goal
 
-pub returns-then-question-ne0 : goal.returns-then-question-ne0
-returns-then-question-ne0 c =
-    figure-no _ _ c.requires (quote-values _ _ c.values_refusal-question.ensures c.if-question-ne0.true) c.if-question-ne0.true
+pub returns-in_err-accept : goal.returns-in_err-accept
+returns-in_err-accept c =
+    passed_on _ _ c.from_residual.ensures.1
+    ∙ figure-no _ _ c.requires (quote-values _ _ c.in_err-accept.ensures (number-some _)) (number-some _)
 
 pub walk-found-requires-clause-fact_1 : goal.walk-found-requires-clause-fact_1
 walk-found-requires-clause-fact_1 c =
@@ -20,7 +22,7 @@ walk-found-requires-clause-fact_1 c =
     accepted-short _ bytes c.requires
 
 pub walk-found-requires-clause-fact_2 : goal.walk-found-requires-clause-fact_2
-walk-found-requires-clause-fact_2 c = values-long _ _ (sym c.values_refusal-question.ensures ∙ c.if-question-ne0.false)
+walk-found-requires-clause-fact_2 c = values-long _ _ (sym c.in_ok-accept.ensures)
 
 pub walk-found-requires-clause-fact_3 : goal.walk-found-requires-clause-fact_3
 walk-found-requires-clause-fact_3 c = c.flag_free-free.ensures
@@ -29,8 +31,8 @@ pub returns-then-found : goal.returns-then-found
 returns-then-found c =
     let bytes : AreBytes c.args.table.now = λ i. omega (arith, c.type_inv.table i) in
     let walk = c.walk-found.ensures in
-    ap₂ Quote.Figure (list-top _ _ (walk.shows.list c.if-found.true)) walk.shows.branch
-    ∙ figure-found _ _ c.requires bytes (sym c.values_refusal-question.ensures ∙ c.if-question-ne0.false) _ walk.agree walk.same (sym walk.shows.fits ∙ c.if-found.true)
+    ap₂ (λ x k. Given (quote_found x k)) (list-top _ _ (walk.shows.list c.if-found.true)) walk.shows.branch
+    ∙ figure-found _ _ c.requires bytes (sym c.in_ok-accept.ensures) _ walk.agree walk.same (sym walk.shows.fits ∙ c.if-found.true)
 
 pub returns-else-found : goal.returns-else-found
 returns-else-found c =
@@ -38,5 +40,5 @@ returns-else-found c =
     let walk = c.walk-found.ensures in
     let no = c.requires in
     figure-no _ _ no
-    (quote-large _ _ no bytes (sym c.values_refusal-question.ensures ∙ c.if-question-ne0.false) _ walk.agree walk.same (sym walk.shows.fits ∙ c.if-found.false))
+    (quote-large _ _ no bytes (sym c.in_ok-accept.ensures) _ walk.agree walk.same (sym walk.shows.fits ∙ c.if-found.false))
     (λ z. omega (arith, z))

@@ -4,6 +4,7 @@ use Rattle.std.proofs.Math.Path.{refl, ap, ap₂, sym}
 use Rattle.std.proofs.Common.{◌∙◌, arith, le-ltb, lt-ltb}
 use Rattle.booleans.specs.Tests.{◌and◌}
 use Rattle.booleans.specs.Laws.{T-is, and_is}
+use Rattle.refusals.specs.Refusals.{Answer, Given, Refused, refused}
 use Rattle.table.specs.Asking.{◌asks◌, by_refusal, first_no}
 use Rattle.table.specs.Bytes.{AreBytes}
 use Rattle.table.specs.Checking.{questions, refusal}
@@ -11,7 +12,7 @@ use Rattle.table.specs.Numbers.{most_records, most_time, record_length}
 use Rattle.table.specs.Table.{record_count}
 use Rattle.marking.specs.Marks.{node_at}
 use Rattle.table.proofs.Laws.Accepted.{is-table}
-use Rattle.table.proofs.Laws.Asking.{Yes, all_yes, answered, by-refusals, in-turn, numbered, passed, passes, refused, stops}
+use Rattle.table.proofs.Laws.Asking.{Yes, all_yes, answered, by-refusals, in-turn, numbered, passed, passes, refused as refused-is, stops}
 use Rattle.table.proofs.Laws.Tables.{accepted-table}
 use Rattle.table.proofs.Laws.Refusal.{accepted-short, check-passed, check-passes, check-stops}
 use Rattle.writing.specs.Fields.{value_at, with_value}
@@ -19,12 +20,10 @@ use Rattle.writing.specs.Laws.Fields.{field-others}
 use Rattle.values.specs.Values.{value_questions}
 use Rattle.quoting.specs.Answers.{check_answer, figure_answer, quote_questions}
 use Rattle.quoting.proofs.Laws.Figures.{checked-accepted, figure-asked}
-use Rattle.quoting.specs.declared.Checked.{Checked}
-use Rattle.quoting.specs.declared.Quote.{Quote}
 use Rattle.retime.specs.Nodes.{Node}
-use Rattle.retime.specs.declared.Committed.{Committed}
+use Rattle.quoting.specs.declared.Quote.{Quote}
 use Rattle.retime.specs.declared.Previewed.{Previewed}
-use Rattle.retime.specs.Answers.{commit_answer, commit_leaves, commit_refusal, committed_refusal, is_time, preview_answer, preview_of, preview_refusal, previewed_after, previewed_before, previewed_branch_after, previewed_branch_before, previewed_refusal, question17, retime_questions}
+use Rattle.retime.specs.Answers.{commit_answer, commit_leaves, commit_refusal, is_time, preview_answer, preview_of, preview_refusal, previewed_after, previewed_before, previewed_branch_after, previewed_branch_before, question17, retime_questions}
 use Rattle.retime.specs.Promises.{CommitPromised, CommitPromises, PreviewPromises}
 use Rattle.retime.specs.Previews.{figures}
 use Rattle.retime.proofs.Laws.Retimed.{Retimable, asked-17, record-inside, retimable-back, retimed-back, retimed-length, retimed-table, retimed-there, same-time, says-17}
@@ -71,7 +70,7 @@ module _ (b : List ℕ) (i x y : ℕ) where
   unfolding commit_leaves
   leaves z = answered _ _ _ z
 
-  pub answers : commit_refusal b i x y ≡ 0 → commit_answer b i x y ≡ Committed.Written (length b)
+  pub answers : commit_refusal b i x y ≡ 0 → commit_answer b i x y ≡ Given (length b)
   unfolding commit_answer
   answers z = answered _ _ _ z
 
@@ -96,8 +95,8 @@ module _ (b : List ℕ) (i x y : ℕ) (B : AreBytes b) (z : commit_refusal b i x
   back-free : commit_refusal left i y x ≡ 0
   back-free = let (e, r) = retimable b i x y z in free left i y x left-accepted (retimable-back b i x y (is-table b B e) r)
 
-  checked-left : check_answer left ≡ Checked.Accepted (record_count b)
-  checked-left = checked-accepted left left-accepted ∙ ap (λ n. Checked.Accepted (n / record_length)) long
+  checked-left : check_answer left ≡ Given (record_count b)
+  checked-left = checked-accepted left left-accepted ∙ ap (λ n. Given (n / record_length)) long
 
   promised : CommitPromised b i x y left
   promised = let (e, r) = retimable b i x y z in record {
@@ -105,15 +104,15 @@ module _ (b : List ℕ) (i x y : ℕ) (B : AreBytes b) (z : commit_refusal b i x
     long = long;
     there = retimed-there b i x y (is-table b B e) r;
     others = field-others b (value_at i) 8 y (omega (arith, room b i x y z));
-    back = answers left i y x back-free ∙ ap Committed.Written long;
+    back = answers left i y x back-free ∙ ap Given long;
     restored = leaves left i y x back-free ∙ retimed-back b i x y (is-table b B e) r;
   }
 
 module _ (b : List ℕ) (i x y : ℕ) (B : AreBytes b) where
-  commit-kept : CommitPromises b i x y (commit_leaves b i x y) (committed_refusal (commit_answer b i x y))
-  unfolding commit_answer commit_leaves committed_refusal
+  commit-kept : CommitPromises b i x y (commit_leaves b i x y) (refused (commit_answer b i x y))
+  unfolding commit_answer commit_leaves
   commit-kept =
-      by-refusals (λ r l. CommitPromises b i x y l (committed_refusal r)) (commit_refusal b i x y) _ Committed.Refused _ _
+      by-refusals (λ (r : Answer ℕ) l. CommitPromises b i x y l (refused r)) (commit_refusal b i x y) _ Refused _ _
       (λ z. record {
         written = λ w. promised b i x y B z;
         refused = λ w. absurd (w refl);
@@ -122,27 +121,27 @@ module _ (b : List ℕ) (i x y : ℕ) (B : AreBytes b) where
       (λ z. record { written = λ w. absurd (z w); refused = λ w. refl; stale = λ n e w. refl })
 
   -- an answer that is commit's, with the table that it leaves, keeps them
-  abbrev pub Commits : Committed → List ℕ → Type 0
-  Commits r l = (r ≡ commit_answer b i x y) × ((l ≡ commit_leaves b i x y) × CommitPromises b i x y l (committed_refusal r))
+  abbrev pub Commits : Answer ℕ → List ℕ → Type 0
+  Commits r l = (r ≡ commit_answer b i x y) × ((l ≡ commit_leaves b i x y) × CommitPromises b i x y l (refused r))
 
-  commits : {r : Committed} {l : List ℕ} → r ≡ commit_answer b i x y → l ≡ commit_leaves b i x y → Commits r l
+  commits : {r : Answer ℕ} {l : List ℕ} → r ≡ commit_answer b i x y → l ≡ commit_leaves b i x y → Commits r l
   commits e f = (e, (f, rw (e, f) commit-kept))
 
-  pub commit-no : {n : ℕ} → n ≡ commit_refusal b i x y → (n ≡ 0 → ⊥) → Commits (Committed.Refused n) b
+  pub commit-no : {n : ℕ} {r : Answer ℕ} → r ≡ Refused n → n ≡ commit_refusal b i x y → (n ≡ 0 → ⊥) → Commits r b
   unfolding commit_answer commit_leaves
-  commit-no e z = commits (sym (refused _ _ Committed.Refused (sym e) z)) (sym (refused _ _ _ (sym e) z))
+  commit-no f e z = commits (f ∙ sym (refused-is _ _ Refused (sym e) z)) (sym (refused-is _ _ _ (sym e) z))
 
-  pub commit-yes : {n : ℕ} {l : List ℕ} → commit_refusal b i x y ≡ 0 → l ≡ with_value b i y → n ≡ length l → Commits (Committed.Written n) l
-  commit-yes z f g = commits (ap Committed.Written (g ∙ ap length f ∙ long b i x y B z) ∙ sym (answers b i x y z)) (f ∙ sym (leaves b i x y z))
+  pub commit-yes : {n : ℕ} {l : List ℕ} → commit_refusal b i x y ≡ 0 → l ≡ with_value b i y → n ≡ length l → Commits (Given n) l
+  commit-yes z f g = commits (ap Given (g ∙ ap length f ∙ long b i x y B z) ∙ sym (answers b i x y z)) (f ∙ sym (leaves b i x y z))
 
 -- ---- preview
 
-both-figures : (n m x c y d : ℕ)
-    → figures (by_refusal n (Quote.Figure x c) Quote.Refused) (by_refusal m (Quote.Figure y d) Quote.Refused) ≡ by_refusal (by_refusal n m (λ k. k)) (Previewed.Figures x c y d) Previewed.Refused
+both-figures : (n m : ℕ) (x y : Quote)
+    → figures (by_refusal n (Given x) Refused) (by_refusal m (Given y) Refused) ≡ by_refusal (by_refusal n m (λ k. k)) (Given record { before = x; after = y }) Refused
 unfolding by_refusal figures
-both-figures zero zero x c y d = refl
-both-figures zero (suc m) x c y d = refl
-both-figures (suc n) m x c y d = refl
+both-figures zero zero x y = refl
+both-figures zero (suc m) x y = refl
+both-figures (suc n) m x y = refl
 
 module _ (b : List ℕ) (i x y : ℕ) (vs : List ℕ) where
   abbrev next : List ℕ
@@ -156,36 +155,36 @@ module _ (b : List ℕ) (i x y : ℕ) (vs : List ℕ) where
   unfolding preview_answer
   preview-is B z =
       ap₂ figures (figure-asked b vs (retimable b i x y z).0) (figure-asked next vs (left-accepted b i x y B z))
-      ∙ both-figures _ _ _ _ _ _
-      ∙ ap (λ n. by_refusal n (preview_of b next vs) Previewed.Refused) (sym (asked-both z))
+      ∙ both-figures _ _ _ _
+      ∙ ap (λ n. by_refusal n (Given (preview_of b next vs)) Refused) (sym (asked-both z))
 
-  preview-promised : AreBytes b → preview_refusal b i x y vs ≡ 0 → PreviewPromises b i x y vs (preview_of b next vs)
+  preview-promised : AreBytes b → preview_refusal b i x y vs ≡ 0 → PreviewPromises b i x y vs (Given (preview_of b next vs))
   unfolding PreviewPromises previewed_before previewed_branch_before previewed_after previewed_branch_after commit_refusal preview_refusal retime_questions questions quote_questions value_questions numbered
   preview-promised B n w =
       let (z, m) = passed (retime_questions b i x y) _ tt n in
       let (o, p) = passed (quote_questions b vs) (quote_questions next vs) tt m in record {
-        first = figure-asked b vs (retimable b i x y z).0 ∙ answered _ _ Quote.Refused o;
-        second = ap (λ c. figure_answer c vs) (leaves b i x y z) ∙ figure-asked next vs (left-accepted b i x y B z) ∙ answered _ _ Quote.Refused p;
+        first = figure-asked b vs (retimable b i x y z).0 ∙ answered _ _ Refused o;
+        second = ap (λ c. figure_answer c vs) (leaves b i x y z) ∙ figure-asked next vs (left-accepted b i x y B z) ∙ answered _ _ Refused p;
         commits = answers b i x y z;
       }
 
   preview-kept : AreBytes b → PreviewPromises b i x y vs (preview_answer b i x y vs)
   unfolding preview_answer
   preview-kept B =
-      by-refusals (λ r (k : ℕ). PreviewPromises b i x y vs r) (preview_refusal b i x y vs) _ Previewed.Refused 0 (λ q. 0)
+      by-refusals (λ r (k : ℕ). PreviewPromises b i x y vs r) (preview_refusal b i x y vs) _ Refused 0 (λ q. 0)
       (preview-promised B)
-      (λ z. unfold PreviewPromises previewed_refusal in λ w. absurd (z w))
+      (λ z. unfold PreviewPromises in λ w. absurd (z w))
 
   -- an answer that is preview's keeps them
-  abbrev pub Previews : Previewed → Type 0
+  abbrev pub Previews : Answer Previewed → Type 0
   Previews r = (r ≡ preview_answer b i x y vs) × PreviewPromises b i x y vs r
 
-  previews : {r : Previewed} → AreBytes b → r ≡ preview_answer b i x y vs → Previews r
+  previews : {r : Answer Previewed} → AreBytes b → r ≡ preview_answer b i x y vs → Previews r
   previews B e = (e, rw e (preview-kept B))
 
-  pub preview-no : {n : ℕ} → AreBytes b → n ≡ commit_refusal b i x y → (n ≡ 0 → ⊥) → Previews (Previewed.Refused n)
+  pub preview-no : {n : ℕ} {r : Answer Previewed} → AreBytes b → r ≡ Refused n → n ≡ commit_refusal b i x y → (n ≡ 0 → ⊥) → Previews r
   unfolding commit_refusal preview_refusal preview_answer
-  preview-no B e z = previews B (sym (refused _ _ Previewed.Refused (stops (retime_questions b i x y) _ e z) z))
+  preview-no B f e z = previews B (f ∙ sym (refused-is _ _ Refused (stops (retime_questions b i x y) _ e z) z))
 
-  pub preview-yes : {r : Previewed} → AreBytes b → commit_refusal b i x y ≡ 0 → r ≡ figures (figure_answer b vs) (figure_answer next vs) → Previews r
+  pub preview-yes : {r : Answer Previewed} → AreBytes b → commit_refusal b i x y ≡ 0 → r ≡ figures (figure_answer b vs) (figure_answer next vs) → Previews r
   preview-yes B z e = previews B (e ∙ preview-is B z)

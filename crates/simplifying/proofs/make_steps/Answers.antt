@@ -28,4 +28,4 @@ write_front-requires-2 c =
 pub returns : goal.returns
 returns c =
     made-is _ _ _ _ _ _ _ _ _ _ (copy_is _ _ _ c.write_front.ensures) c.steps_in-run.ensures.fact_1
-    (omega (arith, c.steps_in-run.ensures.fact_2, not-long _ c.requires.fact_1.table, c.steps_in-run.auto, c.write_front.auto)) c.ending_of.ensures c.write_front-2.ensures
+    (omega (arith, c.steps_in-run.ensures.fact_2, not-long _ c.requires.fact_1.table, c.steps_in-run.auto, c.write_front.auto)) c.from.ensures c.write_front-2.ensures

@@ -5,6 +5,7 @@ use Rattle.std.proofs.Common.{ap, ◌∙◌, arith, length-take-le, le-leb}
 use Rattle.std.proofs.Math.Seq.{take-length}
 use Rattle.std.proofs.lemmas.Bool.{lt-leb}
 use Rattle.booleans.specs.Laws.{is_T}
+use Rattle.refusals.specs.Refusals.{Answer, Given, Refused}
 use Rattle.table.specs.Asking.{◌asks◌, first_no}
 use Rattle.table.specs.Bytes.{AreBytes}
 use Rattle.table.specs.Checking.{refusal}
@@ -32,32 +33,35 @@ use Rattle.simplifying.specs.declared.Simplified.{Simplified}
 pub copy_is : (b work copy : List ℕ) → copy ≡ over (take (length b) b) work → take (length b) copy ≡ b
 copy_is b work copy e = ap (take (length b)) (e ∙ ap (λ x. over x work) (take-length b)) ∙ take-over b work
 
+abbrev pub made_of : (long count : ℕ) → Ending → Simplified
+made_of long count end = record { length = long; steps = count; ending = end }
+
 pub made-is : (b copy work out new : List ℕ) (n long count : ℕ) (finished : Bool) (end : Ending) → copy ≡ b → Ends copy n (take long work) count finished → long ≤ length work
-    → end ≡ ending_of finished → new ≡ over (take long work) out → (Simplified.Written long count end ≡ made_answer b n) × (new ≡ over (encode (made b n).tree) out)
+    → end ≡ ending_of finished → new ≡ over (take long work) out → (made_of long count end ≡ made_answer b n) × (new ≡ over (encode (made b n).tree) out)
 unfolding made made_answer
 made-is b copy work out new n long count finished end c e l f w =
     let d : Ends b n (take long work) count finished = rw c at e in
     let size : long ≡ length (encode (steps n (decode b)).tree) = sym (ap length d.bytes ∙ length-take-le long work l) in
     let told : end ≡ ending_of (steps n (decode b)).finished = f ∙ ap ending_of (sym d.ending) in
-    ((λ i. Simplified.Written (size i) (sym d.taken i) (told i)), w ∙ ap (λ x. over x out) (sym d.bytes))
+    ((λ i. made_of (size i) (sym d.taken i) (told i)), w ∙ ap (λ x. over x out) (sym d.bytes))
 
 -- ---- the questions
 
 module _ (b : List ℕ) (n : ℕ) (out : List ℕ) where
   -- what the call answers, and what its buffer then holds
-  abbrev pub Simplifies : Simplified → (new : List ℕ) → Type 0
+  abbrev pub Simplifies : Answer Simplified → (new : List ℕ) → Type 0
   Simplifies r new = (r ≡ simplify_answer b n out) × (new ≡ over (simplify_writes b n out) out)
 
-  by-refusal : {q : ℕ} → simplify_refusal b out ≡ q → (q ≡ 0 → ⊥) → Simplifies (Simplified.Refused q) out
+  by-refusal : {q : ℕ} → simplify_refusal b out ≡ q → (q ≡ 0 → ⊥) → Simplifies (Refused q) out
   unfolding simplify_answer simplify_writes
-  by-refusal = refuses _ _ Simplified.Refused _ out
+  by-refusal = refuses _ _ Refused _ out
 
-  pub simplify-refused : {q : ℕ} → q ≡ refusal b → (q ≡ 0 → ⊥) → Simplifies (Simplified.Refused q) out
+  pub simplify-refused : {q : ℕ} → q ≡ refusal b → (q ≡ 0 → ⊥) → Simplifies (Refused q) out
   unfolding simplify_refusal
   simplify-refused e z = by-refusal (check-stops b _ e z) z
 
   module _ (e : refusal b ≡ 0) where
-    pub simplify-short : length out < length b → Simplifies (Simplified.Refused 8) out
+    pub simplify-short : length out < length b → Simplifies (Refused 8) out
     unfolding simplify_refusal first_no
     simplify-short s = by-refusal (check-passes b _ e ∙ rw (lt-leb (length b) (length out) s) refl) (λ z. omega (arith, z))
 
@@ -69,13 +73,13 @@ module _ (b : List ℕ) (n : ℕ) (out : List ℕ) where
       unfolding simplify_refusal first_no
       walked z = check-passes b _ e ∙ rw (le-leb (length b) (length out) r, sym walk.fits ∙ z) refl
 
-      pub simplify-large : (evaluate_node zeros most_depth b).fits ≡ false → Simplifies (Simplified.Refused 10) out
+      pub simplify-large : (evaluate_node zeros most_depth b).fits ≡ false → Simplifies (Refused 10) out
       unfolding first_no
       simplify-large z = by-refusal (walked z) (λ q. omega (arith, q))
 
       pub simplify-able : (evaluate_node zeros most_depth b).fits ≡ true → Simplifiable b
       simplify-able z = let t = is-table b h e in record { table = t; fits = is_T _ (sym walk.fits ∙ z) }
 
-      pub simplify-made : (evaluate_node zeros most_depth b).fits ≡ true → {x : Simplified} {new : List ℕ} → (x ≡ made_answer b n) × (new ≡ over (encode (made b n).tree) out) → Simplifies x new
+      pub simplify-made : (evaluate_node zeros most_depth b).fits ≡ true → {x : Simplified} {new : List ℕ} → (x ≡ made_answer b n) × (new ≡ over (encode (made b n).tree) out) → Simplifies (Given x) new
       unfolding simplify_answer simplify_writes first_no
-      simplify-made z (a, w) = writes _ _ Simplified.Refused _ out (walked z) a w
+      simplify-made z (a, w) = writes _ _ Refused _ out (walked z) (ap Given a) w

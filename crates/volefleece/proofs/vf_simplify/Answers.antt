@@ -1,21 +1,26 @@
-use mathlib.Core.Path.{refl, sym, ◌∙◌}
-use Rattle.simplifying.specs.Answers.{simplified_finished, simplified_length, simplified_refusal, simplified_steps}
+use mathlib.Core.Path.{ap, ◌∙◌}
+use Rattle.refusals.specs.Refusals.{refused}
+use Rattle.simplifying.specs.Answers.{simplified_finished, simplified_length, simplified_steps}
 use Rattle.volefleece.proofs.vf_simplify.Goals as goal
 
-pub returns-in-Written : goal.returns-in-Written
-unfolding simplified_refusal simplified_length simplified_steps simplified_finished
-returns-in-Written c =
-    let h = c.simplify-answer.ensures in
+pub returns-in-Ok-clause-answer : goal.returns-in-Ok-clause-answer
+unfolding simplified_finished simplified_length simplified_steps
+returns-in-Ok-clause-answer c =
+    let h = c.in-Ok.ensures in
     record {
-      answer = rw (sym h.answer ∙ c.in-Written.is) (record { refused = refl; length = refl; steps = refl; finished = c.number_of.ensures });
-      written = h.written;
+      refused = ap refused h.answer;
+      length = ap simplified_length h.answer;
+      steps = ap simplified_steps h.answer;
+      finished = c.from.ensures ∙ ap simplified_finished h.answer;
     }
 
-pub returns-in-Refused : goal.returns-in-Refused
-unfolding simplified_refusal simplified_length simplified_steps simplified_finished
-returns-in-Refused c =
-    let h = c.simplify-answer.ensures in
+pub returns-in-Err-clause-answer : goal.returns-in-Err-clause-answer
+unfolding simplified_finished simplified_length simplified_steps
+returns-in-Err-clause-answer c =
+    let h = c.in-Err.ensures in
     record {
-      answer = rw (sym h.answer ∙ c.in-Refused.is) (record { refused = refl; length = refl; steps = refl; finished = refl });
-      written = h.written;
+      refused = c.from-in-Err.ensures ∙ ap refused h.answer;
+      length = ap simplified_length h.answer;
+      steps = ap simplified_steps h.answer;
+      finished = ap simplified_finished h.answer;
     }

@@ -1,6 +1,7 @@
 -- Demand 3 holds of the numbers that C gets.
 use Rattle.std.specs.Prelude.{List, ◌≡◌, refl, ℕ, ◌-◌, ◌≤◌, drop, length, take}
 use Rattle.std.proofs.Common.{subst, arith}
+use Rattle.refusals.specs.Refusals.{Answer}
 use Rattle.table.specs.Bytes.{AreBytes}
 use Rattle.table.proofs.Laws.Reading.{part-to}
 use Rattle.quoting.specs.Answers.{check_answer, figure_answer}
@@ -16,10 +17,10 @@ use Rattle.volefleece.specs.declared.VfSimplified.{VfSimplified}
 use Rattle.volefleece.specs.Numbers.{CheckedAs, FigurePromised, QuotedAs, SimplifiedAs}
 use Rattle.volefleece.specs.BothDesks.{AskedInC, quoted_by, simplified_by}
 
-simplified-numbers : (r : VfSimplified) (answer : Simplified) → SimplifiedAs r answer → simplified_by r ≡ simplified_numbers answer
+simplified-numbers : (r : VfSimplified) (answer : Answer Simplified) → SimplifiedAs r answer → simplified_by r ≡ simplified_numbers answer
 simplified-numbers r answer s = rw (s.refused, s.length, s.steps, s.finished) refl
 
-quoted-numbers : (r : VfFigureAnswer) (answer : Quote) → QuotedAs r answer → quoted_by r ≡ quoted_numbers answer
+quoted-numbers : (r : VfFigureAnswer) (answer : Answer Quote) → QuotedAs r answer → quoted_by r ≡ quoted_numbers answer
 quoted-numbers r answer (e, (f, _)) = rw (e, f) refl
 
 -- where sales are lent the first bytes of the buffer, as many as simplifying answered
