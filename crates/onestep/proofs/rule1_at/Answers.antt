@@ -30,4 +30,4 @@ pub returns : goal.returns
 returns c =
     let s = c.requires.simplifiable in
     block_written _ s c.args.view.facts.now _ _ _ _ (c.args.view.surveyed.each 0 (some-record _ s)) c.if-not-view.false c.is_bare.ensures c.if-is_bare.false
-    (c.value_at.ensures ∙ first-is _ s c.evaluate.ensures) c.put_node.ensures.0 c.put_node.ensures.1
+    (c.value_at.ensures ∙ first-is _ s _ _ c.evaluate.ensures) c.put_node.ensures.0 c.put_node.ensures.1
