@@ -3,6 +3,7 @@
 
 ghost use Rattle.probes.specs.Probes.{Probed, ProbedBytes};
 
+// What C gets is two numbers, the first by specs/Probes.antt; each probe's struct names the second as C does.
 #[repr(C)]
 #[derive(Clone, Copy)]
 pub struct ProbeComparison {

@@ -64,7 +64,7 @@ pub enum Most {
     Triangular(u64),
 }
 
-// No limit, or the loop that it names (byte 3) and its number.
+// No limit, or the loop that it names (byte 3) and its number. No Option of a pair, which would not say which part is the loop.
 #[derive(Clone, Copy, PartialEq, Eq)]
 pub enum Limit {
     Unlimited,
@@ -138,7 +138,9 @@ pub fn read_u64(b: &[u8], at: usize) -> u64
 
 // ---- The node of a record
 
-// A field with its flag, which is 0 for a plain number.
+// The readers are lent a table from a record on, as `&table[at..]`: a struct that knew it to be long enough would have to be made for each call.
+
+// A field with its flag, which is 0 for a plain number. Flags and kinds are numbers in the bytes that C lends, and no further than here.
 fn number_from(flag: u8, x: u64) -> Number
     ensures { result ≡ num_from flag x }
 {
@@ -275,6 +277,7 @@ pub fn length_allowed(table: &[u8]) -> bool
 
 // ---- Question 2
 
+// Of bytes, since question 2 is put where they may be no kind and no limit.
 fn kind_listed(kind: u8, children: u8, flag: u8, value: u64) -> bool
     ensures { result ≡ kind_listed kind children flag value }
 {
@@ -426,6 +429,7 @@ pub fn one_tree(table: &[u8]) -> bool
 // ---- Questions 5 to 7
 
 // What a walk finds of a tree that is as question 5 asks, or of several in a row: how many records, whether question 6 says yes, and question 7's sum.
+// A limit that question 6 refuses does not end the walk, since question 5 is answered of the whole tree first.
 #[derive(Clone, Copy)]
 pub struct Survey {
     pub records: usize,

@@ -73,7 +73,7 @@ pub fn flag_free(table: &[u8]) -> bool
     table::every_record(table, table::without_four)
 }
 
-// Question 13 of a table.
+// Question 13 of a table. Whether it is free is lent beside it, not found again: the walk's callers know it, and a struct would be made for this call alone.
 fn triangles_small(table: &[u8], values: &[u64], free: bool) -> bool
     requires { free ≡ flag_free table.now }
     ensures { result ≡ question13 table.now values.now }
