@@ -1,4 +1,4 @@
-// The evaluator's steps (document 01, "Evaluation"), with lists as pairs in lent arrays.
+// The evaluator's steps (document 01, "Evaluation"), each on the list that is lent.
 #![tactic(auto)]
 
 ghost use Rattle.std.specs.Prelude.{◌≡◌, min, get_or};
@@ -39,7 +39,7 @@ pub fn value_of(symbol: u64, values: &[u64]) -> u64
     values.get(symbol as usize).copied().unwrap_or(0)
 }
 
-// What a time or bound comes to.
+// What a time or bound comes to. `later_of` and `looked_up` have the like, each with a look-up of its own: one function would be lent that and be longer.
 pub fn amount_of(number: Number, values: &[u64]) -> u64
     ensures { result ≡ amount (values_of values.now) number }
 {

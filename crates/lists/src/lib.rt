@@ -79,7 +79,7 @@ impl List {
         List::ZERO
     }
 
-    // The value of pair k.
+    // The value of pair k. A call for this and its count, told apart by an argument, would want a number for which of the two.
     pub fn value_at(&self, k: usize) -> u64
         requires { k < most_pairs }
         ensures { result ≡ value_at self.now.pairs k }
@@ -221,7 +221,7 @@ fn joined_of(x: u64, y: u64) -> u64
     x + y
 }
 
-// The first pair of the union of two lists from these pairs on.
+// The first pair of the union of two lists from these pairs on. Two tests: a match on how the values compare has these three arms too.
 fn first_pair(a: &List, i: usize, b: &List, j: usize) -> Head
     requires fact_1 { i < most_pairs }
     requires fact_2 { j < most_pairs }
@@ -258,7 +258,7 @@ fn first_pair(a: &List, i: usize, b: &List, j: usize) -> Head
 
 impl List {
     // Choice: the members of both lists, largest first.
-    // A turn moves on in one list or in both, as their values say, so no `for` over either list's pairs serves.
+    // A turn moves on in one list or in both, as their values say, so no `for` over either list's pairs serves, and no turn of `add_onto`, which ends within pairs.
     pub fn merge_onto(&self, other: &List, out: &mut List)
         requires { Mergeable self.now other.now }
         ensures { Is out.new (merge_pairs (pairs_of self.now) (pairs_of other.now)) }
