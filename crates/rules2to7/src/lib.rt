@@ -85,7 +85,7 @@ pub fn rule2_at(view: View, i: usize, out: &mut [u8]) -> Option<usize>
     let count = table::children_at(table, i);
     let p = view.first_child(i, |p| gives_way(table, p, node.kind, count))?;
     let more = table::children_at(table, p);
-    let all = ((count + more - 1) % 256) as u8;
+    let all = (count + more - 1) as u8;
     Some(dissolve_at(table, i, p, node, all, out))
 }
 
@@ -208,7 +208,7 @@ pub fn rule5_at(view: View, i: usize, out: &mut [u8]) -> Option<usize>
         return None;
     }
     let p = view.first_child(i, |p| is_zero(table, p))?;
-    let fewer = ((count - 1) % 256) as u8;
+    let fewer = (count - 1) as u8;
     Some(dissolve_at(table, i, p, node, fewer, out))
 }
 
@@ -313,7 +313,7 @@ fn merge_bares(view: View, i: usize, q: usize, time: u64, bares: usize, out: &mu
     let table = view.table;
     let node = table::node_at(table, i);
     let count = table::children_at(table, i) - bares + 1;
-    let first = writing::put_node(out, 0, node, (count % 256) as u8);
+    let first = writing::put_node(out, 0, node, count as u8);
     let block = writing::copy_records(table, i + 1, q - i - 1, out, first);
     let plain = Node {
         kind: Kind::Block(Number::Plain(time)),

@@ -8,7 +8,8 @@ ghost use Rattle.stepping.specs.Steps.{Ends};
 
 use subtrees::{Facts, View};
 
-// What an allowance of steps made: the table's length in bytes, how many steps, and whether no rule fits any more.
+// What an allowance of steps made: the table's length in bytes, how many steps, and whether no rule fits any more: a flag, as in the definition (`Made`), since
+// each of the two is told with the same length and steps.
 #[derive(Clone, Copy)]
 pub struct Run {
     pub len: usize,
@@ -16,7 +17,8 @@ pub struct Run {
     pub finished: bool,
 }
 
-// Steps on the table in the first `len` bytes of `work`, until no rule fits or the allowance is used.
+// Steps on the table in the first `len` bytes of `work`, until no rule fits or the allowance is used. The length stands beside the buffer, here and in
+// `make_step`, since the memory is fixed and the table gets shorter in it.
 pub fn steps_in(
     work: &mut [u8],
     len: usize,

@@ -4,7 +4,7 @@ use Rattle.simplify.specs.Rules.{gives, rule2}
 use Rattle.subtrees.specs.Parts.{trees_at}
 use Rattle.subtrees.specs.Children.{child_at}
 use Rattle.rewrite.specs.Laws.Records.{no-sum}
-use Rattle.rules2to7.specs.Laws.Dissolving.{gave-way, giver, giver-counts, none-gives, rule2-no-sum}
+use Rattle.rules2to7.specs.Laws.Dissolving.{gave-way, giver, giver-counts, giver-few, none-gives, rule2-no-sum}
 use Rattle.rules2to7.proofs.rule2_at.Goals.{In_ok-p}
 use Rattle.rules2to7.proofs.rule2_at.Goals as goal
 
@@ -20,8 +20,8 @@ returns-in_err-p c =
     (c.in_err-p.ensures (gives c.node_at-node.result.kind c.children_at-count.result) (λ p r l e. search rules)))
 
 -- the child that was found
-found : (c : In_ok-p) → let s = c in Some c.in_ok-p.p ≡ child_at (gives s.node_at-node.result.kind s.children_at-count.result) s.args.i (trees_at s.args.view.table.now s.args.i)
-found c = let s = c in c.in_ok-p.ensures (gives s.node_at-node.result.kind s.children_at-count.result) (λ p r l e. search rules)
+found : (c : In_ok-p) → Some c.in_ok-p.p ≡ child_at (gives c.node_at-node.result.kind c.children_at-count.result) c.args.i (trees_at c.args.view.table.now c.args.i)
+found c = c.in_ok-p.ensures (gives c.node_at-node.result.kind c.children_at-count.result) (λ p r l e. search rules)
 
 pub children_at-more-requires : goal.children_at-more-requires
 children_at-more-requires c =
@@ -32,6 +32,12 @@ pub overflow_sub-all : goal.overflow_sub-all
 overflow_sub-all c =
     let v = c.args.view in
     giver-counts v.table.now v.surveyed.table c.args.i c.requires.inside c.node_at-node.ensures c.children_at-count.ensures.0 (found (goal.at.overflow_sub-all c).In_ok-p) c.children_at-more.ensures.0
+
+pub overflow_cast-all : goal.overflow_cast-all
+overflow_cast-all c =
+    let v = c.args.view in
+    let few = giver-few v.table.now v.surveyed.table c.args.i c.requires.inside c.node_at-node.ensures c.children_at-count.ensures.0 (found (goal.at.overflow_cast-all c).In_ok-p) c.children_at-more.ensures.0 in
+    search (rules, few)
 
 pub dissolve_at-requires : goal.dissolve_at-requires
 dissolve_at-requires c =

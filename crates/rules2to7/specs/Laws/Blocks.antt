@@ -1,5 +1,5 @@
 -- Rules 6 and 7 on a table's bytes: the walks over a node's children, and what is written in the place of its blocks.
-use Rattle.std.specs.Prelude.{◌≡◌, Bool, cond, false, not, true, List, ◌++◌, ℕ, zero, suc, ◌+◌, ◌-◌, ◌*◌, ◌%◌, ◌≤◌, ◌<◌, max, leb, drop, length, Some, None}
+use Rattle.std.specs.Prelude.{◌≡◌, Bool, cond, false, not, true, List, ◌++◌, ℕ, zero, suc, ◌+◌, ◌-◌, ◌*◌, ◌≤◌, ◌<◌, max, leb, drop, length, Some, None}
 use Rattle.std.proofs.lemmas.Option.{none-some, same_Some}
 use Rattle.std.proofs.Math.Path.{refl, ap}
 use Rattle.std.proofs.Common.{ap₂, sym, ◌∙◌, append_assoc, append-nil, arith, leb→le, le→leb}
@@ -279,7 +279,7 @@ merged-bytes x s = rw (size-⧺, encodes-⧺) (simp append_assoc)
 pub merge-wrote : (b : List ℕ) (facts : List Facts) → Surveyed b facts → (i q c : ℕ) → i < record_count b → (s : Parted b i q c)
     → (x m : ℕ) (n : Node) (o₁ o₂ o₃ o₄ o₅ : List ℕ) (r₁ r₂ r₃ r₄ r₅ : ℕ)
     → n ≡ first_node (drop (record_length * i) b) → m ≡ child_byte (drop (record_length * i) b) → m < 256
-    → (r₁ ≡ 0 + 1) × (front r₁ o₁ ≡ record_bytes n ((m - c + 1) % 256))
+    → (r₁ ≡ 0 + 1) × (front r₁ o₁ ≡ record_bytes n (m - c + 1))
     → Appended r₁ o₁ (q - i - 1) (slice b (i + 1) (q - i - 1)) r₂ o₂
     → Appended r₂ o₂ 1 (record_bytes (node_of (Block (Plain x)) Unlimited 0) 0) r₃ o₃
     → Appended r₃ o₃ (records_in (others (spanning (trees_at b q) (i + extent_at facts i - q)))) (encodes (others (spanning (trees_at b q) (i + extent_at facts i - q)))) r₄ o₄
@@ -290,7 +290,7 @@ merge-wrote b facts w i q c l s x m n o₁ o₂ o₃ o₄ o₅ r₁ r₂ r₃ r�
     let p = places b facts w i q c l s in
     let y : spanning (trees_at b q) (i + extent_at facts i - q) ≡ s.second = spans b q _ p.standing ∙ p.are in
     let h : q - i - 1 ≡ records_in s.first = omega (arith, s.place) in
-    let z : (m - c + 1) % 256 ≡ size s.first + suc (size (others s.second)) = omega (arith, p.number, s.number, s.some) in
+    let z : m - c + 1 ≡ size s.first + suc (size (others s.second)) = omega (arith, p.number, s.number, s.some) in
     let v : records_in (others (spanning (trees_at b q) (i + extent_at facts i - q))) ≡ records_in (others s.second) = ap (λ f. records_in (others f)) y in
     let a₁ : front r₁ o₁ ≡ record_bytes s.own (size s.first + suc (size (others s.second))) = e₁.1 ∙ ap₂ record_bytes (d ∙ p.own) z in
     let a₂ : front r₂ o₂ ≡ record_bytes s.own (size s.first + suc (size (others s.second))) ++ encodes s.first

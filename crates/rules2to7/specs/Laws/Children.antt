@@ -1,15 +1,14 @@
 -- Tests of the tree at a record.
-use Rattle.std.specs.Prelude.{◌≡◌, refl, Bool, ◌&&◌, List, ℕ, suc, ◌+◌, ◌*◌, ◌≤◌, T, eqb, leb, drop}
-use Rattle.std.proofs.Math.Path.{ap, sym}
-use Rattle.std.proofs.Common.{◌∙◌, arith, leb→le}
+use Rattle.std.specs.Prelude.{◌≡◌, refl, Bool, ◌&&◌, List, ℕ, suc, ◌+◌, ◌*◌, eqb, leb, drop}
+use Rattle.std.proofs.Math.Path.{ap}
+use Rattle.std.proofs.Common.{◌∙◌}
 use Rattle.booleans.specs.Tests.{◌and◌}
-use Rattle.booleans.specs.Laws.{and_is, both}
-use Rattle.table.specs.Numbers.{most_children, most_time, record_length}
-use Rattle.table.specs.Questions.{kind_in_range, listed, time_in_range}
+use Rattle.booleans.specs.Laws.{and_is}
+use Rattle.table.specs.Numbers.{most_children, record_length}
 use Rattle.table.specs.Table.{child_byte, first_node}
 use Rattle.table.specs.Trees.{Tree, size}
 use Rattle.evaluate.specs.Closed.{is_unlimited}
-use Rattle.simplify.specs.Rules.{bare, gives, is_zero, time_of, time_of_kind}
+use Rattle.simplify.specs.Rules.{bare, gives, is_zero, time_of}
 use Rattle.simplify.specs.Same.{same_kind}
 use Rattle.subtrees.specs.Parts.{subtree}
 use Rattle.subtrees.specs.Laws.Parts.{Here, top-at}
@@ -17,7 +16,7 @@ use Rattle.rewrite.specs.Bare.{bare_time}
 use Rattle.rewrite.specs.Laws.Records.{none-no, some-yes}
 use Rattle.std.specs.Prelude.{Some, None, false}
 use Rattle.subtrees.specs.Laws.Records.{count_at, node_at}
-use Rattle.rules2to7.specs.Nodes.{Block, Choice, Kind, Loop, Node, Plain, Sequence, Symbol}
+use Rattle.rules2to7.specs.Nodes.{Kind, Node}
 
 -- ---- tests of the tree at a record
 

@@ -1,5 +1,5 @@
 -- A child that gives way to its own children, in trees and in records.
-use Rattle.std.specs.Prelude.{◌≡◌, refl, Bool, true, false, cond, ◌||◌, List, ◌++◌, ℕ, suc, ◌+◌, ◌*◌, ◌-◌, ◌%◌, ◌<◌, ◌≤◌, T, leb, drop, Some, None}
+use Rattle.std.specs.Prelude.{◌≡◌, refl, Bool, true, false, cond, ◌||◌, List, ◌++◌, ℕ, suc, ◌+◌, ◌*◌, ◌-◌, ◌<◌, ◌≤◌, T, leb, drop, Some, None}
 use Rattle.std.specs.declared.option.Option.{Option as Maybe}
 use Rattle.std.proofs.Math.Path.{ap, ap₂, subst}
 use Rattle.std.proofs.Common.{sym, ◌∙◌, append_assoc, leb→le, le→leb}
@@ -259,9 +259,17 @@ module _ (b : List ℕ) (s : IsTable b) (i : ℕ) (l : i < record_count b) where
       let (_, g) = giver e d k in
       omega (arith, gone-size giving-test h.kids g.part, count_at b i h, child-size b s i h giving-test p g)
 
+  pub giver-few : {n : Node} {c p m : ℕ} → n ≡ first_node (drop (record_length * i) b) → c ≡ child_byte (drop (record_length * i) b)
+      → Some p ≡ child_at (gives n.kind c) i (trees_at b i) → m ≡ child_byte (drop (record_length * p) b) → c + m ≤ suc most_children
+  giver-few {c = c} {p = p} {m = m} e d k dm =
+      let (_, g) = giver e d k in
+      let ec : c ≡ size h.kids = d ∙ count_at b i h in
+      let em : m ≡ size (children g.part.found) = dm ∙ child-size b s i h giving-test p g in
+      rw (ec, em) (gives_fits _ _ g.part.found g.part.passes)
+
   pub gave-way : (out : List ℕ) {n : Node} {c p m r : ℕ} {x : Bool} → n ≡ first_node (drop (record_length * i) b) → x ≡ is_sum n.kind → x ≡ true
       → c ≡ child_byte (drop (record_length * i) b) → Some p ≡ child_at (gives n.kind c) i (trees_at b i) → m ≡ child_byte (drop (record_length * p) b)
-      → Left b i p (record_bytes n ((c + m - 1) % 256)) r out → Wrote (rule_at rule2 (trees_at b i)) (Some r) out
+      → Left b i p (record_bytes n (c + m - 1)) r out → Wrote (rule_at rule2 (trees_at b i)) (Some r) out
   unfolding also
   gave-way out {n} {c} {p} {m} {r} e dx tx d k dm w =
       let (a, g) = giver e d k in
@@ -269,13 +277,13 @@ module _ (b : List ℕ) (s : IsTable b) (i : ℕ) (l : i < record_count b) where
       let one = gone-size giving-test h.kids g.part in
       let ec : c ≡ size h.kids = d ∙ count_at b i h in
       let em : m ≡ size (children g.part.found) = dm ∙ child-size b s i h giving-test p g in
-      let count : (c + m - 1) % 256 + 1 ≡ size h.kids + size (children g.part.found) = omega arith in
-      let left = subst (λ (y : Node). Left b i p (record_bytes y ((c + m - 1) % 256)) r out) (e ∙ node_at b i h) w in
+      let count : c + m - 1 + 1 ≡ size h.kids + size (children g.part.found) = omega arith in
+      let left = subst (λ (y : Node). Left b i p (record_bytes y (c + m - 1)) r out) (e ∙ node_at b i h) w in
       wrote_as
       (Some r)
       out
       (rule-at b s i l rule2 _ (rule2-some h.own h.kids (is-sum-at b s i l e dx tx) a))
-      (dissolved b s i h giving-test p g ((c + m - 1) % 256) r out count left)
+      (dissolved b s i h giving-test p g (c + m - 1) r out count left)
 
   pub few-zero : (out : List ℕ) {c : ℕ} → c ≡ child_byte (drop (record_length * i) b) → c < 2 → Wrote (rule_at rule5 (trees_at b i)) None out
   few-zero out d few = unfit-at b s i l rule5 out (rule5-few h.own h.kids (omega (arith, count_at b i h)))
@@ -288,16 +296,16 @@ module _ (b : List ℕ) (s : IsTable b) (i : ℕ) (l : i < record_count b) where
 
   pub zero-gone : (out : List ℕ) {n : Node} {c p r : ℕ} {x : Bool} → n ≡ first_node (drop (record_length * i) b) → x ≡ is_sum n.kind → x ≡ true
       → c ≡ child_byte (drop (record_length * i) b) → c < 256 → 2 ≤ c → Some p ≡ child_at is_zero i (trees_at b i)
-      → Left b i p (record_bytes n ((c - 1) % 256)) r out → Wrote (rule_at rule5 (trees_at b i)) (Some r) out
+      → Left b i p (record_bytes n (c - 1)) r out → Wrote (rule_at rule5 (trees_at b i)) (Some r) out
   unfolding also size
   zero-gone out {n} {c} {p} {r} e dx tx d few two k w =
       let (a, g) = zero-child k in
       let none = ap size (zero-children g.part.found g.part.passes) in
       let ec : c ≡ size h.kids = d ∙ count_at b i h in
-      let count : (c - 1) % 256 + 1 ≡ size h.kids + size (children g.part.found) = omega arith in
-      let left = subst (λ (y : Node). Left b i p (record_bytes y ((c - 1) % 256)) r out) (e ∙ node_at b i h) w in
+      let count : c - 1 + 1 ≡ size h.kids + size (children g.part.found) = omega arith in
+      let left = subst (λ (y : Node). Left b i p (record_bytes y (c - 1)) r out) (e ∙ node_at b i h) w in
       wrote_as
       (Some r)
       out
       (rule-at b s i l rule5 _ (rule5-some h.own h.kids (is-sum-at b s i l e dx tx) (omega arith) a))
-      (dissolved b s i h is_zero p g ((c - 1) % 256) r out count left)
+      (dissolved b s i h is_zero p g (c - 1) r out count left)

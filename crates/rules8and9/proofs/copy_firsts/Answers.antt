@@ -7,7 +7,7 @@ use Rattle.rules8and9.proofs.copy_firsts.Goals as goal
 
 -- the pair at record q, and where the next one stands
 turn : (c : In-loop) → let v = c.args.view in TurnAt v.table.now v.facts.now c.loop.q (c.args.n - c.loop.counter) c.loop.invariant.row
-turn c = let s = c in copying-turn _ _ s.args.view.surveyed _ _ _ _ _ _ _ _ c.loop.invariant (omega (arith, c.loop-test.true))
+turn c = copying-turn _ _ c.args.view.surveyed _ _ _ _ _ _ _ _ c.loop.invariant (omega (arith, c.loop-test.true))
 
 pub loop-init : goal.loop-init
 loop-init c = rw sub-zero (copying-none _ c.args.view.surveyed.table _ _ _ _ c.requires.pairs c.requires.room)

@@ -7,7 +7,7 @@ use Rattle.rules8and9.proofs.pair_shares.Goals as goal
 
 -- past the first test
 found : (c : Else-not-is_pair) → let a = c.args in PairAt a.view.table.now a.view.facts.now a.p
-found c = let s = c in pair-at _ _ s.args.view.surveyed _ s.requires.pair (sym c.is_pair.ensures ∙ c.if-not-is_pair.false)
+found c = pair-at _ _ c.args.view.surveyed _ c.requires.pair (sym c.is_pair.ensures ∙ c.if-not-is_pair.false)
 
 pub returns-then-not-is_pair : goal.returns-then-not-is_pair
 returns-then-not-is_pair c = no-pair _ _ _ c.is_pair.ensures c.if-not-is_pair.true

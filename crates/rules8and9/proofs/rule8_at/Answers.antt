@@ -9,7 +9,7 @@ use Rattle.rules8and9.proofs.rule8_at.Goals.{After-copy_firsts-firsts}
 use Rattle.rules8and9.proofs.rule8_at.Goals as goal
 
 found : (c : In_ok-second) → let a = c.args in FitsAt a.view.table.now a.view.facts.now a.i c.in_ok-second.second
-found c = let s = c in fits-at _ _ s.args.view.surveyed _ _ s.requires.inside c.in_ok-second.ensures
+found c = fits-at _ _ c.args.view.surveyed _ _ c.requires.inside c.in_ok-second.ensures
 
 -- and the record that the copies of the firsts reach
 firsts-end : (c : After-copy_firsts-firsts) (x : FitsAt c.args.view.table.now c.args.view.facts.now c.args.i c.in_ok-second.second) → c.copy_firsts-firsts.result ≡ 2 + records_in (firsts x.kids)

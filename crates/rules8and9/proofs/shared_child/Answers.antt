@@ -9,9 +9,8 @@ use Rattle.rules8and9.proofs.shared_child.Goals as goal
 -- past the first test
 choice : (c : Else-ne-children_at) → let a = c.args in ChoiceAt a.view.table.now a.i
 choice c =
-    let s = c in
-    choice-at _ _ s.args.view.surveyed _ s.requires
-    (sym (other-read s.args.view.table.now s.args.i s.node_at-node.ensures (s.ne.ensures ∙ ap not (equal-kinds _ _)) s.children_at.ensures.0) ∙ c.if-ne-children_at.false)
+    choice-at _ _ c.args.view.surveyed _ c.requires
+    (sym (other-read c.args.view.table.now c.args.i c.node_at-node.ensures (c.ne.ensures ∙ ap not (equal-kinds _ _)) c.children_at.ensures.0) ∙ c.if-ne-children_at.false)
 
 pub returns-then-ne-children_at : goal.returns-then-ne-children_at
 returns-then-ne-children_at c =

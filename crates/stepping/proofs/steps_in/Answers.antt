@@ -13,7 +13,7 @@ loop-taken-init c = record {
 
 -- the table is no longer than it was
 short : (c : At-loop-taken) → c.loop-taken.n ≤ c.args.len
-short c = let s = c in omega (arith, stage-short c.loop-taken.invariant.stage, length-take-le s.args.len s.args.work.now s.requires.simplifiable_2)
+short c = omega (arith, stage-short c.loop-taken.invariant.stage, length-take-le c.args.len c.args.work.now c.requires.simplifiable_2)
 
 pub returns-in_default-clause-fact_1 : goal.returns-in_default-clause-fact_1
 returns-in_default-clause-fact_1 c = stage-finished c.loop-taken.invariant.stage _ c.in_default.ensures.rewritten
