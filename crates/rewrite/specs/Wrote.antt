@@ -1,5 +1,6 @@
 -- Rules as rewrites of a table's bytes from a node's record on, into a second buffer.
-use Rattle.std.specs.Prelude.{◌≡◌, List, ℕ}
+use Rattle.std.specs.Prelude.{◌≡◌, List, ℕ, Some, None}
+use Rattle.std.specs.declared.option.Option.{Option as Maybe}
 use Rattle.std.proofs.Math.Option.{Option, none, some}
 use Rattle.table.specs.Table.{encodes}
 use Rattle.table.specs.Trees.{Forest, Tree, nil, node, ◌▸◌, records_in}
@@ -12,7 +13,9 @@ unfoldable pub rule_at : (Node → Forest → Option Tree) → Forest → Option
 rule_at rule nil = none
 rule_at rule (node n f ▸ g) = also (λ t. t ▸ g) (rule n f)
 
--- r records were written to the front of a buffer: the row of trees, or, where there is none, no record
-unfoldable pub Wrote : Option Forest → ℕ → List ℕ → Type 0
-Wrote none r out = r ≡ 0
-Wrote (some g) r out = (r ≡ records_in g) × (front r out ≡ encodes g)
+-- r records were written to the front of a buffer: the row of trees; or there is neither a row nor a number of records
+unfoldable pub Wrote : Option Forest → Maybe ℕ → List ℕ → Type 0
+Wrote none None out = Unit {0}
+Wrote none (Some r) out = ⊥
+Wrote (some g) None out = ⊥
+Wrote (some g) (Some r) out = (r ≡ records_in g) × (front r out ≡ encodes g)

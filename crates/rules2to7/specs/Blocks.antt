@@ -1,9 +1,12 @@
 -- Rules 6 and 7 on a table's bytes: what a walk over a node's children finds of unlimited plain blocks, and what is written in their place.
-use Rattle.std.specs.Prelude.{◌≡◌, cond, List, ℕ, zero, suc, ◌+◌, ◌-◌, ◌<◌, ◌≤◌, max}
+use Rattle.std.specs.Prelude.{◌≡◌, cond, List, ℕ, zero, suc, ◌+◌, ◌-◌, ◌<◌, ◌≤◌, max, leb, Some, None}
+use Rattle.std.specs.declared.option.Option.{Option as Maybe}
+use Rattle.booleans.specs.Tests.{◌and◌}
+use Rattle.simplify.specs.Same.{same_kind}
 use Rattle.table.specs.Trees.{Forest, Tree, nil, node, ◌▸◌, ◌⧺◌, records, records_in, size}
 use Rattle.simplify.specs.Rules.{bare, bares, largest, leaf, others, time_of, total}
 use Rattle.subtrees.specs.Parts.{trees_at}
-use Rattle.rules2to7.specs.Nodes.{Node, Unlimited}
+use Rattle.rules2to7.specs.Nodes.{Kind, Node, Unlimited}
 use Rattle.rules2to7.specs.declared.Bares.{Bares}
 
 -- ---- what a walk finds
@@ -15,6 +18,11 @@ no_bares = record { count = 0; total = 0; largest = 0 }
 unfoldable pub bares_at : Forest → Bares
 bares_at nil = no_bares
 bares_at (node n f ▸ g) = record { count = bares f; total = total f; largest = largest f }
+
+-- the same, where it is of this kind and there are two or more
+unfoldable pub two_bares : Kind → Forest → Maybe Bares
+two_bares k nil = None
+two_bares k (node n f ▸ g) = cond (same_kind n.kind k and leb 2 (bares f)) (Some (bares_at (node n f ▸ g))) None
 
 -- with the next child
 unfoldable pub with_child : Bares → Tree → Bares

@@ -1,5 +1,6 @@
 -- What rules 8 and 9 test of a tree, and what rule 8 writes.
-use Rattle.std.specs.Prelude.{◌≡◌, Bool, cond, false, true, List, [], ◌∷◌, ◌++◌, ℕ, zero, suc, ◌+◌, ◌*◌, ◌≤◌, T, eqb, drop, length, take}
+use Rattle.std.specs.Prelude.{◌≡◌, Bool, cond, false, true, List, [], ◌∷◌, ◌++◌, ℕ, zero, suc, ◌+◌, ◌*◌, ◌≤◌, T, eqb, drop, length, take, Some, None}
+use Rattle.std.specs.declared.option.Option.{Option as Maybe}
 use Rattle.booleans.specs.Tests.{◌and◌}
 use Rattle.evaluate.specs.Closed.{is_unlimited}
 use Rattle.simplify.specs.Rules.{address_of, children, first_of, firsts, head_of, is_pair, limit_of, second_of, shares}
@@ -43,10 +44,10 @@ same_records (suc n) b c = same_bytes (take fields_length b) (take fields_length
 unfoldable pub sharing : Tree → Tree → Bool
 sharing x t = is_pair t and same (second_of t) x
 
--- the record of the first child's second child of the first tree, which stands at record i, where rule 8 fits it, or 0
-unfoldable pub shared_at : ℕ → Forest → ℕ
-shared_at i nil = 0
-shared_at i (node n f ▸ g) = cond (same_kind n.kind Choice and shares f) (i + 2 + records (first_of (head_of f))) 0
+-- the record of the first child's second child of the first tree, which stands at record i, where rule 8 fits it
+unfoldable pub shared_at : ℕ → Forest → Maybe ℕ
+shared_at i nil = None
+shared_at i (node n f ▸ g) = cond (same_kind n.kind Choice and shares f) (Some (i + 2 + records (first_of (head_of f)))) None
 
 unfoldable pub pairs : Forest → Bool
 pairs nil = true

@@ -4,15 +4,15 @@
 ghost use Rattle.std.specs.Prelude.{◌<◌, ◌≤◌, length};
 ghost use Rattle.table.specs.Table.{record_count};
 ghost use Rattle.simplify.specs.Steps.{inside_in, rule};
-ghost use Rattle.subtrees.specs.Facts.{Surveyed};
 ghost use Rattle.subtrees.specs.Parts.{Simplifiable, trees_at};
 ghost use Rattle.rewrite.specs.Wrote.{Wrote, rule_at};
 ghost use Rattle.searching.specs.Found.{Found, Settled};
 ghost use Rattle.searching.specs.Rewritten.{Rewritten, later_rule};
 
+use subtrees::View;
 use table::RECORD_LENGTH;
 
-// What a step changes: the table from record `at` on, which becomes `len` records. There is no step where `len` is 0.
+// What a step changes: the table from record `at` on, which becomes `len` records.
 #[derive(Clone, Copy)]
 pub struct Spot {
     pub at: usize,
@@ -20,82 +20,70 @@ pub struct Spot {
 }
 
 // The lowest of rules 2 to 9 that fits the subtree at record i. None fits a block.
-fn rule_at(table: &[u8], extents: &[usize], marks: &[u8], i: usize, out: &mut [u8]) -> usize
-    requires fact_1 { Surveyed table.now extents.now marks.now }
-    requires fact_2 { i < record_count table.now }
-    requires fact_3 { length table.now ≤ length out.old }
-    requires fact_4 { Simplifiable table.now }
-    ensures { Wrote (rule_at rule (trees_at table.now i)) result out.new }
+fn rule_at(view: View, i: usize, out: &mut [u8]) -> Option<usize>
+    requires inside { i < record_count view.table.now }
+    requires room { length view.table.now ≤ length out.old }
+    requires simplifiable { Simplifiable view.table.now }
+    ensures { Wrote (rule_at rule (trees_at view.entry.table.now i)) result out.new }
 {
-    let node = table::node_at(table, i);
-    let kind = node.kind;
-    if rewrite::is_block(kind) {
-        return 0;
+    if rewrite::is_block(table::node_at(view.table, i).kind) {
+        return None;
     }
-    let r2 = rules2to7::rule2_at(table, extents, i, out);
-    if r2 != 0 {
-        return r2;
+    if let Some(len) = rules2to7::rule2_at(view, i, out) {
+        return Some(len);
     }
-    let r3 = rules2to7::rule3_at(table, extents, i, out);
-    if r3 != 0 {
-        return r3;
+    if let Some(len) = rules2to7::rule3_at(view, i, out) {
+        return Some(len);
     }
-    let r4 = rules2to7::rule4_at(table, extents, marks, i, out);
-    if r4 != 0 {
-        return r4;
+    if let Some(len) = rules2to7::rule4_at(view, i, out) {
+        return Some(len);
     }
-    later_rule_at(table, extents, marks, i, out)
+    later_rule_at(view, i, out)
 }
 
 // The lowest of rules 5 to 9.
-fn later_rule_at(table: &[u8], extents: &[usize], marks: &[u8], i: usize, out: &mut [u8]) -> usize
-    requires fact_1 { Surveyed table.now extents.now marks.now }
-    requires fact_2 { i < record_count table.now }
-    requires fact_3 { length table.now ≤ length out.old }
-    ensures { Wrote (rule_at later_rule (trees_at table.now i)) result out.new }
+fn later_rule_at(view: View, i: usize, out: &mut [u8]) -> Option<usize>
+    requires inside { i < record_count view.table.now }
+    requires room { length view.table.now ≤ length out.old }
+    ensures { Wrote (rule_at later_rule (trees_at view.entry.table.now i)) result out.new }
 {
-    let r5 = rules2to7::rule5_at(table, extents, i, out);
-    if r5 != 0 {
-        return r5;
+    if let Some(len) = rules2to7::rule5_at(view, i, out) {
+        return Some(len);
     }
-    let r6 = rules2to7::rule6_at(table, extents, i, out);
-    if r6 != 0 {
-        return r6;
+    if let Some(len) = rules2to7::rule6_at(view, i, out) {
+        return Some(len);
     }
-    let r7 = rules2to7::rule7_at(table, extents, i, out);
-    if r7 != 0 {
-        return r7;
+    if let Some(len) = rules2to7::rule7_at(view, i, out) {
+        return Some(len);
     }
-    let r8 = rules8and9::rule8_at(table, extents, marks, i, out);
-    if r8 != 0 {
-        return r8;
+    if let Some(len) = rules8and9::rule8_at(view, i, out) {
+        return Some(len);
     }
-    rules8and9::rule9_at(table, extents, marks, i, out)
+    rules8and9::rule9_at(view, i, out)
 }
 
-// The earliest record where one of rules 2 to 9 fits. `at` is the record from which on the last step changed the table, 0 where nothing is known: a subtree
-// that ends there or before is passed over.
-pub fn find(table: &[u8], extents: &[usize], marks: &[u8], at: usize, out: &mut [u8]) -> Spot
-    requires surveyed_1 { Surveyed table.now extents.now marks.now }
-    requires surveyed_2 { length table.now ≤ length out.old }
-    requires surveyed_3 { Simplifiable table.now }
-    requires settled { Settled table.now extents.now at }
-    ensures rewritten { Rewritten (inside_in (trees_at table.now 0)) table.now result.at result.len out.new }
-    ensures found { Found table.now extents.now result.at result.len out.new }
+// The earliest record where one of rules 2 to 9 fits. `at` is the record from which on the last step changed the table: a subtree that ends there or before is
+// passed over, so none is before the first step, where it is 0.
+pub fn find(view: View, at: usize, out: &mut [u8]) -> Option<Spot>
+    requires room { length view.table.now ≤ length out.old }
+    requires simplifiable { Simplifiable view.table.now }
+    requires settled { Settled view.table.now view.facts.now at }
+    ensures rewritten { Rewritten (inside_in (trees_at view.entry.table.now 0)) view.entry.table.now result out.new }
+    ensures found { Found view.entry.table.now view.entry.facts.now result out.new }
 {
-    let n = table.len() / RECORD_LENGTH;
+    let n = view.table.len() / RECORD_LENGTH;
     let mut i = 0;
+    // no `for`: a subtree that is passed over is one step
     while i < n {
-        let end = i + extents[i];
+        let end = i + view.facts[i].records;
         if end <= at {
             i = end;
         } else {
-            let len = rule_at(table, extents, marks, i, out);
-            if len != 0 {
-                return Spot { at: i, len: len };
+            if let Some(len) = rule_at(view, i, out) {
+                return Some(Spot { at: i, len: len });
             }
             i += 1;
         }
     }
-    Spot { at: 0, len: 0 }
+    None
 }

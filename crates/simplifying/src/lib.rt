@@ -11,7 +11,7 @@ ghost use Rattle.simplifying.specs.Answers.{ending_of, finished_number, made, ma
 
 use quoting::{LIST_ROOM, Quote};
 use refusals::Refusal;
-use subtrees::MARKS;
+use subtrees::Facts;
 use table::{MOST_RECORDS, RECORD_LENGTH};
 
 // No rule fits what was written, or the allowance is used and a rule fits.
@@ -62,17 +62,9 @@ fn make_steps(table: &[u8], allowance: u64, out: &mut [u8]) -> Simplified
     let len = table.len();
     let mut work = [0; RECORD_LENGTH * MOST_RECORDS];
     let mut spare = [0; RECORD_LENGTH * MOST_RECORDS];
-    let mut extents = [0; MOST_RECORDS];
-    let mut marks = [0; MARKS * MOST_RECORDS];
+    let mut facts = [Facts::NONE; MOST_RECORDS];
     writing::write_front(table, len, &mut work);
-    let run = stepping::steps_in(
-        &mut work,
-        len,
-        allowance,
-        &mut extents,
-        &mut marks,
-        &mut spare,
-    );
+    let run = stepping::steps_in(&mut work, len, allowance, &mut facts, &mut spare);
     let n = run.len;
     writing::write_front(&work, n, out);
     Simplified {

@@ -4,3 +4,4 @@ pub mod Parts
 pub mod Records
 pub mod Facts
 pub mod Survey
+pub mod Children

@@ -2,6 +2,6 @@
 mod Nodes
 pub mod Parts
 pub mod Facts
-pub mod Marks
+pub mod Children
 -- What is proved of them.
 pub mod Laws

@@ -1,32 +1,54 @@
 // Facts of a table's subtrees, each given by its record: one pass over the table finds those of all, and after a change another those that it outdated.
 #![tactic(auto)]
 
-ghost use Rattle.std.specs.Prelude.{◌≡◌, cond, false, ◌+◌, ◌*◌, ◌<◌, ◌≤◌, max, length};
+ghost use Rattle.std.specs.Prelude.{◌≡◌, Bool, ℕ, ◌+◌, ◌<◌, ◌≤◌, max, length};
 ghost use Rattle.table.specs.Numbers.{most_records};
 ghost use Rattle.table.specs.Table.{record_count};
 ghost use Rattle.table.specs.Checking.{IsTable};
+ghost use Rattle.table.specs.Trees.{Tree};
 ghost use Rattle.subtrees.specs.Parts.{trees_at};
-ghost use Rattle.subtrees.specs.Facts.{Known, Moved, Outdated, OwnBefore, Surveyed, Unchanged, below_at, child_in, is_loop, marks_each, outer, paired_reach};
-ghost use Rattle.subtrees.specs.Marks.{limited_name, marked};
+ghost use Rattle.subtrees.specs.Facts.{Known, Outdated, OwnBefore, Surveyed, Unchanged, below_at, child_in, is_loop, limited_name, outer, paired_reach};
+ghost use Rattle.subtrees.specs.Children.{Tells, child_at};
 
 use table::{Kind, RECORD_LENGTH, WHOLE_RUN};
 
-// Numbers that are kept of each record beside how many records its subtree has: first whether it has a symbol (1 or 0); then, at these places after it,
-// the loop that its list names, the outermost loop that a limit in it names, and the same without its top's own limit and time.
-pub const MARKS: usize = 4;
+// What is kept of a subtree: how many records it has, whether no symbol stands in it, the loop that its list names, the outermost loop that a limit in it
+// names, and the same without its top's own limit and time. Loops are numbered as in a table's byte 3, 0 for none, 1 and on outward, 255 for the whole run: so
+// the outermost is the largest number, with no case of its own for none.
+#[derive(Clone, Copy)]
+pub struct Facts {
+    pub records: usize,
+    pub symbol_free: bool,
+    pub named: u8,
+    pub reach: u8,
+    pub reach_below: u8,
+}
 
-pub const NAME: usize = 1;
+impl Facts {
+    // What stands in a buffer of facts before a survey.
+    pub const NONE: Facts = Facts {
+        records: 0,
+        symbol_free: false,
+        named: 0,
+        reach: 0,
+        reach_below: 0,
+    };
+}
 
-pub const REACH: usize = 2;
+// A table and the facts of all its records, as the rules read them.
+#[derive(Clone, Copy)]
+pub struct View<'a> {
+    pub table: &'a [u8],
+    pub facts: &'a [Facts],
+    pub ghost surveyed: { Surveyed table.now facts.now },
+}
 
-pub const REACH_BELOW: usize = 3;
-
-// What a node's children come to: their records, whether they have a symbol (1 or 0), the innermost loop that a child's list names, and the outermost
-// that a limit in them names, both counted from the node.
+// What a node's children come to: their records, whether no symbol stands in them, the innermost loop that a child's list names, and the outermost that a
+// limit in them names, both counted from the node.
 #[derive(Clone, Copy)]
 pub struct Below {
     pub records: usize,
-    pub symbols: u8,
+    pub symbol_free: bool,
     pub named: u8,
     pub reach: u8,
 }
@@ -35,7 +57,7 @@ impl Below {
     // Of no child at all.
     const NONE: Below = Below {
         records: 0,
-        symbols: 0,
+        symbol_free: true,
         named: WHOLE_RUN,
         reach: 0,
     };
@@ -43,107 +65,88 @@ impl Below {
 
 // ---- Children
 
+#[tactic(auto, unfolding(crate::specs::Facts::is_loop))]
 fn is_loop(kind: Kind) -> bool
     ensures { result ≡ is_loop kind }
 {
-    match kind {
-        Kind::Block(_) => false,
-        Kind::Sequence => false,
-        Kind::Choice => false,
-        Kind::Loop(_) => true,
-    }
-}
-
-fn larger_of(a: u8, b: u8) -> u8
-    ensures { result ≡ max a b }
-{
-    if a < b { b } else { a }
+    matches!(kind, Kind::Loop(_))
 }
 
 // The outermost loop that a limit names, counted from outside a loop.
+#[tactic(auto, unfolding(crate::specs::Facts::outer))]
 fn outer_of(reach: u8) -> u8
     ensures { result ≡ outer reach }
 {
-    if WHOLE_RUN <= reach {
-        return WHOLE_RUN;
-    }
-    if reach == 0 {
-        return 0;
-    }
-    reach - 1
-}
-
-// The children so far, and the next one by its facts.
-fn with_child(found: Below, records: usize, symbols: u8, named: u8, reach: u8) -> Below
-    requires { found.records + records ≤ most_records }
-    ensures { result ≡ child_in false found records symbols named reach }
-{
-    Below {
-        records: found.records + records,
-        symbols: larger_of(found.symbols, symbols),
-        named: evaluate::inner_of(found.named, named),
-        reach: larger_of(found.reach, reach),
-    }
-}
-
-// A child as its parent sees it: a loop sees its body from outside.
-fn next_child(found: Below, body: bool, records: usize, symbols: u8, named: u8, reach: u8) -> Below
-    requires { found.records + records ≤ most_records }
-    ensures { result ≡ child_in body found records symbols named reach }
-{
-    if body {
-        with_child(
-            found,
-            records,
-            symbols,
-            evaluate::outward_of(named),
-            outer_of(reach),
-        )
+    if reach < WHOLE_RUN {
+        reach.saturating_sub(1)
     } else {
-        with_child(found, records, symbols, named, reach)
+        WHOLE_RUN
+    }
+}
+
+// The children so far, and the next one by its facts: a loop sees its body from outside.
+fn next_child(found: Below, body: bool, child: Facts) -> Below
+    requires { found.records + child.records ≤ most_records }
+    ensures { result ≡ child_in body found child }
+{
+    let named = if body {
+        evaluate::outward_of(child.named)
+    } else {
+        child.named
+    };
+    let reach = if body {
+        outer_of(child.reach)
+    } else {
+        child.reach
+    };
+    Below {
+        records: found.records + child.records,
+        symbol_free: found.symbol_free & child.symbol_free,
+        named: evaluate::inner_of(found.named, named),
+        reach: found.reach.max(reach),
     }
 }
 
 // The children of the node at record i, by their facts.
-fn below_of(table: &[u8], i: usize, extents: &[usize], marks: &[u8]) -> Below
+fn below_of(table: &[u8], i: usize, facts: &[Facts]) -> Below
     requires table_1 { IsTable table.now }
     requires table_2 { i < record_count table.now }
-    requires table_3 { Known table.now extents.now marks.now (i + 1) }
-    requires table_in_bounds { (record_count table.now ≤ length extents.now) × (marks_each * record_count table.now ≤ length marks.now) }
+    requires table_3 { Known table.now facts.now (i + 1) }
+    requires table_in_bounds { record_count table.now ≤ length facts.now }
     ensures { result ≡ below_at (trees_at table.now i) }
 {
-    let node = table::node_at(table, i);
-    let kind = node.kind;
     let mut found = Below::NONE;
-    let mut body = is_loop(kind);
-    let mut left = table::children_at(table, i);
+    let mut body = is_loop(table::node_at(table, i).kind);
     let mut p = i + 1;
-    while 0 < left {
-        let m = MARKS * p;
-        let records = extents[p];
-        found = next_child(
-            found,
-            body,
-            records,
-            marks[m],
-            marks[m + NAME],
-            marks[m + REACH],
-        );
-        p += records;
+    // no view: the facts of this record and of earlier ones are still to be found
+    for _ in 0..table::children_at(table, i) {
+        let child = facts[p];
+        found = next_child(found, body, child);
+        p += child.records;
         body = false;
-        left -= 1;
     }
     found
 }
 
-// ---- Records
-
-// Whether there is a symbol, by whether the record has no flag and by what stands below it.
-fn with_symbol(flagless: bool, symbols: u8) -> u8
-    ensures { result ≡ cond flagless symbols 1 }
-{
-    if flagless { symbols } else { 1 }
+impl<'a> View<'a> {
+    // The record of the node's first child that is wanted, of the node at record i.
+    pub fn first_child<F: Fn(usize) -> bool>(self, i: usize, wanted: F) -> Option<usize>
+        requires inside { i < record_count self.table.now }
+        requires callable { (p : ℕ) → p < record_count self.table.now → F.pre wanted p }
+        ensures { (q : Tree → Bool) → Tells self.entry.table.now (F.post wanted) q → result ≡ child_at q i (trees_at self.entry.table.now i) }
+    {
+        let mut p = i + 1;
+        for _ in 0..table::children_at(self.table, i) {
+            if wanted(p) {
+                return Some(p);
+            }
+            p += self.facts[p].records;
+        }
+        None
+    }
 }
+
+// ---- Records
 
 // The loop that a list names, by the one that the node's limit names, 0 for none, and by its children.
 fn with_name(name: u8, named: u8) -> u8
@@ -166,118 +169,77 @@ fn own_reach(kind: Kind, name: u8) -> u8
     }
 }
 
-fn put_marks(marks: &mut [u8], i: usize, symbols: u8, named: u8, reach: u8, below: u8)
-    requires { marks_each * i + marks_each ≤ length marks.old }
-    ensures { marks.new ≡ marked marks.old i symbols named reach below }
-{
-    let at = MARKS * i;
-    marks[at] = symbols;
-    marks[at + NAME] = named;
-    marks[at + REACH] = reach;
-    marks[at + REACH_BELOW] = below;
-}
-
 // Keeps the facts of record i, where those of all later records are kept.
-fn mark_record(table: &[u8], i: usize, extents: &mut [usize], marks: &mut [u8])
+fn mark_record(table: &[u8], i: usize, facts: &mut [Facts])
     requires table_1 { IsTable table.now }
     requires table_2 { i < record_count table.now }
-    requires table_3 { Known table.now extents.old marks.old (i + 1) }
-    requires table_in_bounds { (record_count table.now ≤ length extents.old) × (marks_each * record_count table.now ≤ length marks.old) }
-    ensures known { Known table.now extents.new marks.new i }
-    ensures unchanged { Unchanged i extents.old marks.old extents.new marks.new }
+    requires table_3 { Known table.now facts.old (i + 1) }
+    requires table_in_bounds { record_count table.now ≤ length facts.old }
+    ensures known { Known table.now facts.new i }
+    ensures unchanged { Unchanged i facts.old facts.new }
 {
-    let below = below_of(table, i, extents, marks);
+    let below = below_of(table, i, facts);
     let name = table::name_at(table, i);
-    let symbols = with_symbol(table::flagless_at(table, i), below.symbols);
-    let named = with_name(name, below.named);
-    let node = table::node_at(table, i);
-    let kind = node.kind;
-    let reach = larger_of(own_reach(kind, name), below.reach);
-    extents[i] = below.records + 1;
-    put_marks(marks, i, symbols, named, reach, below.reach);
+    let kind = table::node_at(table, i).kind;
+    facts[i] = Facts {
+        records: below.records + 1,
+        symbol_free: table::flagless_at(table, i) & below.symbol_free,
+        named: with_name(name, below.named),
+        reach: own_reach(kind, name).max(below.reach),
+        reach_below: below.reach,
+    };
 }
 
 // Keeps those of the records from `at` up to `end`, from the last to the first: each record is read once for itself and once as a child.
-fn mark_records(table: &[u8], at: usize, end: usize, extents: &mut [usize], marks: &mut [u8])
+fn mark_records(table: &[u8], at: usize, end: usize, facts: &mut [Facts])
     requires table_1 { IsTable table.now }
     requires table_2 { (at ≤ end) × (end ≤ record_count table.now) }
-    requires table_3 { Known table.now extents.old marks.old end }
-    requires table_in_bounds { (record_count table.now ≤ length extents.old) × (marks_each * record_count table.now ≤ length marks.old) }
-    ensures known { Known table.now extents.new marks.new at }
-    ensures unchanged { Unchanged at extents.old marks.old extents.new marks.new }
+    requires table_3 { Known table.now facts.old end }
+    requires table_in_bounds { record_count table.now ≤ length facts.old }
+    ensures known { Known table.now facts.new at }
+    ensures unchanged { Unchanged at facts.old facts.new }
 {
-    let mut i = end;
-    while at < i {
-        i -= 1;
-        mark_record(table, i, extents, marks);
+    for i in (at..end).rev() {
+        mark_record(table, i, facts);
     }
 }
 
 // The facts of every record.
-pub fn survey(table: &[u8], extents: &mut [usize], marks: &mut [u8])
+pub fn survey(table: &[u8], facts: &mut [Facts])
     requires fact_1 { IsTable table.now }
-    requires fact_2 { (record_count table.now ≤ length extents.old) × (marks_each * record_count table.now ≤ length marks.old) }
-    ensures { Surveyed table.now extents.new marks.new }
+    requires fact_2 { record_count table.now ≤ length facts.old }
+    ensures { Surveyed table.now facts.new }
 {
-    mark_records(table, 0, table.len() / RECORD_LENGTH, extents, marks);
+    mark_records(table, 0, table.len() / RECORD_LENGTH, facts);
 }
 
 // ---- Records of a table that changed
 
-// Moves the facts of n records from place `from` on to place `to` and on, which is not behind it.
-fn move_facts(from: usize, to: usize, n: usize, extents: &mut [usize], marks: &mut [u8])
-    requires { (to ≤ from) × (from + n ≤ length extents.old) × (marks_each * (from + n) ≤ length marks.old) }
-    ensures moved { Moved from to n extents.old marks.old extents.new marks.new }
-    ensures unchanged { Unchanged to extents.old marks.old extents.new marks.new }
-{
-    let mut k = 0;
-    while k < n {
-        let here = from + k;
-        let m = MARKS * here;
-        let symbols = marks[m];
-        let named = marks[m + NAME];
-        let reach = marks[m + REACH];
-        let below = marks[m + REACH_BELOW];
-        extents[to + k] = extents[here];
-        put_marks(marks, to + k, symbols, named, reach, below);
-        k += 1;
-    }
-}
-
-// Keeps the facts of the nodes around record `at`: where what stands as a record's extent reaches no further, it and its marks are still right.
-fn mark_around(table: &[u8], at: usize, extents: &mut [usize], marks: &mut [u8])
+// Keeps the facts of the nodes around record `at`: where what stands as a record's extent reaches no further, its facts are still right.
+fn mark_around(table: &[u8], at: usize, facts: &mut [Facts])
     requires table_1 { IsTable table.now }
     requires table_2 { at ≤ record_count table.now }
-    requires table_3 { Known table.now extents.old marks.old at }
-    requires table_4 { OwnBefore table.now extents.old marks.old at at }
-    requires table_in_bounds { (record_count table.now ≤ length extents.old) × (marks_each * record_count table.now ≤ length marks.old) }
-    ensures { Surveyed table.now extents.new marks.new }
+    requires table_3 { Known table.now facts.old at }
+    requires table_4 { OwnBefore table.now facts.old at at }
+    requires table_in_bounds { record_count table.now ≤ length facts.old }
+    ensures { Surveyed table.now facts.new }
 {
-    let mut i = at;
-    while 0 < i {
-        i -= 1;
-        if at - i < extents[i] {
-            mark_record(table, i, extents, marks);
+    for i in (0..at).rev() {
+        if at - i < facts[i].records {
+            mark_record(table, i, facts);
         }
     }
 }
 
 // The facts of every record of a table that changed from record `at` on, but for its last `rest` records, whose facts stand from place `end` on. Only the
 // changed records are read again and the nodes around them.
-pub fn resurvey(
-    table: &[u8],
-    at: usize,
-    end: usize,
-    rest: usize,
-    extents: &mut [usize],
-    marks: &mut [u8],
-)
+pub fn resurvey(table: &[u8], at: usize, end: usize, rest: usize, facts: &mut [Facts])
     requires fact_1 { IsTable table.now }
-    requires fact_2 { Outdated table.now extents.old marks.old at end rest }
-    ensures { Surveyed table.now extents.new marks.new }
+    requires fact_2 { Outdated table.now facts.old at end rest }
+    ensures { Surveyed table.now facts.new }
 {
     let first = table.len() / RECORD_LENGTH - rest;
-    move_facts(end, first, rest, extents, marks);
-    mark_records(table, at, first, extents, marks);
-    mark_around(table, at, extents, marks);
+    facts.copy_within(end..end + rest, first);
+    mark_records(table, at, first, facts);
+    mark_around(table, at, facts);
 }

@@ -1,35 +1,35 @@
 -- By the two tests; the evaluator gives the block's time.
-use mathlib.Core.Path.{◌∙◌}
-use native.Mathlib.Omega.{arith}
+use Rattle.std.proofs.Common.{◌∙◌, arith}
 use Rattle.lists.specs.Reading.{value_at}
 use Rattle.table.proofs.Laws.Tables.{length-is, not-long}
 use Rattle.onestep.specs.Laws.Whole.{block_written, first-is, has-symbol, some-record, that-already}
 use Rattle.onestep.proofs.rule1_at.Goals as goal
 
-pub returns-then-marks-ne0 : goal.returns-then-marks-ne0
-returns-then-marks-ne0 c =
-    has-symbol _ c.requires.fact_1 _ _ c.requires.fact_2 c.if-marks-ne0.true
+pub returns-then-not-view : goal.returns-then-not-view
+returns-then-not-view c =
+    let s = c.requires.simplifiable in
+    has-symbol _ s c.args.view.facts.now _ (c.args.view.surveyed.each 0 (some-record _ s)) c.if-not-view.true
 
-pub is_bare-requires-clause-fact_1 : goal.is_bare-requires-clause-fact_1
-is_bare-requires-clause-fact_1 c = c.requires.fact_1.table
+pub bounds-view-0 : goal.bounds-view-0
+bounds-view-0 c = omega (arith, some-record _ c.requires.simplifiable, c.args.view.surveyed.room)
 
 pub is_bare-requires-clause-fact_2 : goal.is_bare-requires-clause-fact_2
-is_bare-requires-clause-fact_2 c = some-record _ c.requires.fact_1
+is_bare-requires-clause-fact_2 c = some-record _ c.requires.simplifiable
 
 pub returns-then-is_bare : goal.returns-then-is_bare
-returns-then-is_bare c =
-    that-already _ c.requires.fact_1 _ _ c.is_bare.ensures c.if-is_bare.true
+returns-then-is_bare c = that-already _ c.requires.simplifiable _ _ c.is_bare.ensures c.if-is_bare.true
 
 pub evaluate-requires : goal.evaluate-requires
-evaluate-requires c =
-    (not-long _ c.requires.fact_1.table, c.zero-list.ensures.proper.long)
+evaluate-requires c = (not-long _ c.requires.simplifiable.table, c.zero-list.ensures.proper.long)
 
 pub put_node-requires : goal.put_node-requires
 put_node-requires c =
-    omega (arith, c.requires.fact_4, length-is _ c.requires.fact_1.table, some-record _ c.requires.fact_1)
+    let s = c.requires.simplifiable in
+    omega (arith, c.requires.room, length-is _ s.table, some-record _ s)
 
 pub returns : goal.returns
 unfolding value_at
 returns c =
-    block_written _ c.requires.fact_1 _ _ _ _ _ c.requires.fact_2 c.if-marks-ne0.false c.is_bare.ensures c.if-is_bare.false
-    (c.value_at.ensures ∙ first-is _ c.requires.fact_1 c.evaluate.ensures) c.put_node.ensures.0 c.put_node.ensures.1
+    let s = c.requires.simplifiable in
+    block_written _ s c.args.view.facts.now _ _ _ _ (c.args.view.surveyed.each 0 (some-record _ s)) c.if-not-view.false c.is_bare.ensures c.if-is_bare.false
+    (c.value_at.ensures ∙ first-is _ s c.evaluate.ensures) c.put_node.ensures.0 c.put_node.ensures.1

@@ -1,5 +1,5 @@
 -- A table that a step changed: which of its subtrees are the old one's, and what is known of them.
-use Rattle.std.specs.Prelude.{◌≡◌, List, ◌++◌, ℕ, ◌+◌, ◌-◌, ◌*◌, ◌/◌, ◌≤◌, ◌<◌, get_or, take}
+use Rattle.std.specs.Prelude.{◌≡◌, List, ◌++◌, ℕ, ◌+◌, ◌-◌, ◌*◌, ◌/◌, ◌≤◌, ◌<◌, take}
 use Rattle.std.proofs.Math.Path.{ap, ap₂}
 use Rattle.std.proofs.Common.{sym, ◌∙◌, subst, append_assoc, length-append, length-drop, take-append-drop, length-take-le, take_at, take-take}
 use native.Mathlib.Omega.{arith}
@@ -14,10 +14,11 @@ use Rattle.table.proofs.Laws.Reading.{part-to}
 use Rattle.table.proofs.Laws.RoundTrip.{length-encode}
 use Rattle.table.proofs.Laws.Tables.{length-is}
 use Rattle.table.proofs.Laws.Trees.{some-records}
-use Rattle.subtrees.specs.Facts.{Outdated, Own, Surveyed}
+use Rattle.subtrees.specs.Facts.{Outdated, Own, Surveyed, extent_at}
+use Rattle.subtrees.specs.declared.Facts.{Facts}
 use Rattle.subtrees.specs.Parts.{subtree, trees_at}
 use Rattle.subtrees.specs.Laws.Forests.{SoundIn, row_back}
-use Rattle.subtrees.specs.Laws.Parts.{back_at, past-inside, records-at, sound-at, top-at}
+use Rattle.subtrees.specs.Laws.Parts.{back_at, past-inside, records-at, sized, sound-at, top-at}
 use Rattle.rewrite.specs.Laws.Records.{subtree-bytes, subtree-sound}
 use Rattle.searching.specs.Found.{NoRule, Placed, Settled}
 use Rattle.writing.specs.Records.{front, slice}
@@ -52,19 +53,19 @@ same-before b c s u at p q e j l o =
     let sound : SoundIn (t ▸ g) = (subtree-sound b s j l, sound-at c u (j + r)) in
     top-at c j (ap₂ forest count bytes ∙ row_back (t ▸ g) sound)
 
-module _ (b extents marks : List ℕ) (v : Surveyed b extents marks) (at n : ℕ) (out : List ℕ) (p : Placed b at (at + get_or extents at 0) n out) where
+module _ (b : List ℕ) (facts : List Facts) (v : Surveyed b facts) (at n : ℕ) (out : List ℕ) (p : Placed b at (at + extent_at facts at) n out) where
   -- where the subtree ended in whose place another stands now
   abbrev end : ℕ
-  end = at + get_or extents at 0
+  end = at + extent_at facts at
 
   abbrev new : List ℕ
   new = front at b ++ front n out
 
   s : IsTable b
-  s = v.sizes.table
+  s = v.table
 
   end-inside : end ≤ record_count b
-  end-inside = past-inside b extents v.sizes at p.inside
+  end-inside = past-inside b facts v at p.inside
 
   front_long : length (front at b) ≡ record_length * at
   front_long = length-take-le (record_length * at) b (omega (arith, p.inside, length-is b s))
@@ -97,47 +98,47 @@ module _ (b extents marks : List ℕ) (v : Surveyed b extents marks) (at n : ℕ
         ∙ drop-drop (record_length * k) (record_length * end) b ∙ ap (λ m. drop m b) near in
         ap top (ap₂ forest left bytes)
 
-    before : (j : ℕ) → j < record_count b → j + get_or extents j 0 ≤ at → Own (subtree new j) extents marks j
+    before : (j : ℕ) → j < record_count b → j + extent_at facts j ≤ at → Own (subtree new j) facts j
     before j l o =
-        let size = v.sizes.each j l in
+        let size = sized b facts v j l in
         let same = same-before b new s u at (omega (arith, p.inside)) (omega (arith, count)) same-front j l (omega (arith, o, size)) in
-        subst (λ t. Own t extents marks j) (sym same) (size, v.each j l)
+        subst (λ t. Own t facts j) (sym same) (v.each j l)
 
-    outdated : at + n ≤ record_count b → Outdated new extents marks at end (record_count b - end)
+    outdated : at + n ≤ record_count b → Outdated new facts at end (record_count b - end)
     outdated f = record {
       changed = omega (arith, count, p.count);
       fewer = omega (arith, count, f, end-inside);
-      room = (omega (arith, v.sizes.room, end-inside), omega (arith, v.room, end-inside));
-      behind = λ k l. subst (λ t. Own t extents marks (end + k)) (sym (same-behind k l)) (v.sizes.each (end + k) (omega (arith, l)), v.each (end + k) (omega (arith, l)));
+      room = omega (arith, v.room, end-inside);
+      behind = λ k l. subst (λ t. Own t facts (end + k)) (sym (same-behind k l)) (v.each (end + k) (omega (arith, l)));
       before = λ j l o. before j (omega (arith, l, p.inside)) o;
     }
 
-    settled : {extents' marks' : List ℕ} → Surveyed new extents' marks' → Settled new extents' at
-    settled w j l o =
-        let size = w.sizes.each j l in
+    settled : {facts' : List Facts} → Surveyed new facts' → Settled new facts' at
+    settled {facts'} w j l o =
+        let size = sized new facts' w j l in
         let same = same-before new b u s at (omega (arith, count)) (omega (arith, p.inside)) (sym same-front) j l (omega (arith, o, size)) in
         subst NoRule same (p.quiet j (omega (arith, o, size, some-records (subtree new j))))
 
 -- ---- the table in the first bytes of a buffer, and after the step
 
-module _ (work spare extents marks : List ℕ) (len at m : ℕ) (v : Surveyed (take len work) extents marks) (p : Placed (take len work) at (at + get_or extents at 0) m spare) (u : IsTable (front at (take len work) ++ front m spare))
+module _ (work spare : List ℕ) (facts : List Facts) (len at m : ℕ) (v : Surveyed (take len work) facts) (p : Placed (take len work) at (at + extent_at facts at) m spare) (u : IsTable (front at (take len work) ++ front m spare))
     (l : record_length * (at + m) ≤ len) (o : len ≤ length work) where
   records-in : record_count (take len work) ≡ len / record_length
   records-in = ap (λ n. n / record_length) (length-take-le len work o)
 
-  pub end-within : at + get_or extents at 0 ≤ len / record_length
-  end-within = omega (arith, records-in, past-inside (take len work) extents v.sizes at p.inside)
+  pub end-within : at + extent_at facts at ≤ len / record_length
+  end-within = omega (arith, records-in, past-inside (take len work) facts v at p.inside)
 
   module _ (new : List ℕ) (r : ℕ) (w : front r new ≡ front at work ++ slice spare 0 m) where
     pub edited-is : front r new ≡ front at (take len work) ++ front m spare
     edited-is = w ∙ ap (λ y. y ++ front m spare) (sym (take-take (record_length * at) len work (omega (arith, l))))
 
-    pub part-outdated : let b = take (record_length * r - 0) (drop 0 new) in IsTable b × Outdated b extents marks at (at + get_or extents at 0) (len / record_length - (at + get_or extents at 0))
+    pub part-outdated : let b = take (record_length * r - 0) (drop 0 new) in IsTable b × Outdated b facts at (at + extent_at facts at) (len / record_length - (at + extent_at facts at))
     part-outdated =
-        let rest : record_count (take len work) - (at + get_or extents at 0) ≡ len / record_length - (at + get_or extents at 0) = ap (λ n. n - (at + get_or extents at 0)) records-in in
-        rw (part-to new (record_length * r), edited-is) (u, subst (Outdated _ extents marks at (at + get_or extents at 0)) rest (outdated (take len work) extents marks v at m spare p u (omega (arith, records-in, l))))
+        let rest : record_count (take len work) - (at + extent_at facts at) ≡ len / record_length - (at + extent_at facts at) = ap (λ n. n - (at + extent_at facts at)) records-in in
+        rw (part-to new (record_length * r), edited-is) (u, subst (Outdated _ facts at (at + extent_at facts at)) rest (outdated (take len work) facts v at m spare p u (omega (arith, records-in, l))))
 
-    pub part-settled : {extents' marks' : List ℕ} → Surveyed (take (record_length * r - 0) (drop 0 new)) extents' marks' → Surveyed (front r new) extents' marks' × Settled (front r new) extents' at
-    part-settled {extents'} {marks'} q =
-        let x : Surveyed (front r new) extents' marks' = rw (part-to new (record_length * r)) at q in
-        (x, subst (λ b. Settled b extents' at) (sym edited-is) (settled (take len work) extents marks v at m spare p u (subst (λ b. Surveyed b extents' marks') edited-is x)))
+    pub part-settled : {facts' : List Facts} → Surveyed (take (record_length * r - 0) (drop 0 new)) facts' → Surveyed (front r new) facts' × Settled (front r new) facts' at
+    part-settled {facts'} q =
+        let x : Surveyed (front r new) facts' = rw (part-to new (record_length * r)) at q in
+        (x, subst (λ b. Settled b facts' at) (sym edited-is) (settled (take len work) facts v at m spare p u (subst (λ b. Surveyed b facts') edited-is x)))

@@ -1,11 +1,12 @@
 -- Rule 1: the whole table as one block; and a step, by rule 1 or by the search.
-use Rattle.std.specs.Prelude.{◌≡◌, Bool, not, true, List, [], ◌++◌, ℕ, ◌+◌, ◌*◌, ◌<◌, ◌≤◌, eqb, drop, get_or, length}
+use Rattle.std.specs.Prelude.{◌≡◌, Bool, not, true, List, [], ◌++◌, ℕ, ◌+◌, ◌*◌, ◌<◌, ◌≤◌, drop, get_or, length, Some, None}
+use Rattle.std.specs.declared.option.Option.{Option as Maybe}
+use Rattle.searching.specs.declared.Spot.{Spot}
 use Rattle.std.proofs.Math.Path.{refl, ap, sym}
 use Rattle.std.proofs.Common.{◌∙◌, append-nil, drop_of_length-le}
 use Rattle.std.proofs.Math.Bool.{false}
 use Rattle.std.proofs.Math.Option.{Option, none, some}
 use native.Mathlib.Omega.{arith}
-use borrow.Author.Tests.{eq-eqb, ne_eqb}
 use Rattle.booleans.specs.Tests.{◌and◌}
 use Rattle.table.specs.Numbers.{most_depth, record_length}
 use Rattle.table.specs.Table.{decode, encode, encodes, record_bytes, record_count}
@@ -22,11 +23,11 @@ use Rattle.evaluate.specs.declared.Valued.{Valued}
 use Rattle.lists.specs.Pairs.{top as top_pair}
 use Rattle.simplify.specs.Rules.{bare, leaf, rule1, when}
 use Rattle.simplify.specs.Steps.{also, inside, inside_in, or_else, step}
-use Rattle.subtrees.specs.Facts.{Extents, MarkedAt, symbols}
+use Rattle.subtrees.specs.Facts.{Own, Surveyed, extent_at, fact_at}
+use Rattle.subtrees.specs.declared.Facts.{Facts}
 use Rattle.subtrees.specs.Parts.{Simplifiable, subtree, trees_at}
-use Rattle.subtrees.specs.Laws.Facts.{free-is}
 use Rattle.table.proofs.Laws.Tables.{count-is, length-is}
-use Rattle.subtrees.specs.Laws.Parts.{root-at, top-at}
+use Rattle.subtrees.specs.Laws.Parts.{root-at, sized, top-at}
 use Rattle.writing.specs.Records.{front, node_of}
 use Rattle.rewrite.specs.Wrote.{Wrote}
 use Rattle.searching.specs.Found.{Placed}
@@ -36,9 +37,9 @@ use Rattle.table.specs.declared.Number.TheVariants.{Plain}
 use Rattle.table.specs.declared.Limit.TheVariants.{Unlimited}
 use Rattle.table.specs.declared.Kind.TheVariants.{Block}
 
-unfit : (t : Tree) (out : List ℕ) → (symbol_free t and not (bare t)) ≡ false → Wrote (also (λ u. u ▸ nil) (rule1 t)) 0 out
+unfit : (t : Tree) (out : List ℕ) → (symbol_free t and not (bare t)) ≡ false → Wrote (also (λ u. u ▸ nil) (rule1 t)) None out
 unfolding rule1 when also Wrote
-unfit t out e = rw e refl
+unfit t out e = rw e tt
 
 module _ (b : List ℕ) (s : Simplifiable b) where
   whole : subtree b 0 ≡ decode b
@@ -47,14 +48,14 @@ module _ (b : List ℕ) (s : Simplifiable b) where
   pub some-record : 0 < record_count b
   some-record = omega (arith, count-is b s.table, some-records (decode b))
 
-  free : (marks : List ℕ) → MarkedAt b marks 0 → symbol_free (decode b) ≡ eqb (get_or marks 0 0) 0
-  free marks m = sym (free-is (decode b)) ∙ ap (λ t. eqb (symbols t) 0) (sym whole) ∙ ap (λ x. eqb x 0) (sym m.symbols)
+  free : (facts : List Facts) → Own (subtree b 0) facts 0 → symbol_free (decode b) ≡ (fact_at facts 0).symbol_free
+  free facts m = ap symbol_free (sym whole) ∙ sym (ap (λ f. f.symbol_free) m)
 
-  pub has-symbol : (marks out : List ℕ) → MarkedAt b marks 0 → (get_or marks 0 0 ≡ 0 → ⊥) → Wrote (also (λ u. u ▸ nil) (rule1 (decode b))) 0 out
+  pub has-symbol : (facts : List Facts) (out : List ℕ) → Own (subtree b 0) facts 0 → (fact_at facts 0).symbol_free ≡ false → Wrote (also (λ u. u ▸ nil) (rule1 (decode b))) None out
   unfolding ◌and◌
-  has-symbol marks out m n = unfit (decode b) out (rw (free marks m ∙ ne_eqb (get_or marks 0 0) 0 n) refl)
+  has-symbol facts out m n = unfit (decode b) out (rw (free facts m ∙ n) refl)
 
-  pub that-already : (x : Bool) (out : List ℕ) → x ≡ bare (subtree b 0) → x ≡ true → Wrote (also (λ u. u ▸ nil) (rule1 (decode b))) 0 out
+  pub that-already : (x : Bool) (out : List ℕ) → x ≡ bare (subtree b 0) → x ≡ true → Wrote (also (λ u. u ▸ nil) (rule1 (decode b))) None out
   that-already x out e y = unfit (decode b) out (rw (ap bare (sym whole) ∙ sym e ∙ y) (no (symbol_free (decode b))))
     where
       no : (x : Bool) → (x and not true) ≡ false
@@ -70,11 +71,11 @@ module _ (b : List ℕ) (s : Simplifiable b) where
       let is = w.list (w.fits ∙ (e.holds s.fits).fits) in
       sym (first-top is.proper) ∙ ap top_pair is.pairs ∙ e.figure s.fits
 
-  pub block_written : (marks out : List ℕ) (x : Bool) (v r : ℕ) → MarkedAt b marks 0 → get_or marks 0 0 ≡ 0 → x ≡ bare (subtree b 0) → x ≡ false → v ≡ figure zeros (decode b)
-      → r ≡ 1 → front r out ≡ record_bytes (node_of (Block (Plain v)) Unlimited 0) 0 → Wrote (also (λ u. u ▸ nil) (rule1 (decode b))) r out
+  pub block_written : (facts : List Facts) (out : List ℕ) (x : Bool) (v r : ℕ) → Own (subtree b 0) facts 0 → (fact_at facts 0).symbol_free ≡ true → x ≡ bare (subtree b 0) → x ≡ false → v ≡ figure zeros (decode b)
+      → r ≡ 1 → front r out ≡ record_bytes (node_of (Block (Plain v)) Unlimited 0) 0 → Wrote (also (λ u. u ▸ nil) (rule1 (decode b))) (Some r) out
   unfolding rule1 when also Wrote ◌and◌ records_in records encode encodes leaf size
-  block_written marks out x v r m z e y f n w =
-      rw (free marks m ∙ eq-eqb (get_or marks 0 0) 0 z, ap bare (sym whole) ∙ sym e ∙ y, ← f) (omega arith, w ∙ rw (append-nil, append-nil) refl)
+  block_written facts out x v r m z e y f n w =
+      rw (free facts m ∙ z, ap bare (sym whole) ∙ sym e ∙ y, ← f) (omega arith, w ∙ rw (append-nil, append-nil) refl)
 
 -- ---- rule 1 first, then the search
 
@@ -87,35 +88,37 @@ whole_row t = go (rule1 t) (inside t)
     go none (some u) = unfold also in unfold or_else in refl
     go (some u) y = unfold also in unfold or_else in refl
 
-rule1-fits : (b : List ℕ) (y : Option Forest) (r : ℕ) (out : List ℕ) (x : Option Tree) → (r ≡ 0 → ⊥) → Wrote (also (λ u. u ▸ nil) x) r out → Rewritten (or_else (also (λ u. u ▸ nil) x) y) b 0 r out
-unfolding also or_else Wrote Rewritten
-rule1-fits b y r out none n w = absurd (n w)
-rule1-fits b y r out (some u) n w = (omega (arith, n), omega (arith, w.0), omega arith, w.1)
+rule1-fits : (b : List ℕ) (y : Option Forest) (r : ℕ) (out : List ℕ) (x : Option Tree) → Wrote (also (λ u. u ▸ nil) x) (Some r) out
+    → Rewritten (or_else (also (λ u. u ▸ nil) x) y) b (Some (record { at = 0; len = r })) out
+unfolding also or_else Wrote Rewritten records_in
+rule1-fits b y r out none w = absurd w
+rule1-fits b y r out (some u) w = (omega (arith, w.0, some-records u), omega (arith, w.0), omega arith, w.1)
 
-rule1-not : (b : List ℕ) (y : Option Forest) (at n : ℕ) (out mid : List ℕ) (x : Option Tree) → Wrote (also (λ u. u ▸ nil) x) 0 mid → Rewritten y b at n out → Rewritten (or_else (also (λ u. u ▸ nil) x) y) b at n out
-unfolding also or_else Wrote records_in
-rule1-not b y at n out mid none w v = v
-rule1-not b y at n out mid (some u) w v = absurd (omega (arith, w.0, some-records u))
+rule1-not : (b : List ℕ) (y : Option Forest) (spot : Maybe Spot) (out mid : List ℕ) (x : Option Tree) → Wrote (also (λ u. u ▸ nil) x) None mid → Rewritten y b spot out
+    → Rewritten (or_else (also (λ u. u ▸ nil) x) y) b spot out
+unfolding also or_else Wrote
+rule1-not b y spot out mid none w v = v
+rule1-not b y spot out mid (some u) w v = absurd w
 
 module _ (b : List ℕ) (s : Simplifiable b) where
-  pub by-rule1 : (r : ℕ) (out : List ℕ) → (r ≡ 0 → ⊥) → Wrote (also (λ u. u ▸ nil) (rule1 (decode b))) r out → Rewritten (stepped (decode b)) b 0 r out
-  by-rule1 r out n w = rw (whole_row (decode b)) (rule1-fits b _ r out (rule1 (decode b)) n w)
+  pub by-rule1 : (r : ℕ) (out : List ℕ) → Wrote (also (λ u. u ▸ nil) (rule1 (decode b))) (Some r) out → Rewritten (stepped (decode b)) b (Some (record { at = 0; len = r })) out
+  by-rule1 r out w = rw (whole_row (decode b)) (rule1-fits b _ r out (rule1 (decode b)) w)
 
-  pub by-search : (at n : ℕ) (out mid : List ℕ) → Wrote (also (λ u. u ▸ nil) (rule1 (decode b))) 0 mid → Rewritten (inside_in (trees_at b 0)) b at n out → Rewritten (stepped (decode b)) b at n out
-  by-search at n out mid w v = rw (whole_row (decode b)) (rule1-not b _ at n out mid (rule1 (decode b)) w (rw (root-at b s.table) at v))
+  pub by-search : (spot : Maybe Spot) (out mid : List ℕ) → Wrote (also (λ u. u ▸ nil) (rule1 (decode b))) None mid → Rewritten (inside_in (trees_at b 0)) b spot out → Rewritten (stepped (decode b)) b spot out
+  by-search spot out mid w v = rw (whole_row (decode b)) (rule1-not b _ spot out mid (rule1 (decode b)) w (rw (root-at b s.table) at v))
 
   -- rule 1 leaves nothing behind the one tree
-  pub placed-whole : (extents : List ℕ) → Extents b extents → (r : ℕ) (out : List ℕ) → (r ≡ 0 → ⊥) → Wrote (also (λ u. u ▸ nil) (rule1 (decode b))) r out → Placed b 0 (0 + get_or extents 0 0) r out
-  placed-whole extents x r out n w = go (rule1 (decode b)) w
+  pub placed-whole : (facts : List Facts) → Surveyed b facts → (r : ℕ) (out : List ℕ) → Wrote (also (λ u. u ▸ nil) (rule1 (decode b))) (Some r) out → Placed b 0 (0 + extent_at facts 0) r out
+  placed-whole facts x r out w = go (rule1 (decode b)) w
     where
-      past : record_count b ≤ 0 + get_or extents 0 0
-      past = omega (arith, x.each 0 (some-record b s), ap records (whole b s), count-is b s.table)
+      past : record_count b ≤ 0 + extent_at facts 0
+      past = omega (arith, sized b facts x 0 (some-record b s), ap records (whole b s), count-is b s.table)
 
-      nothing : drop (record_length * (0 + get_or extents 0 0)) b ≡ []
-      nothing = let long : length b ≤ record_length * (0 + get_or extents 0 0) = omega (arith, past, length-is b s.table) in drop_of_length-le b long
+      nothing : drop (record_length * (0 + extent_at facts 0)) b ≡ []
+      nothing = let long : length b ≤ record_length * (0 + extent_at facts 0) = omega (arith, past, length-is b s.table) in drop_of_length-le b long
 
-      go : (t : Option Tree) → Wrote (also (λ u. u ▸ nil) t) r out → Placed b 0 (0 + get_or extents 0 0) r out
-      go none v = absurd (n (unfold also in unfold Wrote in v))
+      go : (t : Option Tree) → Wrote (also (λ u. u ▸ nil) t) (Some r) out → Placed b 0 (0 + extent_at facts 0) r out
+      go none v = absurd (unfold also in unfold Wrote in v)
       go (some u) v = unfold also in unfold Wrote in unfold records_in in unfold encodes in record {
         quiet = λ j l. absurd (omega (arith, l));
         inside = some-record b s;

@@ -2,7 +2,7 @@
 use mathlib.Core.Path.{◌≡◌, ap, ◌∙◌}
 use Prim.Native.Nat.{◌+◌, ◌-◌}
 use native.Mathlib.Omega.{arith}
-use lib.ListN.{get_or}
+use Rattle.subtrees.specs.Facts.{extent_at}
 use Rattle.table.specs.Trees.{records_in}
 use Rattle.simplify.specs.Rules.{others}
 use Rattle.subtrees.specs.Parts.{trees_at}
@@ -10,16 +10,15 @@ use Rattle.table.proofs.Laws.Tables.{few-records}
 use Rattle.rules2to7.specs.Blocks.{spanning}
 use Rattle.rules2to7.specs.Laws.Blocks.{Places, merge-wrote, places, spans}
 use Rattle.rules2to7.proofs.merge_bares.Goals.{Start}
-use Rattle.rules2to7.proofs.merge_bares.Goals.{Start}
 use Rattle.rules2to7.proofs.merge_bares.Goals as goal
 
 -- where the parts of the node stand
-stand : (s : Start) → Places s.args.table.now s.args.extents.now s.args.i s.args.q s.args.bares s.requires.parted
-stand s = places _ _ s.requires.extents_1 _ _ _ s.requires.extents_2 s.requires.parted
+stand : (s : Start) → Places s.args.view.table.now s.args.view.facts.now s.args.i s.args.q s.args.bares s.requires.parted
+stand s = places _ _ s.args.view.surveyed _ _ _ s.requires.inside s.requires.parted
 
-kept : (s : Start) → records_in (others (spanning (trees_at s.args.table.now s.args.q) (s.args.i + get_or s.args.extents.now s.args.i 0 - s.args.q)))
+kept : (s : Start) → records_in (others (spanning (trees_at s.args.view.table.now s.args.q) (s.args.i + extent_at s.args.view.facts.now s.args.i - s.args.q)))
     ≡ records_in (others s.requires.parted.second)
-kept s = let p = stand s in ap (λ f. records_in (others f)) (spans s.args.table.now s.args.q _ p.standing ∙ p.are)
+kept s = let p = stand s in ap (λ f. records_in (others f)) (spans s.args.view.table.now s.args.q _ p.standing ∙ p.are)
 
 pub overflow_sub-count : goal.overflow_sub-count
 overflow_sub-count c =
@@ -38,7 +37,7 @@ put_node-second-requires c =
     omega (arith, p.extent, p.inside, p.long, a.place, a.fewer, c.put_node-first.ensures.0, c.copy_records-block.ensures.0)
 
 pub overflow_add-end : goal.overflow_add-end
-overflow_add-end c = omega (arith, (stand (goal.at.overflow_add-end c).Start).inside, few-records c.args.table.now c.requires.extents_1.table)
+overflow_add-end c = omega (arith, (stand (goal.at.overflow_add-end c).Start).inside, few-records c.args.view.table.now c.args.view.surveyed.table)
 
 pub copy_others-later-requires : goal.copy_others-later-requires
 copy_others-later-requires c =
@@ -46,8 +45,7 @@ copy_others-later-requires c =
     let a = c.requires.parted in
     let k = kept (goal.at.copy_others-later-requires c).Start in
     record {
-      extents_1 = c.requires.extents_1;
-      extents_2 = p.standing;
+      standing = p.standing;
       end_in_bounds = omega (arith, p.extent, p.inside, p.long, a.place, a.fewer, c.put_node-first.ensures.0, c.copy_records-block.ensures.0, c.put_node-second.ensures.0);
     }
 
@@ -62,7 +60,7 @@ copy_rest-requires c =
 
 pub returns : goal.returns
 returns c =
-    λ a. merge-wrote _ _ c.requires.extents_1 _ _ _ c.requires.extents_2 a _ _ _ _ _ _ _ _ _ _ _ _ _
+    λ a. merge-wrote _ _ c.args.view.surveyed _ _ _ c.requires.inside a _ _ _ _ _ _ _ _ _ _ _ _ _
     c.node_at-node.ensures
     c.children_at.ensures.0
     c.children_at.ensures.1

@@ -1,60 +1,46 @@
 -- The first child that gives way is dissolved; where there is none, the rule does not fit.
-use Rattle.std.specs.Prelude.{not}
-use Rattle.std.proofs.Math.Path.{ap}
-use native.Mathlib.Omega.{arith}
-use Rattle.simplify.specs.Rules.{rule2}
+use Rattle.std.proofs.Common.{◌≡◌, Some, arith, rules}
+use Rattle.simplify.specs.Rules.{gives, rule2}
+use Rattle.subtrees.specs.Parts.{trees_at}
+use Rattle.subtrees.specs.Children.{child_at}
 use Rattle.rewrite.specs.Laws.Records.{no-sum}
 use Rattle.rules2to7.specs.Laws.Dissolving.{gave-way, giver, giver-counts, none-gives, rule2-no-sum}
-use borrow.Author.Rules.{rules}
+use Rattle.rules2to7.proofs.rule2_at.Goals.{In_ok-p}
 use Rattle.rules2to7.proofs.rule2_at.Goals as goal
 
 pub returns-then-not-is_sum : goal.returns-then-not-is_sum
 returns-then-not-is_sum c =
-    let a = c.args in
-    let s = c.requires.fact_1 in
-    no-sum a.table.now s.table a.i c.requires.fact_2 rule2 _ rule2-no-sum c.node_at-node.ensures c.is_sum.ensures (ap not c.if-not-is_sum.true)
+    let v = c.args.view in
+    no-sum v.table.now v.surveyed.table c.args.i c.requires.inside rule2 _ rule2-no-sum c.node_at-node.ensures c.is_sum.ensures c.if-not-is_sum.true
 
-pub returns-then-p-eq0 : goal.returns-then-p-eq0
-returns-then-p-eq0 c =
-    let a = c.args in
-    let s = c.requires.fact_1 in
-    none-gives a.table.now s.table a.i c.requires.fact_2 _ c.node_at-node.ensures c.children_at-count.ensures.0 c.first_child-p.ensures c.if-p-eq0.true
+pub returns-in_err-p : goal.returns-in_err-p
+returns-in_err-p c =
+    let v = c.args.view in
+    rw c.from_residual.ensures (none-gives v.table.now v.surveyed.table c.args.i c.requires.inside _ c.node_at-node.ensures c.children_at-count.ensures.0
+    (c.in_err-p.ensures (gives c.node_at-node.result.kind c.children_at-count.result) (λ p r l e. search rules)))
+
+-- the child that was found
+found : (c : In_ok-p) → let s = c in Some c.in_ok-p.p ≡ child_at (gives s.node_at-node.result.kind s.children_at-count.result) s.args.i (trees_at s.args.view.table.now s.args.i)
+found c = let s = c in c.in_ok-p.ensures (gives s.node_at-node.result.kind s.children_at-count.result) (λ p r l e. search rules)
 
 pub children_at-more-requires : goal.children_at-more-requires
 children_at-more-requires c =
-    let a = c.args in
-    let s = c.requires.fact_1 in
-    (giver a.table.now s.table a.i c.requires.fact_2 c.node_at-node.ensures c.children_at-count.ensures.0 c.first_child-p.ensures c.if-p-eq0.false).1.inside
+    let v = c.args.view in
+    (giver v.table.now v.surveyed.table c.args.i c.requires.inside c.node_at-node.ensures c.children_at-count.ensures.0 (found c)).1.inside
 
 pub overflow_sub-all : goal.overflow_sub-all
 overflow_sub-all c =
-    let a = c.args in
-    let s = c.requires.fact_1 in
-    let some = giver-counts a.table.now s.table a.i c.requires.fact_2 c.node_at-node.ensures c.children_at-count.ensures.0 c.first_child-p.ensures c.if-p-eq0.false c.children_at-more.ensures.0 in
-    search rules
+    let v = c.args.view in
+    giver-counts v.table.now v.surveyed.table c.args.i c.requires.inside c.node_at-node.ensures c.children_at-count.ensures.0 (found (goal.at.overflow_sub-all c).In_ok-p) c.children_at-more.ensures.0
 
 pub dissolve_at-requires : goal.dissolve_at-requires
 dissolve_at-requires c =
-    let a = c.args in
-    let s = c.requires.fact_1 in
-    let (_, g) = giver a.table.now s.table a.i c.requires.fact_2 c.node_at-node.ensures c.children_at-count.ensures.0 c.first_child-p.ensures c.if-p-eq0.false in
-    (omega (arith, g.place), g.inside, c.requires.fact_3)
+    let v = c.args.view in
+    let (_, g) = giver v.table.now v.surveyed.table c.args.i c.requires.inside c.node_at-node.ensures c.children_at-count.ensures.0 (found (goal.at.dissolve_at-requires c).In_ok-p) in
+    (omega (arith, g.place), g.inside, c.requires.room)
 
 pub returns : goal.returns
 returns c =
-    let a = c.args in
-    let s = c.requires.fact_1 in
-    gave-way
-    a.table.now
-    s.table
-    a.i
-    c.requires.fact_2
-    _
-    c.node_at-node.ensures
-    c.is_sum.ensures
-    (ap not c.if-not-is_sum.false)
-    c.children_at-count.ensures.0
-    c.first_child-p.ensures
-    c.if-p-eq0.false
-    c.children_at-more.ensures.0
-    c.dissolve_at.ensures
+    let v = c.args.view in
+    gave-way v.table.now v.surveyed.table c.args.i c.requires.inside _ c.node_at-node.ensures c.is_sum.ensures c.if-not-is_sum.false c.children_at-count.ensures.0
+    (found (goal.at.returns c).In_ok-p) c.children_at-more.ensures.0 c.dissolve_at.ensures

@@ -1,7 +1,5 @@
 -- The child stands at the next record: it is copied from there on, or takes the node's limit.
-use Rattle.std.specs.Prelude.{not}
-use Rattle.std.proofs.Math.Path.{ap}
-use native.Mathlib.Omega.{arith}
+use Rattle.std.proofs.Common.{arith}
 use Rattle.simplify.specs.Rules.{rule3}
 use Rattle.rules2to7.specs.Laws.Alone.{child-alone, child-inside, child-limited, many-children, rule3-no-sum}
 use Rattle.rewrite.specs.Laws.Records.{no-sum}
@@ -9,63 +7,28 @@ use Rattle.rules2to7.proofs.rule3_at.Goals as goal
 
 pub returns-then-not-is_sum : goal.returns-then-not-is_sum
 returns-then-not-is_sum c =
-    let a = c.args in
-    let s = c.requires.fact_1 in
-    no-sum a.table.now s.table a.i c.requires.fact_2 rule3 _ rule3-no-sum c.node_at-node.ensures c.is_sum.ensures (ap not c.if-not-is_sum.true)
+    let v = c.args.view in
+    no-sum v.table.now v.surveyed.table c.args.i c.requires.inside rule3 _ rule3-no-sum c.node_at-node.ensures c.is_sum.ensures c.if-not-is_sum.true
 
 pub returns-then-children_at-ne1 : goal.returns-then-children_at-ne1
 returns-then-children_at-ne1 c =
-    let a = c.args in
-    let s = c.requires.fact_1 in
-    many-children a.table.now s.table a.i c.requires.fact_2 _ c.children_at.ensures.0 c.if-children_at-ne1.true
+    let v = c.args.view in
+    many-children v.table.now v.surveyed.table c.args.i c.requires.inside _ c.children_at.ensures.0 c.if-children_at-ne1.true
 
 pub returns-then-is_unlimited : goal.returns-then-is_unlimited
 returns-then-is_unlimited c =
-    let a = c.args in
-    let s = c.requires.fact_1 in
+    let v = c.args.view in
     let (r, e) = c.copy_rest.ensures in
-    child-alone
-    a.table.now
-    s.table
-    a.i
-    c.requires.fact_2
-    _
-    c.node_at-node.ensures
-    c.is_sum.ensures
-    (ap not c.if-not-is_sum.false)
-    c.children_at.ensures.0
-    c.if-children_at-ne1.false
-    c.is_unlimited.ensures
-    c.if-is_unlimited.true
-    (omega arith)
-    e
+    child-alone v.table.now v.surveyed.table c.args.i c.requires.inside _ c.node_at-node.ensures c.is_sum.ensures c.if-not-is_sum.false
+    c.children_at.ensures.0 c.if-children_at-ne1.false c.is_unlimited.ensures c.if-is_unlimited.true (omega arith) e
 
-pub relimit_at-requires : goal.relimit_at-requires
-relimit_at-requires c =
-    let a = c.args in
-    let s = c.requires.fact_1 in
-    record {
-      fact_1 = s.table;
-      fact_2 = child-inside a.table.now s.table a.i c.requires.fact_2 c.children_at.ensures.0 c.if-children_at-ne1.false;
-      fact_3 = c.requires.fact_3;
-    }
+pub relimit_at-requires-clause-fact_2 : goal.relimit_at-requires-clause-fact_2
+relimit_at-requires-clause-fact_2 c =
+    let v = c.args.view in
+    child-inside v.table.now v.surveyed.table c.args.i c.requires.inside c.children_at.ensures.0 c.if-children_at-ne1.false
 
 pub returns : goal.returns
 returns c =
-    let a = c.args in
-    let s = c.requires.fact_1 in
-    child-limited
-    a.table.now
-    s.table
-    a.i
-    c.requires.fact_2
-    _
-    _
-    c.node_at-node.ensures
-    c.is_sum.ensures
-    (ap not c.if-not-is_sum.false)
-    c.children_at.ensures.0
-    c.if-children_at-ne1.false
-    c.is_unlimited.ensures
-    c.if-is_unlimited.false
-    c.relimit_at.ensures
+    let v = c.args.view in
+    child-limited v.table.now v.surveyed.table c.args.i c.requires.inside _ _ c.node_at-node.ensures c.is_sum.ensures c.if-not-is_sum.false
+    c.children_at.ensures.0 c.if-children_at-ne1.false c.is_unlimited.ensures c.if-is_unlimited.false c.relimit_at.ensures

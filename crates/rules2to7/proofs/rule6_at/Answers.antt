@@ -1,39 +1,14 @@
--- The rule asks for a sequence and two blocks (`Asks`), and the children stand in one row (`all-parted`).
-use Rattle.std.specs.Prelude.{not}
-use Rattle.std.proofs.Math.Path.{ap}
-use mathlib.Core.Path.{◌≡◌, ap, ◌∙◌}
-use Prim.Native.Nat.{◌*◌}
-use lib.ListN.{drop}
-use Rattle.table.specs.Numbers.{record_length}
+-- The rule asks for a sequence and two blocks (`Asks`), and the children stand in one row (`all-stand`).
 use Rattle.table.specs.declared.Kind.TheVariants.{Sequence}
-use Rattle.table.specs.Table.{first_node}
 use Rattle.simplify.specs.Rules.{rule6}
-use Rattle.simplify.specs.Same.{same_kind}
-use Rattle.rules2to7.specs.Laws.Blocks.{all-parted, asks-6, rule-few, rule-other, rule6-wrote}
-use Rattle.rules2to7.proofs.rule6_at.Goals.{After-same_kind}
+use Rattle.rules2to7.specs.Laws.Blocks.{all-stand, asks-6, rule-unfit, rule6-wrote}
 use Rattle.rules2to7.proofs.rule6_at.Goals as goal
 
--- the test is of the node's kind, as its bytes have it
-test : (c : After-same_kind) → let s = c in c.same_kind.result ≡ same_kind (first_node (drop (record_length * s.args.i) s.args.table.now)).kind Sequence
-test c = c.same_kind.ensures ∙ ap (λ n. same_kind n.kind Sequence) c.node_at-node.ensures
-
-pub returns-then-not-same_kind : goal.returns-then-not-same_kind
-returns-then-not-same_kind c =
-    rule-other Sequence rule6 _ asks-6 _ c.requires.fact_1.table _ c.requires.fact_2 _ _ (test (goal.at.returns-then-not-same_kind c).After-same_kind) (ap not c.if-not-same_kind.true)
-
-pub returns-then-count-lt2 : goal.returns-then-count-lt2
-returns-then-count-lt2 c =
-    rule-few Sequence rule6 _ asks-6 _ c.requires.fact_1.table _ c.requires.fact_2 _ _ c.bares_in-found.ensures c.if-count-lt2.true
-
-pub merge_bares-requires-clause-extents_1 : goal.merge_bares-requires-clause-extents_1
-merge_bares-requires-clause-extents_1 c = c.requires.fact_1
-
-pub merge_bares-requires-clause-extents_2 : goal.merge_bares-requires-clause-extents_2
-merge_bares-requires-clause-extents_2 c = c.requires.fact_2
+pub returns-in_err-found : goal.returns-in_err-found
+returns-in_err-found c = rw c.from_residual.ensures (rule-unfit Sequence rule6 _ asks-6 _ c.args.view.surveyed.table _ c.requires.inside _ c.in_err-found.ensures)
 
 pub merge_bares-requires-clause-parted : goal.merge_bares-requires-clause-parted
-merge_bares-requires-clause-parted c = all-parted _ c.requires.fact_1.table _ c.requires.fact_2 _ c.bares_in-found.ensures c.if-count-lt2.false
+merge_bares-requires-clause-parted c = all-stand _ c.args.view.surveyed.table _ c.requires.inside _ c.in_ok-found.ensures
 
 pub returns : goal.returns
-returns c =
-    rule6-wrote _ c.requires.fact_1.table _ c.requires.fact_2 _ c.bares_in-found.ensures c.if-count-lt2.false _ (test (goal.at.returns c).After-same_kind) (ap not c.if-not-same_kind.false) _ _ c.merge_bares.ensures
+returns c = rule6-wrote _ c.args.view.surveyed.table _ c.requires.inside _ c.in_ok-found.ensures _ _ c.merge_bares.ensures

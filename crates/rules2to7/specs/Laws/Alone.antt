@@ -1,11 +1,11 @@
 -- A node of one child, in trees and in records: rule 3.
-use Rattle.std.specs.Prelude.{◌≡◌, Bool, false, cond, not, List, ◌++◌, ℕ, ◌+◌, ◌*◌, ◌-◌, ◌<◌, drop}
+use Rattle.std.specs.Prelude.{◌≡◌, Bool, false, cond, List, ◌++◌, ℕ, ◌+◌, ◌*◌, ◌-◌, ◌<◌, drop, Some, None}
+use Rattle.std.specs.declared.option.Option.{Option as Maybe}
 use Rattle.std.proofs.Math.Path.{refl, ap, ap₂}
 use Rattle.std.proofs.Common.{sym, ◌∙◌}
 use Rattle.std.proofs.Math.Bool.{true}
 use Rattle.std.proofs.Math.Option.{Option, none, some}
 use native.Mathlib.Omega.{arith}
-use borrow.Author.Tests.{not-false, not-true}
 use Rattle.table.specs.Numbers.{record_length}
 use Rattle.table.specs.Table.{child_byte, first_node, record_bytes, record_count}
 use Rattle.table.specs.Trees.{Forest, Tree, nil, node, ◌▸◌, ◌⧺◌, records, records_in, size}
@@ -72,13 +72,13 @@ module _ (b : List ℕ) (s : IsTable b) (p : ℕ) (l : p < record_count b) where
   limitless : {n : Node} {x : Bool} → n ≡ first_node (drop (record_length * p) b) → x ≡ is_unlimited n.limit → is_unlimited (it b s p l).own.limit ≡ x
   limitless e d = own-test b s p l (λ (k : Node). is_unlimited k.limit) e d
 
-  pub limited : (m : Limit) (out : List ℕ) {n : Node} {x : Bool} → n ≡ first_node (drop (record_length * p) b) → x ≡ is_unlimited n.limit → not x ≡ true
-      → Wrote (relimited m (trees_at b p)) 0 out
-  limited m out {x = x} e d t = wrote_none _ out (relimit-is m false (limitless e d ∙ not-true x t))
+  pub limited : (m : Limit) (out : List ℕ) {n : Node} {x : Bool} → n ≡ first_node (drop (record_length * p) b) → x ≡ is_unlimited n.limit → x ≡ false
+      → Wrote (relimited m (trees_at b p)) None out
+  limited m out {x = x} e d t = wrote_none _ out (relimit-is m false (limitless e d ∙ t))
 
   pub unlimited : (m : Limit) (out : List ℕ) {n : Node} {x : Bool} {r : ℕ} {y : List ℕ} → n ≡ first_node (drop (record_length * p) b)
-      → x ≡ is_unlimited n.limit → not x ≡ false → r ≡ 1 + (record_count b - (p + 1)) → y ≡ record_bytes (node_of n.kind m n.address) (child_byte (drop (record_length * p) b))
-      → front r out ≡ y ++ slice b (p + 1) (record_count b - (p + 1)) → Wrote (relimited m (trees_at b p)) r out
+      → x ≡ is_unlimited n.limit → x ≡ true → r ≡ 1 + (record_count b - (p + 1)) → y ≡ record_bytes (node_of n.kind m n.address) (child_byte (drop (record_length * p) b))
+      → front r out ≡ y ++ slice b (p + 1) (record_count b - (p + 1)) → Wrote (relimited m (trees_at b p)) (Some r) out
   unfolding Wrote records records_in
   unlimited m out {n} {x} {r} {y} e d t k f g =
       let h = it b s p l in
@@ -87,13 +87,13 @@ module _ (b : List ℕ) (s : IsTable b) (p : ℕ) (l : p < record_count b) where
       let top : y ≡ record_bytes (node_of h.own.kind m h.own.address) (size h.kids) =
       f ∙ ap₂ (λ (z : Node) (j : ℕ). record_bytes (node_of z.kind m z.address) j) (e ∙ node_at b p h) (count_at b p h) in
       wrote_as
-      r
+      (Some r)
       out
-      (relimit-is m true (limitless e d ∙ not-false x t))
+      (relimit-is m true (limitless e d ∙ t))
       (omega arith, g ∙ rw (top, tail_at b s (p + 1), h.next) (sym (row-bytes (node_of h.own.kind m h.own.address) h.kids h.later)))
 
 module _ (b : List ℕ) (s : IsTable b) (i : ℕ) (l : i < record_count b) where
-  pub many-children : (out : List ℕ) {c : ℕ} → c ≡ child_byte (drop (record_length * i) b) → (c ≡ 1 → ⊥) → Wrote (rule_at rule3 (trees_at b i)) 0 out
+  pub many-children : (out : List ℕ) {c : ℕ} → c ≡ child_byte (drop (record_length * i) b) → (c ≡ 1 → ⊥) → Wrote (rule_at rule3 (trees_at b i)) None out
   many-children out d z =
       let h = it b s i l in
       unfit-at b s i l rule3 out (rule3-many h.own h.kids (λ (o : size h.kids ≡ 1). z (d ∙ count_at b i h ∙ o)))
@@ -108,17 +108,17 @@ module _ (b : List ℕ) (s : IsTable b) (i : ℕ) (l : i < record_count b) where
   rule3-row = rule-at b s i l rule3 _ refl
 
   -- an unlimited node: its child, and what stands after it
-  pub child-alone : (out : List ℕ) {n : Node} {c r : ℕ} {x u : Bool} → n ≡ first_node (drop (record_length * i) b) → x ≡ is_sum n.kind → not x ≡ false
+  pub child-alone : (out : List ℕ) {n : Node} {c r : ℕ} {x u : Bool} → n ≡ first_node (drop (record_length * i) b) → x ≡ is_sum n.kind → x ≡ true
       → c ≡ child_byte (drop (record_length * i) b) → c ≡ 1 → u ≡ is_unlimited n.limit → u ≡ true → r ≡ record_count b - (i + 1)
-      → front r out ≡ slice b (i + 1) (record_count b - (i + 1)) → Wrote (rule_at rule3 (trees_at b i)) r out
+      → front r out ≡ slice b (i + 1) (record_count b - (i + 1)) → Wrote (rule_at rule3 (trees_at b i)) (Some r) out
   child-alone out {r = r} e dx tx d o du tu k g =
       let h = it b s i l in
       let row : rule_at rule3 (trees_at b i) ≡ some (trees_at b (i + 1)) =
       rule3-row ∙ rule3-bare h.own h.kids h.later (is-sum-at b s i l e dx tx) (one-child d o) (limitless b s i l e du ∙ tu) ∙ ap some (sym h.next) in
-      wrote_as r out row (rest-written b s (i + 1) r out k g)
+      wrote_as (Some r) out row (rest-written b s (i + 1) r out k g)
 
   -- a limited one: its child takes the limit, where it has none
-  pub child-limited : (r : ℕ) (out : List ℕ) {n : Node} {c : ℕ} {x u : Bool} → n ≡ first_node (drop (record_length * i) b) → x ≡ is_sum n.kind → not x ≡ false
+  pub child-limited : (r : Maybe ℕ) (out : List ℕ) {n : Node} {c : ℕ} {x u : Bool} → n ≡ first_node (drop (record_length * i) b) → x ≡ is_sum n.kind → x ≡ true
       → c ≡ child_byte (drop (record_length * i) b) → c ≡ 1 → u ≡ is_unlimited n.limit → u ≡ false
       → Wrote (relimited n.limit (trees_at b (i + 1))) r out → Wrote (rule_at rule3 (trees_at b i)) r out
   child-limited r out {n} e dx tx d o du tu w =

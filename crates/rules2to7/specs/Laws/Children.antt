@@ -1,48 +1,39 @@
--- Tests of the tree at a record, and the first child that passes one.
-use Rattle.std.specs.Prelude.{◌≡◌, refl, Bool, true, false, ◌&&◌, ◌||◌, List, ℕ, suc, ◌+◌, ◌*◌, ◌-◌, ◌<◌, ◌≤◌, T, eqb, leb, drop, get_or}
+-- Tests of the tree at a record.
+use Rattle.std.specs.Prelude.{◌≡◌, refl, Bool, ◌&&◌, List, ℕ, suc, ◌+◌, ◌*◌, ◌≤◌, T, eqb, leb, drop}
 use Rattle.std.proofs.Math.Path.{ap, sym}
-use Rattle.std.proofs.Common.{◌∙◌, add_assoc, add-zero, arith, leb→le}
-use Rattle.std.proofs.Math.Bool.{cond}
+use Rattle.std.proofs.Common.{◌∙◌, arith, leb→le}
 use Rattle.booleans.specs.Tests.{◌and◌}
 use Rattle.booleans.specs.Laws.{and_is, both}
 use Rattle.table.specs.Numbers.{most_children, most_time, record_length}
 use Rattle.table.specs.Questions.{kind_in_range, listed, time_in_range}
-use Rattle.table.specs.Table.{child_byte, first_node, record_count}
-use Rattle.table.specs.Trees.{Forest, Tree, records, size}
+use Rattle.table.specs.Table.{child_byte, first_node}
+use Rattle.table.specs.Trees.{Tree, size}
 use Rattle.evaluate.specs.Closed.{is_unlimited}
 use Rattle.simplify.specs.Rules.{bare, gives, is_zero, time_of, time_of_kind}
 use Rattle.simplify.specs.Same.{same_kind}
-use Rattle.subtrees.specs.Parts.{subtree, trees_at}
-use Rattle.subtrees.specs.Facts.{Extents}
-use Rattle.subtrees.specs.Laws.Parts.{Here, Next, Row, here-at, kids-row, next_row, row-end, top-at}
+use Rattle.subtrees.specs.Parts.{subtree}
+use Rattle.subtrees.specs.Laws.Parts.{Here, top-at}
+use Rattle.rewrite.specs.Bare.{bare_time}
+use Rattle.rewrite.specs.Laws.Records.{none-no, some-yes}
+use Rattle.std.specs.Prelude.{Some, None, false}
 use Rattle.subtrees.specs.Laws.Records.{count_at, node_at}
 use Rattle.rules2to7.specs.Nodes.{Block, Choice, Kind, Loop, Node, Plain, Sequence, Symbol}
-use Rattle.rules2to7.specs.Children.{any, child_at, offset}
 
 -- ---- tests of the tree at a record
 
 and-three : (a b c : Bool) → (a && b && c) ≡ (a and b and c)
 and-three a b c = and_is (a && b) c ∙ ap (λ (x : Bool). x and c) (and_is a b)
 
-pub zero_is : (t : Tree) {r : Bool} {x : ℕ} → r ≡ bare t → x ≡ time_of t → (r && eqb x 0) ≡ is_zero t
-unfolding is_zero
-zero_is t {r} {x} e d = and_is r (eqb x 0) ∙ rw (e, d) refl
+-- a time of 0, by what is answered of the tree
+pub zero_time : (t : Tree) (x : ℕ) → Some x ≡ bare_time t → eqb x 0 ≡ is_zero t
+unfolding bare_time is_zero ◌and◌
+zero_time t x e = let (b, d) = some-yes (bare t) (time_of t) e in rw (b, d) refl
 
-time-low : (k : Kind) → T (kind_in_range k) → time_of_kind k ≤ most_time
-unfolding kind_in_range time_in_range time_of_kind
-time-low (Block (Plain x)) h = leb→le x most_time h
-time-low (Block (Symbol x)) h = omega arith
-time-low Sequence h = omega arith
-time-low Choice h = omega arith
-time-low (Loop x) h = omega arith
+pub no_time : (t : Tree) → None ≡ bare_time t → false ≡ is_zero t
+unfolding bare_time is_zero ◌and◌
+no_time t e = rw (none-no (bare t) (time_of t) e) refl
 
 module _ (b : List ℕ) (p : ℕ) (h : Here b p) where
-  pub time-at : {n : Node} {x : ℕ} → n ≡ first_node (drop (record_length * p) b) → x ≡ time_of_kind n.kind → (x ≡ time_of (subtree b p)) × (x ≤ most_time)
-  unfolding time_of listed
-  time-at {n} {x} e d =
-      let is : x ≡ time_of_kind h.own.kind = d ∙ ap (λ m. time_of_kind m.kind) (e ∙ node_at b p h) in
-      (is ∙ sym (ap time_of (top-at b p h.here)), rw is (time-low h.own.kind (both _ _ (both _ _ (both _ _ (both _ _ h.sound.fair.listed).0).0).0).1))
-
   pub gives_at : (k : Kind) (c : ℕ) {n : Node} {m : ℕ} {x y z : Bool} → n ≡ first_node (drop (record_length * p) b) → m ≡ child_byte (drop (record_length * p) b)
       → x ≡ same_kind n.kind k → y ≡ is_unlimited n.limit → z ≡ leb (c + m) (suc most_children)
       → (x && y && z) ≡ gives k c (subtree b p)
@@ -50,38 +41,3 @@ module _ (b : List ℕ) (p : ℕ) (h : Here b p) where
   gives_at k c e d ex ey ez =
       rw (ex, ey, ez, e ∙ node_at b p h, d ∙ count_at b p h, top-at b p h.here)
       (and-three (same_kind h.own.kind k) (is_unlimited h.own.limit) (leb (c + size h.kids) (suc most_children)))
-
--- ---- one child after another
-
--- the children left, from record p on: the first that passes the test among them is the first of all
-pub record Looking (b extents : List ℕ) (i : ℕ) (q : Tree → Bool) (left p : ℕ) : Type 0 where
-  pub sizes : Extents b extents
-  pub row : Row b p left
-  pub value : child_at q i (trees_at b i) ≡ cond (any q row.trees) (p + offset q row.trees) 0
-
-pub look-first : (b extents : List ℕ) (i : ℕ) (q : Tree → Bool) (left : ℕ) → Extents b extents → i < record_count b → left ≡ child_byte (drop (record_length * i) b)
-    → Looking b extents i q left (i + 1)
-unfolding child_at
-look-first b extents i q left s l e =
-    let h = here-at b s.table i l in
-    rw (e ∙ count_at b i h) (record { sizes = s; row = kids-row b s.table i h; value = ap (child_at q i) h.here })
-
-module _ (b extents : List ℕ) (i : ℕ) (q : Tree → Bool) (left p : ℕ) (w : Looking b extents i q left p) where
-  module _ (l : 0 < left) where
-    pub look-turn : Next b extents p left w.row
-    look-turn = next_row b extents w.sizes p left w.row l
-
-    look-value : let f = look-turn.others.trees in
-        child_at q i (trees_at b i) ≡ cond (q (subtree b p) || any q f) (p + cond (q (subtree b p)) 0 (records (subtree b p) + offset q f)) 0
-    unfolding any offset
-    look-value = w.value ∙ ap (λ (f : Forest). cond (any q f) (p + offset q f) 0) look-turn.are
-
-    pub look-next : {r : Bool} → r ≡ q (subtree b p) → r ≡ false → Looking b extents i q (left - 1) (p + get_or extents p 0)
-    look-next e z = record { sizes = w.sizes; row = look-turn.others; value = look-value ∙ rw (sym e ∙ z, look-turn.extent, add_assoc) refl }
-
-    pub look-found : {r : Bool} → r ≡ q (subtree b p) → r ≡ true → p ≡ child_at q i (trees_at b i)
-    look-found e z = sym (look-value ∙ rw (sym e ∙ z, add-zero) refl)
-
-  pub look_none : left ≤ 0 → 0 ≡ child_at q i (trees_at b i)
-  unfolding any
-  look_none l = sym (w.value ∙ rw (row-end w.row l) refl)

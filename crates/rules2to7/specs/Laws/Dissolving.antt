@@ -1,5 +1,6 @@
 -- A child that gives way to its own children, in trees and in records.
-use Rattle.std.specs.Prelude.{◌≡◌, refl, Bool, true, false, cond, not, ◌||◌, List, ◌++◌, ℕ, suc, ◌+◌, ◌*◌, ◌-◌, ◌%◌, ◌<◌, ◌≤◌, T, leb, drop}
+use Rattle.std.specs.Prelude.{◌≡◌, refl, Bool, true, false, cond, ◌||◌, List, ◌++◌, ℕ, suc, ◌+◌, ◌*◌, ◌-◌, ◌%◌, ◌<◌, ◌≤◌, T, leb, drop, Some, None}
+use Rattle.std.specs.declared.option.Option.{Option as Maybe}
 use Rattle.std.proofs.Math.Path.{ap, ap₂, subst}
 use Rattle.std.proofs.Common.{sym, ◌∙◌, append_assoc, leb→le, le→leb}
 use Rattle.std.proofs.Math.Option.{none, some}
@@ -19,11 +20,11 @@ use Rattle.subtrees.specs.Laws.Forests.{below, encodes-⧺, records-⧺}
 use Rattle.subtrees.specs.Laws.Parts.{Here, bytes-at, here-at, records-at, row-bytes, skip_at, tail_at}
 use Rattle.subtrees.specs.Laws.Records.{count_at, node_at}
 use Rattle.rules2to7.specs.Nodes.{Kind, Node}
-use Rattle.rules2to7.specs.Children.{Left, any, child_at, dissolve, offset, wanted}
-use Rattle.rules2to7.specs.declared.Wanted.{Wanted}
+use Rattle.rules2to7.specs.Children.{Left, dissolve}
+use Rattle.subtrees.specs.Children.{any, child_at, offset}
 use Rattle.writing.specs.Records.{front, slice}
 use Rattle.rewrite.specs.Wrote.{Wrote, rule_at}
-use Rattle.rewrite.specs.Laws.Records.{is-sum-at, it, rule-at, some-yes, unfit-at, wrote_as, zero-no, ⧺-assoc}
+use Rattle.rewrite.specs.Laws.Records.{is-sum-at, it, rule-at, none-no, some-yes, unfit-at, wrote_as, ⧺-assoc}
 
 -- ---- the first tree of a row that passes a test
 
@@ -111,21 +112,21 @@ module _ (b : List ℕ) (s : IsTable b) (i : ℕ) (h : Here b i) (q : Tree → B
     pub here : trees_at b p ≡ part.found ▸ (part.after ⧺ h.later)
     pub inside : p < record_count b
 
-  child-is : child_at q i (trees_at b i) ≡ cond (any q h.kids) (i + 1 + offset q h.kids) 0
+  child-is : child_at q i (trees_at b i) ≡ cond (any q h.kids) (Some (i + 1 + offset q h.kids)) None
   unfolding child_at
   child-is = ap (child_at q i) h.here
 
-  child-none : (p : ℕ) → p ≡ child_at q i (trees_at b i) → p ≡ 0 → any q h.kids ≡ false
-  child-none p e z = zero-no (any q h.kids) (i + 1 + offset q h.kids) (omega arith) (e ∙ child-is) z
+  child-none : None ≡ child_at q i (trees_at b i) → any q h.kids ≡ false
+  child-none e = none-no (any q h.kids) (i + 1 + offset q h.kids) (e ∙ child-is)
 
   from-part : (w : Found q h.kids) → trees_at b (i + 1) ≡ w.before ⧺ (w.found ▸ (w.after ⧺ h.later))
   unfolding ◌⧺◌
   from-part w = h.next ∙ ap (λ (f : Forest). f ⧺ h.later) w.whole ∙ ⧺-assoc w.before (w.found ▸ w.after) h.later
 
-  child-of : (p : ℕ) → p ≡ child_at q i (trees_at b i) → (p ≡ 0 → ⊥) → (any q h.kids ≡ true) × Child p
+  child-of : (p : ℕ) → Some p ≡ child_at q i (trees_at b i) → (any q h.kids ≡ true) × Child p
   unfolding records_in
-  child-of p e z =
-      let (a, o) = some-yes (any q h.kids) (i + 1 + offset q h.kids) (e ∙ child-is) z in
+  child-of p e =
+      let (a, o) = some-yes (any q h.kids) (i + 1 + offset q h.kids) (e ∙ child-is) in
       let w = found_in q h.kids a in
       let at : p ≡ i + 1 + records_in w.before = o ∙ ap (λ (n : ℕ). i + 1 + n) w.place in
       let stands : trees_at b p ≡ w.found ▸ (w.after ⧺ h.later) = ap (trees_at b) at ∙ skip_at b s (i + 1) w.before (w.found ▸ (w.after ⧺ h.later)) (from-part w) in
@@ -147,7 +148,7 @@ module _ (b : List ℕ) (s : IsTable b) (i : ℕ) (h : Here b i) (q : Tree → B
       g.next ∙ ap below (sym g.here ∙ c.here) ∙ below-children c.part.found (c.part.after ⧺ h.later)
 
   dissolved : (p : ℕ) (c : Child p) (n r : ℕ) (out : List ℕ) → n + 1 ≡ size h.kids + size (children c.part.found)
-      → Left b i p (record_bytes h.own n) r out → Wrote (some (node h.own (dissolve q h.kids) ▸ h.later)) r out
+      → Left b i p (record_bytes h.own n) r out → Wrote (some (node h.own (dissolve q h.kids) ▸ h.later)) (Some r) out
   unfolding Wrote records_in records
   dissolved p c n r out e l =
       let w = c.part in
@@ -239,32 +240,31 @@ module _ (b : List ℕ) (s : IsTable b) (i : ℕ) (l : i < record_count b) where
   abbrev pub giving-test : Tree → Bool
   giving-test = gives h.own.kind (size h.kids)
 
-  giving-at : {n : Node} {c p : ℕ} → n ≡ first_node (drop (record_length * i) b) → c ≡ child_byte (drop (record_length * i) b) → p ≡ child_at (wanted (Wanted.GivesWay n.kind c)) i (trees_at b i)
-      → p ≡ child_at giving-test i (trees_at b i)
-  unfolding wanted
+  giving-at : {n : Node} {c : ℕ} {o : Maybe ℕ} → n ≡ first_node (drop (record_length * i) b) → c ≡ child_byte (drop (record_length * i) b) → o ≡ child_at (gives n.kind c) i (trees_at b i)
+      → o ≡ child_at giving-test i (trees_at b i)
   giving-at e d k = k ∙ ap₂ (λ (m : Node) (x : ℕ). child_at (gives m.kind x) i (trees_at b i)) (e ∙ node_at b i h) (d ∙ count_at b i h)
 
-  pub none-gives : (out : List ℕ) {n : Node} {c p : ℕ} → n ≡ first_node (drop (record_length * i) b) → c ≡ child_byte (drop (record_length * i) b)
-      → p ≡ child_at (wanted (Wanted.GivesWay n.kind c)) i (trees_at b i) → p ≡ 0 → Wrote (rule_at rule2 (trees_at b i)) 0 out
-  none-gives out e d k z =
-      unfit-at b s i l rule2 out (rule2-none h.own h.kids (child-none b s i h giving-test _ (giving-at e d k) z))
+  pub none-gives : (out : List ℕ) {n : Node} {c : ℕ} → n ≡ first_node (drop (record_length * i) b) → c ≡ child_byte (drop (record_length * i) b)
+      → None ≡ child_at (gives n.kind c) i (trees_at b i) → Wrote (rule_at rule2 (trees_at b i)) None out
+  none-gives out e d k =
+      unfit-at b s i l rule2 out (rule2-none h.own h.kids (child-none b s i h giving-test (giving-at e d k)))
 
-  pub giver : {n : Node} {c p : ℕ} → n ≡ first_node (drop (record_length * i) b) → c ≡ child_byte (drop (record_length * i) b) → p ≡ child_at (wanted (Wanted.GivesWay n.kind c)) i (trees_at b i)
-      → (p ≡ 0 → ⊥) → (any giving-test h.kids ≡ true) × Child b s i h giving-test p
-  giver e d k z = child-of b s i h giving-test _ (giving-at e d k) z
+  pub giver : {n : Node} {c p : ℕ} → n ≡ first_node (drop (record_length * i) b) → c ≡ child_byte (drop (record_length * i) b) → Some p ≡ child_at (gives n.kind c) i (trees_at b i)
+      → (any giving-test h.kids ≡ true) × Child b s i h giving-test p
+  giver e d k = child-of b s i h giving-test _ (giving-at e d k)
 
   pub giver-counts : {n : Node} {c p m : ℕ} → n ≡ first_node (drop (record_length * i) b) → c ≡ child_byte (drop (record_length * i) b)
-      → p ≡ child_at (wanted (Wanted.GivesWay n.kind c)) i (trees_at b i) → (p ≡ 0 → ⊥) → m ≡ child_byte (drop (record_length * p) b) → 1 ≤ c + m
-  giver-counts {p = p} e d k z dm =
-      let (_, g) = giver e d k z in
+      → Some p ≡ child_at (gives n.kind c) i (trees_at b i) → m ≡ child_byte (drop (record_length * p) b) → 1 ≤ c + m
+  giver-counts {p = p} e d k dm =
+      let (_, g) = giver e d k in
       omega (arith, gone-size giving-test h.kids g.part, count_at b i h, child-size b s i h giving-test p g)
 
-  pub gave-way : (out : List ℕ) {n : Node} {c p m r : ℕ} {x : Bool} → n ≡ first_node (drop (record_length * i) b) → x ≡ is_sum n.kind → not x ≡ false
-      → c ≡ child_byte (drop (record_length * i) b) → p ≡ child_at (wanted (Wanted.GivesWay n.kind c)) i (trees_at b i) → (p ≡ 0 → ⊥) → m ≡ child_byte (drop (record_length * p) b)
-      → Left b i p (record_bytes n ((c + m - 1) % 256)) r out → Wrote (rule_at rule2 (trees_at b i)) r out
+  pub gave-way : (out : List ℕ) {n : Node} {c p m r : ℕ} {x : Bool} → n ≡ first_node (drop (record_length * i) b) → x ≡ is_sum n.kind → x ≡ true
+      → c ≡ child_byte (drop (record_length * i) b) → Some p ≡ child_at (gives n.kind c) i (trees_at b i) → m ≡ child_byte (drop (record_length * p) b)
+      → Left b i p (record_bytes n ((c + m - 1) % 256)) r out → Wrote (rule_at rule2 (trees_at b i)) (Some r) out
   unfolding also
-  gave-way out {n} {c} {p} {m} {r} e dx tx d k z dm w =
-      let (a, g) = giver e d k z in
+  gave-way out {n} {c} {p} {m} {r} e dx tx d k dm w =
+      let (a, g) = giver e d k in
       let few = gives_fits _ _ g.part.found g.part.passes in
       let one = gone-size giving-test h.kids g.part in
       let ec : c ≡ size h.kids = d ∙ count_at b i h in
@@ -272,36 +272,32 @@ module _ (b : List ℕ) (s : IsTable b) (i : ℕ) (l : i < record_count b) where
       let count : (c + m - 1) % 256 + 1 ≡ size h.kids + size (children g.part.found) = omega arith in
       let left = subst (λ (y : Node). Left b i p (record_bytes y ((c + m - 1) % 256)) r out) (e ∙ node_at b i h) w in
       wrote_as
-      r
+      (Some r)
       out
       (rule-at b s i l rule2 _ (rule2-some h.own h.kids (is-sum-at b s i l e dx tx) a))
       (dissolved b s i h giving-test p g ((c + m - 1) % 256) r out count left)
 
-  zero_row : {p : ℕ} → p ≡ child_at (wanted Wanted.Zero) i (trees_at b i) → p ≡ child_at is_zero i (trees_at b i)
-  unfolding wanted
-  zero_row k = k
-
-  pub few-zero : (out : List ℕ) {c : ℕ} → c ≡ child_byte (drop (record_length * i) b) → c < 2 → Wrote (rule_at rule5 (trees_at b i)) 0 out
+  pub few-zero : (out : List ℕ) {c : ℕ} → c ≡ child_byte (drop (record_length * i) b) → c < 2 → Wrote (rule_at rule5 (trees_at b i)) None out
   few-zero out d few = unfit-at b s i l rule5 out (rule5-few h.own h.kids (omega (arith, count_at b i h)))
 
-  pub none-zero : (out : List ℕ) {p : ℕ} → p ≡ child_at (wanted Wanted.Zero) i (trees_at b i) → p ≡ 0 → Wrote (rule_at rule5 (trees_at b i)) 0 out
-  none-zero out k z = unfit-at b s i l rule5 out (rule5-none h.own h.kids (child-none b s i h is_zero _ (zero_row k) z))
+  pub none-zero : (out : List ℕ) → None ≡ child_at is_zero i (trees_at b i) → Wrote (rule_at rule5 (trees_at b i)) None out
+  none-zero out k = unfit-at b s i l rule5 out (rule5-none h.own h.kids (child-none b s i h is_zero k))
 
-  pub zero-child : {p : ℕ} → p ≡ child_at (wanted Wanted.Zero) i (trees_at b i) → (p ≡ 0 → ⊥) → (any is_zero h.kids ≡ true) × Child b s i h is_zero p
-  zero-child k z = child-of b s i h is_zero _ (zero_row k) z
+  pub zero-child : {p : ℕ} → Some p ≡ child_at is_zero i (trees_at b i) → (any is_zero h.kids ≡ true) × Child b s i h is_zero p
+  zero-child k = child-of b s i h is_zero _ k
 
-  pub zero-gone : (out : List ℕ) {n : Node} {c p r : ℕ} {x : Bool} → n ≡ first_node (drop (record_length * i) b) → x ≡ is_sum n.kind → not x ≡ false
-      → c ≡ child_byte (drop (record_length * i) b) → c < 256 → 2 ≤ c → p ≡ child_at (wanted Wanted.Zero) i (trees_at b i) → (p ≡ 0 → ⊥)
-      → Left b i p (record_bytes n ((c - 1) % 256)) r out → Wrote (rule_at rule5 (trees_at b i)) r out
+  pub zero-gone : (out : List ℕ) {n : Node} {c p r : ℕ} {x : Bool} → n ≡ first_node (drop (record_length * i) b) → x ≡ is_sum n.kind → x ≡ true
+      → c ≡ child_byte (drop (record_length * i) b) → c < 256 → 2 ≤ c → Some p ≡ child_at is_zero i (trees_at b i)
+      → Left b i p (record_bytes n ((c - 1) % 256)) r out → Wrote (rule_at rule5 (trees_at b i)) (Some r) out
   unfolding also size
-  zero-gone out {n} {c} {p} {r} e dx tx d few two k z w =
-      let (a, g) = zero-child k z in
+  zero-gone out {n} {c} {p} {r} e dx tx d few two k w =
+      let (a, g) = zero-child k in
       let none = ap size (zero-children g.part.found g.part.passes) in
       let ec : c ≡ size h.kids = d ∙ count_at b i h in
       let count : (c - 1) % 256 + 1 ≡ size h.kids + size (children g.part.found) = omega arith in
       let left = subst (λ (y : Node). Left b i p (record_bytes y ((c - 1) % 256)) r out) (e ∙ node_at b i h) w in
       wrote_as
-      r
+      (Some r)
       out
       (rule-at b s i l rule5 _ (rule5-some h.own h.kids (is-sum-at b s i l e dx tx) (omega arith) a))
       (dissolved b s i h is_zero p g ((c - 1) % 256) r out count left)

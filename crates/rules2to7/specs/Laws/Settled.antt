@@ -1,5 +1,5 @@
 -- The value that rule 4 puts in a node's place, and when the rule fits.
-use Rattle.std.specs.Prelude.{◌≡◌, Bool, ◌&&◌, List, ◌++◌, ℕ, ◌+◌, ◌*◌, ◌-◌, ◌<◌, ◌≤◌, eqb, leb, drop, length, take}
+use Rattle.std.specs.Prelude.{◌≡◌, Bool, ◌&&◌, List, ◌++◌, ℕ, ◌+◌, ◌*◌, ◌-◌, ◌<◌, ◌≤◌, eqb, leb, drop, length, take, Some, None}
 use Rattle.std.proofs.Math.Path.{refl, ap, sym, subst}
 use Rattle.std.proofs.Common.{◌∙◌, append-nil, arith, length-drop, drop-drop}
 use Rattle.std.proofs.Math.Bool.{true, false, not}
@@ -25,9 +25,10 @@ use Rattle.evaluate.proofs.Laws.Shown.{first-top}
 use Rattle.evaluate.specs.declared.Valued.{Valued}
 use Rattle.simplify.specs.Rules.{is_block, leaf, rule4, when}
 use Rattle.simplify.specs.Steps.{also}
-use Rattle.subtrees.specs.Facts.{Surveyed, marks_each, reach_below, reach_in, symbols}
+use Rattle.subtrees.specs.Facts.{Surveyed, extent_at, fact_at, facts_of, reach_below, reach_in}
+use Rattle.subtrees.specs.declared.Facts.{Facts}
 use Rattle.subtrees.specs.Parts.{Simplifiable, trees_at}
-use Rattle.subtrees.specs.Laws.Facts.{closed_in-is, free-is}
+use Rattle.subtrees.specs.Laws.Facts.{closed_in-is}
 use Rattle.subtrees.specs.Laws.Forests.{Sound, encodes-⧺}
 use Rattle.table.proofs.Laws.Tables.{few-records, length-is}
 use Rattle.subtrees.specs.Laws.Parts.{Here, fits-at, here-at, past-node, records-at, tail_at, top-at}
@@ -74,26 +75,26 @@ closed-kids : (n : Node) (f : Forest) → Sound (node n f) → closed_in n.kind 
 unfolding listed depth
 closed-kids n f t = closed_in-is n.kind f 0 (both _ _ t.fair.listed).1 (omega (arith, t.deep))
 
-module _ (b extents marks : List ℕ) (s : Surveyed b extents marks) (i : ℕ) (l : i < record_count b) where
+module _ (b : List ℕ) (facts : List Facts) (s : Surveyed b facts) (i : ℕ) (l : i < record_count b) where
   h : Here b i
-  h = here-at b s.sizes.table i l
+  h = here-at b s.table i l
 
   fits-here : (symbol_free (node h.own h.kids) and not (is_block h.own.kind) and closed_in h.own.kind h.kids 0)
-      ≡ (eqb (get_or marks (marks_each * i) 0) 0 and not (is_block (first_node (drop (record_length * i) b)).kind) and eqb (get_or marks (marks_each * i + 3) 0) 0)
+      ≡ ((fact_at facts i).symbol_free and not (is_block (first_node (drop (record_length * i) b)).kind) and eqb (fact_at facts i).reach_below 0)
   unfolding reach_below
   fits-here =
       let m = s.each i l in
       let t = top-at b i h.here in
-      rw (node_at b i h, m.symbols ∙ ap symbols t, m.below ∙ ap reach_below t, free-is, zero_is, closed-kids h.own h.kids h.sound) refl
+      rw (node_at b i h, m ∙ ap facts_of t, zero_is, closed-kids h.own h.kids h.sound) refl
 
   -- by the tests, what the table becomes from record i on
   becomes : rule_at rule4 (trees_at b i)
       ≡ also (λ t. t ▸ h.later)
-      (when (eqb (get_or marks (marks_each * i) 0) 0 and not (is_block (first_node (drop (record_length * i) b)).kind) and eqb (get_or marks (marks_each * i + 3) 0) 0) (leaf (before_at (trees_at b i)) (first_node (drop (record_length * i) b)).limit))
+      (when ((fact_at facts i).symbol_free and not (is_block (first_node (drop (record_length * i) b)).kind) and eqb (fact_at facts i).reach_below 0) (leaf (before_at (trees_at b i)) (first_node (drop (record_length * i) b)).limit))
   unfolding rule_at rule4 before_at
   becomes = rw (h.here, ← fits-here, node_at b i h) refl
 
-  pub not-settled : (out : List ℕ) → (eqb (get_or marks (marks_each * i) 0) 0 && eqb (get_or marks (marks_each * i + 3) 0) 0) ≡ false → Wrote (rule_at rule4 (trees_at b i)) 0 out
+  pub not-settled : (out : List ℕ) → ((fact_at facts i).symbol_free && eqb (fact_at facts i).reach_below 0) ≡ false → Wrote (rule_at rule4 (trees_at b i)) None out
   unfolding also when
   not-settled out e = wrote_none _ out (becomes ∙ rw (no _ _ (is_block (first_node (drop (record_length * i) b)).kind) e) refl)
     where
@@ -103,9 +104,9 @@ module _ (b extents marks : List ℕ) (s : Surveyed b extents marks) (i : ℕ) (
       no true false false e = unfold ◌and◌ in refl
       no false y z e = unfold ◌and◌ in refl
 
-  pub no_node : (out : List ℕ) → is_block (first_node (drop (record_length * i) b)).kind ≡ true → Wrote (rule_at rule4 (trees_at b i)) 0 out
+  pub no_node : (out : List ℕ) → is_block (first_node (drop (record_length * i) b)).kind ≡ true → Wrote (rule_at rule4 (trees_at b i)) None out
   unfolding also when
-  no_node out e = wrote_none _ out (becomes ∙ rw (e, no (eqb (get_or marks (marks_each * i) 0) 0) _) refl)
+  no_node out e = wrote_none _ out (becomes ∙ rw (e, no (fact_at facts i).symbol_free _) refl)
     where
       no : (x y : Bool) → (x and not true and y) ≡ false
       no true y = unfold ◌and◌ in refl
@@ -116,16 +117,16 @@ module _ (b extents marks : List ℕ) (s : Surveyed b extents marks) (i : ℕ) (
   is-node e = ap block_at h.here ∙ ap (λ n. is_block n.kind) (sym (node_at b i h)) ∙ e
 
   pub settled-written : (x r : ℕ) (out : List ℕ) → x ≡ before_at (trees_at b i)
-      → (eqb (get_or marks (marks_each * i) 0) 0 && eqb (get_or marks (marks_each * i + 3) 0) 0) ≡ true → is_block (first_node (drop (record_length * i) b)).kind ≡ false
-      → let end = i + get_or extents i 0 in r ≡ 1 + (record_count b - end)
+      → ((fact_at facts i).symbol_free && eqb (fact_at facts i).reach_below 0) ≡ true → is_block (first_node (drop (record_length * i) b)).kind ≡ false
+      → let end = i + extent_at facts i in r ≡ 1 + (record_count b - end)
       → front r out ≡ record_bytes (node_of (Block (Plain x)) (first_node (drop (record_length * i) b)).limit 0) 0 ++ slice b end (record_count b - end)
-      → Wrote (rule_at rule4 (trees_at b i)) r out
+      → Wrote (rule_at rule4 (trees_at b i)) (Some r) out
   unfolding Wrote also when records_in records encode encodes leaf size
   settled-written x r out v e f n q =
-      let end = i + get_or extents i 0 in
-      let t = s.sizes.table in
-      let past : trees_at b end ≡ h.later = (past-node b extents s.sizes i l h).0 in
-      wrote_as {p = some (leaf x (first_node (drop (record_length * i) b)).limit ▸ h.later)} r out (becomes ∙ rw (f, yes _ _ e, v) refl)
+      let end = i + extent_at facts i in
+      let t = s.table in
+      let past : trees_at b end ≡ h.later = (past-node b facts s i l h).0 in
+      wrote_as {p = some (leaf x (first_node (drop (record_length * i) b)).limit ▸ h.later)} (Some r) out (becomes ∙ rw (f, yes _ _ e, v) refl)
       (omega (arith, records-at b t end, ap records_in past), q ∙ rw (tail_at b t end, past, append-nil) refl)
     where
       yes : (x y : Bool) → (x && y) ≡ true → (x and not false and y) ≡ true

@@ -1,14 +1,14 @@
 -- What stands before an address is whole words, so its bytes are the same exactly where no word differs.
-use Rattle.rules8and9.specs.Laws.Comparing.{whole_words, words-other, words_same}
+use mathlib.Core.Path.{◌≡◌, ◌∙◌}
+use borrow.Author.Rules.{rules}
+use Rattle.std.specs.Prelude.{is_none}
+use Rattle.rules8and9.specs.Laws.Comparing.{whole_words, words-compared}
 use Rattle.rules8and9.proofs.same_fields.Goals as goal
 
-pub compare-compared-requires : goal.compare-compared-requires
-compare-compared-requires c = whole_words _ _ _ c.requires.0 c.requires.1
+pub compare-differing-requires : goal.compare-differing-requires
+compare-differing-requires c = whole_words _ _ _ c.requires.0 c.requires.1
 
-pub returns-in-Differ : goal.returns-in-Differ
-returns-in-Differ c =
-    words-other c.args.table.now c.args.a c.args.b c.compare-compared.ensures c.in-Differ.is
-
-pub returns-in-Equal : goal.returns-in-Equal
-returns-in-Equal c =
-    words_same c.args.table.now c.args.a c.args.b c.compare-compared.ensures c.in-Equal.is
+pub returns : goal.returns
+returns c =
+    let none : c.is_none.result ≡ is_none c.compare-differing.result = search rules in
+    none ∙ words-compared c.args.table.now c.args.a c.args.b _ c.compare-differing.ensures

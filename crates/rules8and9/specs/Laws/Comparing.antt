@@ -1,12 +1,11 @@
 -- Two subtrees compared: by the words of each record before its address.
-use Rattle.std.specs.Prelude.{◌≡◌, Bool, true, false, not, ℕ, zero, suc, ◌+◌, ◌*◌, ◌-◌, ◌<◌, ◌≤◌, drop, get_or, length, take}
+use Rattle.std.specs.Prelude.{◌≡◌, Bool, true, false, ℕ, zero, suc, ◌+◌, ◌*◌, ◌-◌, ◌<◌, ◌≤◌, drop, length, take, Option, None, Some, is_none}
 use Rattle.std.proofs.Math.Path.{refl, sym, subst}
 use Rattle.std.proofs.Common.{ap, ap₂, ◌∙◌, add-zero, suc-add, zero-add, add_assoc, eqb→eq, length-append, length-drop, length-take, drop_at, length-take-le, take_at}
 use mathlib.Core.List.{List, [], ◌∷◌, ◌++◌, append_assoc, append-nil}
 use Rattle.std.proofs.Math.Nat.{sub-zero}
 use native.Mathlib.Omega.{arith}
 use Rattle.std.proofs.Math.Dec.{T, eqb_refl}
-use Rattle.std.proofs.lemmas.Bool.{not-false, not-true}
 use Rattle.booleans.specs.Laws.{T-is, both, join-and, same_test}
 use Rattle.booleans.specs.Tests.{◌and◌}
 use Rattle.table.specs.Bytes.{to_bytes}
@@ -21,13 +20,12 @@ use Rattle.table.proofs.Laws.RoundTrip.{length-encode}
 use Rattle.table.specs.declared.Node.{Node}
 use Rattle.simplify.specs.Same.{same}
 use Rattle.simplify.proofs.Laws.Same.{bytes_same, same-is}
-use Rattle.subtrees.specs.Facts.{Extents}
+use Rattle.subtrees.specs.Facts.{Surveyed, extent_at}
+use Rattle.subtrees.specs.declared.Facts.{Facts}
 use Rattle.subtrees.specs.Parts.{subtree}
-use Rattle.subtrees.specs.Laws.Parts.{back_at, here-at, past-inside, top-at}
+use Rattle.subtrees.specs.Laws.Parts.{back_at, here-at, past-inside, sized, top-at}
 use Rattle.rewrite.specs.Laws.Records.{subtree-sound}
 use Rattle.words.specs.Words.{Compared, SameWords, word}
-use Rattle.words.specs.declared.Comparison.{Comparison}
-use Rattle.words.specs.declared.Comparison.TheVariants.{Differ, Equal}
 use Rattle.writing.specs.Records.{node_of}
 use Rattle.rules8and9.specs.Sharing.{fields_at, records_from, same_bytes, same_records}
 
@@ -65,17 +63,18 @@ module _ (b : List ℕ) (i j : ℕ) where
   pub whole_words : i < record_count b → j < record_count b → SameWords (lent b i) (lent b j)
   whole_words l m = rw (lent_is b i, lent_is b j) (fields-long b i l ∙ sym (fields-long b j m), omega (arith, fields-long b i l))
 
-  pub words_same : {r : Comparison} → Compared (lent b i) (lent b j) r → r ≡ Equal → true ≡ same_bytes (fields_at b i) (fields_at b j)
+  words_same : Compared (lent b i) (lent b j) None → true ≡ same_bytes (fields_at b i) (fields_at b j)
   unfolding Compared
-  words_same h e =
-      let q : lent b i ≡ lent b j = subst (Compared (lent b i) (lent b j)) e h in
-      sym (T-is _ (subst (λ x. T (same_bytes (fields_at b i) x)) (sym (lent_is b i) ∙ q ∙ lent_is b j) (bytes-self (fields_at b i))))
+  words_same q = sym (T-is _ (subst (λ x. T (same_bytes (fields_at b i) x)) (sym (lent_is b i) ∙ q ∙ lent_is b j) (bytes-self (fields_at b i))))
 
-  pub words-other : {r : Comparison} {k : ℕ} → Compared (lent b i) (lent b j) r → r ≡ Differ k → false ≡ same_bytes (fields_at b i) (fields_at b j)
+  words-other : (k : ℕ) → Compared (lent b i) (lent b j) (Some k) → false ≡ same_bytes (fields_at b i) (fields_at b j)
   unfolding Compared
-  words-other {k = k} h e =
-      let d : Compared (lent b i) (lent b j) (Differ k) = subst (Compared (lent b i) (lent b j)) e h in
-      never _ (λ t. d.1 (ap (word k) (lent_is b i ∙ bytes-are (fields_at b i) (fields_at b j) t ∙ sym (lent_is b j))))
+  words-other k d = never _ (λ t. d.1 (ap (word k) (lent_is b i ∙ bytes-are (fields_at b i) (fields_at b j) t ∙ sym (lent_is b j))))
+
+  -- the same where no word differs
+  pub words-compared : (r : Option ℕ) → Compared (lent b i) (lent b j) r → is_none r ≡ same_bytes (fields_at b i) (fields_at b j)
+  words-compared None h = words_same h
+  words-compared (Some k) h = words-other k h
 
 -- ---- one record after the other
 
@@ -96,13 +95,13 @@ module _ (b : List ℕ) (i j n : ℕ) where
         let y : j + (k + 1) ≡ j + k + 1 = omega arith in
         q.left ∙ rw (next-count n k h, e, x, y, ← next-part b (i + k), ← next-part b (j + k)) refl
 
-    pub one-agreed : not r ≡ false → Agreed b i j n (k + 1)
+    pub one-agreed : r ≡ true → Agreed b i j n (k + 1)
     unfolding ◌and◌
-    one-agreed t = record { within = omega arith; left = agreed-step ∙ rw (not-false r t) refl }
+    one-agreed t = record { within = omega arith; left = agreed-step ∙ rw (t) refl }
 
-    pub one-other : not r ≡ true → false ≡ same_records n (records_from b i) (records_from b j)
+    pub one-other : r ≡ false → false ≡ same_records n (records_from b i) (records_from b j)
     unfolding ◌and◌
-    one-other t = sym (agreed-step ∙ rw (not-true r t) refl)
+    one-other t = sym (agreed-step ∙ rw (t) refl)
 
   pub all-agreed : (k : ℕ) → n ≤ k → Agreed b i j n k → true ≡ same_records n (records_from b i) (records_from b j)
   unfolding same_records
@@ -176,7 +175,7 @@ starts-at : (b : List ℕ) (s : IsTable b) (i : ℕ) (l : i < record_count b) �
 unfolding encodes
 starts-at b s i l = let h = here-at b s i l in sym (back_at b s i) ∙ ap encodes h.here ∙ ap (λ t. encode t ++ encodes h.later) (sym (top-at b i h.here))
 
-module _ (b extents : List ℕ) (s : Extents b extents) (i j : ℕ) (l : i < record_count b) (m : j < record_count b) where
+module _ (b : List ℕ) (facts : List Facts) (s : Surveyed b facts) (i j : ℕ) (l : i < record_count b) (m : j < record_count b) where
   abbrev ranged : (k : ℕ) → k < record_count b → T (listed (subtree b k))
   ranged k h = (subtree-sound b s.table k h).fair.listed
 
@@ -184,18 +183,18 @@ module _ (b extents : List ℕ) (s : Extents b extents) (i j : ℕ) (l : i < rec
   same_place e = sym (T-is _ (bytes_same (subtree b i) (subtree b j) (ranged i l) (ranged j m) (ap (λ k. encode (unaddressed (subtree b k))) e)))
 
   -- they differ in how many records they have
-  pub other-sizes : (get_or extents i 0 ≡ get_or extents j 0 → ⊥) → false ≡ same (subtree b i) (subtree b j)
+  pub other-sizes : (extent_at facts i ≡ extent_at facts j → ⊥) → false ≡ same (subtree b i) (subtree b j)
   other-sizes e =
       let t = subtree b i in
       let u = subtree b j in
-      never (same t u) (λ q. e (s.each i l ∙ sym (records-unaddressed t) ∙ ap records (same-is t u q) ∙ records-unaddressed u ∙ sym (s.each j m)))
+      never (same t u) (λ q. e (sized b facts s i l ∙ sym (records-unaddressed t) ∙ ap records (same-is t u q) ∙ records-unaddressed u ∙ sym (sized b facts s j m)))
 
   -- both have as many
-  pub same-room : get_or extents i 0 ≡ get_or extents j 0 → (i + get_or extents i 0 ≤ record_count b) × (j + get_or extents i 0 ≤ record_count b)
-  same-room e = omega (arith, past-inside b extents s i l, past-inside b extents s j m)
+  pub same-room : extent_at facts i ≡ extent_at facts j → (i + extent_at facts i ≤ record_count b) × (j + extent_at facts i ≤ record_count b)
+  same-room e = omega (arith, past-inside b facts s i l, past-inside b facts s j m)
 
-  pub same-bytes : (r : Bool) → get_or extents i 0 ≡ get_or extents j 0
-      → r ≡ same_records (get_or extents i 0) (records_from b i) (records_from b j) → r ≡ same (subtree b i) (subtree b j)
+  pub same-bytes : (r : Bool) → extent_at facts i ≡ extent_at facts j
+      → r ≡ same_records (extent_at facts i) (records_from b i) (records_from b j) → r ≡ same (subtree b i) (subtree b j)
   same-bytes r e w =
-      w ∙ ap₂ (same_records (get_or extents i 0)) (starts-at b s.table i l) (starts-at b s.table j m)
-      ∙ trees-same (subtree b i) (subtree b j) (get_or extents i 0) _ _ (ranged i l) (ranged j m) (s.each i l) (e ∙ s.each j m)
+      w ∙ ap₂ (same_records (extent_at facts i)) (starts-at b s.table i l) (starts-at b s.table j m)
+      ∙ trees-same (subtree b i) (subtree b j) (extent_at facts i) _ _ (ranged i l) (ranged j m) (sized b facts s i l) (e ∙ sized b facts s j m)

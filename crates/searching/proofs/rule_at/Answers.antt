@@ -5,40 +5,24 @@ use Rattle.searching.specs.Laws.Search.{block_at, from3, from4, or-none, or_some
 use Rattle.searching.proofs.rule_at.Goals as goal
 
 pub returns-then-is_block : goal.returns-then-is_block
-returns-then-is_block c =
-    block_at _ c.requires.fact_1.sizes.table _ _ c.requires.fact_2 c.node_at-node.ensures c.is_block.ensures c.if-is_block.true
+returns-then-is_block c = block_at _ c.args.view.surveyed.table _ _ c.requires.inside c.node_at.ensures c.is_block.ensures c.if-is_block.true
 
-pub returns-then-r2-ne0 : goal.returns-then-r2-ne0
-returns-then-r2-ne0 c = rw rule-is (or_some rule2 from3 _ _ _ c.if-r2-ne0.true c.rule2_at-r2.ensures)
+pub returns-in-Some : goal.returns-in-Some
+returns-in-Some c = rw rule-is (or_some rule2 from3 _ _ _ c.in-Some.ensures)
 
-pub returns-then-r3-ne0 : goal.returns-then-r3-ne0
-returns-then-r3-ne0 c =
-    rw rule-is (or-none rule2 from3 _ _ _ _ _ c.if-r2-ne0.false c.rule2_at-r2.ensures
-    (or_some rule3 from4 _ _ _ c.if-r3-ne0.true c.rule3_at-r3.ensures))
+pub returns-in-Some-rule3_at : goal.returns-in-Some-rule3_at
+returns-in-Some-rule3_at c =
+    rw rule-is (or-none rule2 from3 _ _ _ _ c.in_default.ensures
+    (or_some rule3 from4 _ _ _ c.in-Some-rule3_at.ensures))
 
-pub rule4_at-r4-requires-clause-fact_1 : goal.rule4_at-r4-requires-clause-fact_1
-rule4_at-r4-requires-clause-fact_1 c = c.requires.fact_1
-
-pub rule4_at-r4-requires-clause-fact_2 : goal.rule4_at-r4-requires-clause-fact_2
-rule4_at-r4-requires-clause-fact_2 c = c.requires.fact_2
-
-pub rule4_at-r4-requires-clause-fact_4 : goal.rule4_at-r4-requires-clause-fact_4
-rule4_at-r4-requires-clause-fact_4 c = c.requires.fact_4
-
-pub returns-then-r4-ne0 : goal.returns-then-r4-ne0
-returns-then-r4-ne0 c =
-    rw rule-is (or-none rule2 from3 _ _ _ _ _ c.if-r2-ne0.false c.rule2_at-r2.ensures
-    (or-none rule3 from4 _ _ _ _ _ c.if-r3-ne0.false c.rule3_at-r3.ensures
-    (or_some rule4 later_rule _ _ _ c.if-r4-ne0.true c.rule4_at-r4.ensures)))
-
-pub later_rule_at-requires-clause-fact_1 : goal.later_rule_at-requires-clause-fact_1
-later_rule_at-requires-clause-fact_1 c = c.requires.fact_1
-
-pub later_rule_at-requires-clause-fact_2 : goal.later_rule_at-requires-clause-fact_2
-later_rule_at-requires-clause-fact_2 c = c.requires.fact_2
+pub returns-in-Some-rule4_at : goal.returns-in-Some-rule4_at
+returns-in-Some-rule4_at c =
+    rw rule-is (or-none rule2 from3 _ _ _ _ c.in_default.ensures
+    (or-none rule3 from4 _ _ _ _ c.in_default-rule3_at.ensures
+    (or_some rule4 later_rule _ _ _ c.in-Some-rule4_at.ensures)))
 
 pub returns : goal.returns
 returns c =
-    rw rule-is (or-none rule2 from3 _ _ _ _ _ c.if-r2-ne0.false c.rule2_at-r2.ensures
-    (or-none rule3 from4 _ _ _ _ _ c.if-r3-ne0.false c.rule3_at-r3.ensures
-    (or-none rule4 later_rule _ _ _ _ _ c.if-r4-ne0.false c.rule4_at-r4.ensures c.later_rule_at.ensures)))
+    rw rule-is (or-none rule2 from3 _ _ _ _ c.in_default.ensures
+    (or-none rule3 from4 _ _ _ _ c.in_default-rule3_at.ensures
+    (or-none rule4 later_rule _ _ _ _ c.in_default-rule4_at.ensures c.later_rule_at.ensures)))

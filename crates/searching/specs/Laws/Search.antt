@@ -1,5 +1,6 @@
 -- A step is found record by record: where no rule fits the subtree at a record, the step is the one that is found from the next record on.
-use Rattle.std.specs.Prelude.{◌≡◌, Bool, true, false, T, drop}
+use Rattle.std.specs.Prelude.{◌≡◌, Bool, true, false, T, drop, Some, None}
+use Rattle.std.specs.declared.option.Option.{Option as Maybe}
 use Rattle.std.proofs.Math.Path.{refl, ap, sym}
 use Rattle.std.proofs.Common.{◌∙◌, subst, arith, length-append, length-take-le, take-add, take_at}
 use mathlib.Core.List.{List, ◌++◌, append_assoc}
@@ -25,6 +26,7 @@ use Rattle.subtrees.specs.Laws.Parts.{Here, here-at, records-at}
 use Rattle.subtrees.specs.Laws.Records.{node_at}
 use Rattle.writing.specs.Records.{front}
 use Rattle.rewrite.specs.Wrote.{Wrote, rule_at}
+use Rattle.rewrite.specs.Laws.Records.{none-wrote}
 use Rattle.table.specs.declared.Number.{Number}
 use Rattle.table.specs.declared.Limit.{Limit}
 use Rattle.table.specs.declared.Kind.{Kind}
@@ -121,40 +123,31 @@ also-nothing (some z) = refl
 pub sought-none : (b : List ℕ) → Sought b 0
 sought-none b = record { within = omega arith; same = sym (also-nothing _) }
 
-some_first : (r : Node → Forest → Option Tree) (g : Forest) (out : List ℕ) → Wrote (rule_at r g) 0 out → rule_at r g ≡ none
-unfolding rule_at
-some_first r nil out w = refl
-some_first r (node n f ▸ g) out w = go (r n f) w
-  where
-    go : (x : Option Tree) → Wrote (also (λ t. t ▸ g) x) 0 out → also (λ t. t ▸ g) x ≡ none
-    go none w = unfold also in refl
-    go (some t) w = absurd (unfold Wrote in unfold also in unfold records_in in omega (arith, w.0, some-records t))
-
 -- ---- one rule or else another
 
-first-or : (x y : Option Tree) (g : Forest) (r : ℕ) (out : List ℕ) → (r ≡ 0 → ⊥) → Wrote (also (λ t. t ▸ g) x) r out → Wrote (also (λ t. t ▸ g) (or_else x y)) r out
+first-or : (x y : Option Tree) (g : Forest) (r : ℕ) (out : List ℕ) → Wrote (also (λ t. t ▸ g) x) (Some r) out → Wrote (also (λ t. t ▸ g) (or_else x y)) (Some r) out
 unfolding also or_else Wrote
-first-or none y g r out n w = absurd (n w)
-first-or (some t) y g r out n w = w
+first-or none y g r out w = absurd w
+first-or (some t) y g r out w = w
 
-then-or : (x y : Option Tree) (g : Forest) (r : ℕ) (mid out : List ℕ) → Wrote (also (λ t. t ▸ g) x) 0 mid → Wrote (also (λ t. t ▸ g) y) r out → Wrote (also (λ t. t ▸ g) (or_else x y)) r out
-unfolding also or_else Wrote records_in
+then-or : (x y : Option Tree) (g : Forest) (r : Maybe ℕ) (mid out : List ℕ) → Wrote (also (λ t. t ▸ g) x) None mid → Wrote (also (λ t. t ▸ g) y) r out → Wrote (also (λ t. t ▸ g) (or_else x y)) r out
+unfolding also or_else Wrote
 then-or none y g r mid out w v = v
-then-or (some t) y g r mid out w v = absurd (omega (arith, w.0, some-records t))
+then-or (some t) y g r mid out w v = absurd w
 
 module _ (p q : Node → Forest → Option Tree) where
   abbrev pub either : Node → Forest → Option Tree
   either n f = or_else (p n f) (q n f)
 
-  pub or_some : (g : Forest) (r : ℕ) (out : List ℕ) → (r ≡ 0 → ⊥) → Wrote (rule_at p g) r out → Wrote (rule_at either g) r out
+  pub or_some : (g : Forest) (r : ℕ) (out : List ℕ) → Wrote (rule_at p g) (Some r) out → Wrote (rule_at either g) (Some r) out
   unfolding rule_at Wrote
-  or_some nil r out n w = w
-  or_some (node m f ▸ g) r out n w = first-or (p m f) (q m f) g r out n w
+  or_some nil r out w = w
+  or_some (node m f ▸ g) r out w = first-or (p m f) (q m f) g r out w
 
-  pub or-none : (g : Forest) (r s : ℕ) (mid out : List ℕ) → s ≡ 0 → Wrote (rule_at p g) s mid → Wrote (rule_at q g) r out → Wrote (rule_at either g) r out
+  pub or-none : (g : Forest) (r : Maybe ℕ) (mid out : List ℕ) → Wrote (rule_at p g) None mid → Wrote (rule_at q g) r out → Wrote (rule_at either g) r out
   unfolding rule_at
-  or-none nil r s mid out e w v = v
-  or-none (node m f ▸ g) r s mid out e w v = then-or (p m f) (q m f) g r mid out (rw e at w) v
+  or-none nil r mid out w v = v
+  or-none (node m f ▸ g) r mid out w v = then-or (p m f) (q m f) g r mid out w v
 
 -- rules 2 to 9, and 5 to 9, in their order
 abbrev pub from4 : Node → Forest → Option Tree
@@ -214,24 +207,24 @@ also-append a c none = refl
 also-append a c (some z) = ap some (sym (append_assoc a c z))
 
 -- where no record is written, no rule fits there
-pub fits_not : (b : List ℕ) (i : ℕ) (out : List ℕ) (h : Here b i) → Wrote (rule_at rule (trees_at b i)) 0 out → rule h.own h.kids ≡ none
-fits_not b i out h w = none_first h.later _ (sym (rule-here b i h) ∙ some_first rule (trees_at b i) out w)
+pub fits_not : (b : List ℕ) (i : ℕ) (out : List ℕ) (h : Here b i) → Wrote (rule_at rule (trees_at b i)) None out → rule h.own h.kids ≡ none
+fits_not b i out h w = none_first h.later _ (sym (rule-here b i h) ∙ none-wrote _ out w)
 
 -- where records are, the tree in the node's place
 pub record Fits (b : List ℕ) (i r : ℕ) (out : List ℕ) (h : Here b i) : Type 0 where
   pub tree : Tree
   pub fits : rule h.own h.kids ≡ some tree
-  pub wrote : Wrote (some (tree ▸ h.later)) r out
+  pub wrote : Wrote (some (tree ▸ h.later)) (Some r) out
 
-pub fits-here : (b : List ℕ) (i r : ℕ) (out : List ℕ) (h : Here b i) → (r ≡ 0 → ⊥) → Wrote (rule_at rule (trees_at b i)) r out → Fits b i r out h
-fits-here b i r out h n w = go (rule h.own h.kids) refl (subst (λ x. Wrote x r out) (rule-here b i h) w)
+pub fits-here : (b : List ℕ) (i r : ℕ) (out : List ℕ) (h : Here b i) → Wrote (rule_at rule (trees_at b i)) (Some r) out → Fits b i r out h
+fits-here b i r out h w = go (rule h.own h.kids) refl (subst (λ x. Wrote x (Some r) out) (rule-here b i h) w)
   where
-    go : (x : Option Tree) → rule h.own h.kids ≡ x → Wrote (also (λ t. t ▸ h.later) x) r out → Fits b i r out h
-    go none e v = absurd (n (unfold also in unfold Wrote in v))
+    go : (x : Option Tree) → rule h.own h.kids ≡ x → Wrote (also (λ t. t ▸ h.later) x) (Some r) out → Fits b i r out h
+    go none e v = absurd (unfold also in unfold Wrote in v)
     go (some t) e v = record { tree = t; fits = e; wrote = unfold also in v }
 
 module _ (b : List ℕ) (s : IsTable b) where
-  pub sought-next : (i : ℕ) (out : List ℕ) → i < record_count b → Sought b i → Wrote (rule_at rule (trees_at b i)) 0 out → Sought b (i + 1)
+  pub sought-next : (i : ℕ) (out : List ℕ) → i < record_count b → Sought b i → Wrote (rule_at rule (trees_at b i)) None out → Sought b (i + 1)
   sought-next i out l q w =
       let h = here-at b s i l in
       let over : also encodes (inside_in (trees_at b i)) ≡ also (λ z. record_bytes h.own (size h.kids) ++ z) (also encodes (inside_in (trees_at b (i + 1)))) =
@@ -241,7 +234,7 @@ module _ (b : List ℕ) (s : IsTable b) where
         same = q.same ∙ ap (also (λ z. front i b ++ z)) over ∙ also-append (front i b) (record_bytes h.own (size h.kids)) (also encodes (inside_in (trees_at b (i + 1)))) ∙ ap (λ x. also (λ z. x ++ z) (also encodes (inside_in (trees_at b (i + 1))))) (sym (front-next b i h));
       }
 
-  by_bytes : (x : Option Forest) (z : List ℕ) (at n : ℕ) (out : List ℕ) → also encodes x ≡ some z → 0 < n → record_length * (at + n) ≡ length z → at ≤ record_count b → front at b ++ front n out ≡ z → Rewritten x b at n out
+  by_bytes : (x : Option Forest) (z : List ℕ) (at n : ℕ) (out : List ℕ) → also encodes x ≡ some z → 0 < n → record_length * (at + n) ≡ length z → at ≤ record_count b → front at b ++ front n out ≡ z → Rewritten x b (Some (record { at = at; len = n })) out
   unfolding also Rewritten
   by_bytes none z at n out e l k m w = absurd (subst is_none e tt)
     where
@@ -254,10 +247,10 @@ module _ (b : List ℕ) (s : IsTable b) where
       bytes none = z
       bytes (some y) = y
 
-  no_bytes : (x : Option Forest) (at : ℕ) (out : List ℕ) → also encodes x ≡ none → Rewritten x b at 0 out
+  no_bytes : (x : Option Forest) (out : List ℕ) → also encodes x ≡ none → Rewritten x b None out
   unfolding also Rewritten
-  no_bytes none at out e = refl
-  no_bytes (some g) at out e = absurd (subst is_some e tt)
+  no_bytes none out e = tt
+  no_bytes (some g) out e = absurd (subst is_some e tt)
     where
       is_some : Option (List ℕ) → Type 0
       is_some none = ⊥
@@ -268,16 +261,16 @@ module _ (b : List ℕ) (s : IsTable b) where
 
   -- a rule that fits at record i
   found_here : (i r : ℕ) (out : List ℕ) (n : Node) (f g : Forest) (t : Tree) → trees_at b i ≡ node n f ▸ g → Sought b i → rule n f ≡ some t
-      → Wrote (some (t ▸ g)) r out → Rewritten (inside_in (trees_at b 0)) b i r out
+      → Wrote (some (t ▸ g)) (Some r) out → Rewritten (inside_in (trees_at b 0)) b (Some (record { at = i; len = r })) out
   unfolding also Wrote records_in
   found_here i r out n f g t e q k w =
       let at : inside_in (trees_at b i) ≡ some (t ▸ g) = ap inside_in e ∙ step-here n f g t k in
       by_bytes _ _ i r out (q.same ∙ ap (λ x. also (λ z. front i b ++ z) (also encodes x)) at) (omega (arith, w.0, some-records t)) (long i r g t q.within w.0) q.within (ap (λ z. front i b ++ z) w.1)
 
-  pub sought-found : (i r : ℕ) (out : List ℕ) → i < record_count b → Sought b i → (r ≡ 0 → ⊥) → Wrote (rule_at rule (trees_at b i)) r out → Rewritten (inside_in (trees_at b 0)) b i r out
-  sought-found i r out l q n w =
+  pub sought-found : (i r : ℕ) (out : List ℕ) → i < record_count b → Sought b i → Wrote (rule_at rule (trees_at b i)) (Some r) out → Rewritten (inside_in (trees_at b 0)) b (Some (record { at = i; len = r })) out
+  sought-found i r out l q w =
       let h = here-at b s i l in
-      let f = fits-here b i r out h n w in
+      let f = fits-here b i r out h w in
       found_here i r out h.own h.kids h.later f.tree h.here q f.fits f.wrote
 
   -- past the last record stands no tree
@@ -286,9 +279,9 @@ module _ (b : List ℕ) (s : IsTable b) where
   none_left nil e = refl
   none_left (t ▸ g) e = absurd (omega (arith, some-records t))
 
-  pub sought-end : (i at : ℕ) (out : List ℕ) → record_count b ≤ i → Sought b i → Rewritten (inside_in (trees_at b 0)) b at 0 out
+  pub sought-end : (i : ℕ) (out : List ℕ) → record_count b ≤ i → Sought b i → Rewritten (inside_in (trees_at b 0)) b None out
   unfolding also
-  sought-end i at out l q = no_bytes _ at out (q.same ∙ rw (none_left (trees_at b i) (omega (arith, records-at b s i))) refl)
+  sought-end i out l q = no_bytes _ out (q.same ∙ rw (none_left (trees_at b i) (omega (arith, records-at b s i))) refl)
 
 -- ---- a block
 
@@ -300,8 +293,8 @@ block_row b i h Choice e z = absurd (subst T (sym z) tt)
 block_row b i h (Loop n) e z = absurd (subst T (sym z) tt)
 
 pub block_at : (b : List ℕ) → IsTable b → (i : ℕ) (out : List ℕ) {n : Node} {x : Bool} → i < record_count b → n ≡ first_node (drop (record_length * i) b) → x ≡ is_block n.kind → x ≡ true
-    → Wrote (rule_at rule (trees_at b i)) 0 out
+    → Wrote (rule_at rule (trees_at b i)) None out
 unfolding Wrote
 block_at b s i out l e d z =
     let h = here-at b s i l in
-    rw (block_row b i h h.own.kind refl (ap (λ m. is_block m.kind) (sym (e ∙ node_at b i h)) ∙ sym d ∙ z)) refl
+    rw (block_row b i h h.own.kind refl (ap (λ m. is_block m.kind) (sym (e ∙ node_at b i h)) ∙ sym d ∙ z)) tt

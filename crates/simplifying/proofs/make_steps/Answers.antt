@@ -17,7 +17,7 @@ steps_in-run-requires c =
       simplifiable_1 = subst Simplifiable (sym (copy_is _ _ _ c.write_front.ensures)) c.requires.fact_1;
       simplifiable_2 = omega (arith, l, c.write_front.auto);
       simplifiable_3 = omega (arith, l);
-      len_bound = (omega (arith, l), omega (arith, l));
+      len_bound = omega (arith, l);
     }
 
 pub write_front-requires-2 : goal.write_front-requires-2

@@ -1,100 +1,46 @@
-use Prim.Native.Nat.{◌≤◌}
-use native.Mathlib.Omega.{arith}
-use borrow.Author.Rules.{rules}
-use lib.ListN.{length, take}
-use lib.Seq.{length-take-le}
-use Rattle.table.proofs.Laws.Reading.{part-to}
-use Rattle.stepping.specs.Laws.Budget.{Turn, going-as, going_start, none-settled, stage-ends, stage-short, step-ready, survey-ready, turn-of}
-use Rattle.stepping.proofs.steps_in.Goals.{In-loop-spot}
-use Rattle.stepping.proofs.steps_in.Goals.{At-loop-spot}
+use Rattle.std.proofs.Common.{◌≤◌, refl, arith, rules, length-take-le}
+use Rattle.stepping.specs.Laws.Budget.{stage-fewer, stage-finished, stage-next, stage-short, stage-used, stage_made, stage_start}
+use Rattle.stepping.proofs.steps_in.Goals.{At-loop-taken}
 use Rattle.stepping.proofs.steps_in.Goals as goal
 
-pub survey-requires : goal.survey-requires
-survey-requires c =
-    let k = survey-ready _ _ _ _ c.requires.simplifiable_1 c.requires.simplifiable_2 c.requires.len_bound.0 c.requires.len_bound.1 in
-    record { fact_1 = k.0; fact_2 = k.1 }
-
-pub step_onto-spot-requires : goal.step_onto-spot-requires
-step_onto-spot-requires c =
-    let known = rw (part-to c.args.work.now c.args.len) at c.survey.ensures in
-    let k = step-ready _ _ _ _ _ _ c.requires.simplifiable_1 c.requires.simplifiable_2 known (none-settled _ _ known.sizes) c.requires.simplifiable_3 in
-    record { fact_1 = k.0; fact_2 = k.1.0; fact_3 = k.1.1.0; fact_4 = k.1.1.1 }
-
-pub loop-spot-init : goal.loop-spot-init
-loop-spot-init c =
-    let whole = part-to c.args.work.now c.args.len in (
-      record {
-        going = going_start _ _ c.requires.simplifiable_1;
-        room = c.requires.simplifiable_2;
-        known = rw whole at c.survey.ensures;
-        next = rw whole at c.step_onto-spot.ensures.rewritten;
-        found = rw whole at c.step_onto-spot.ensures.found;
-      },
-      search rules,
-      search rules,
-      search rules,
-      search rules,
-    )
-
-turn : (c : In-loop-spot) → let l = c.loop-spot in let a = c.args in Turn (take a.len a.work.now) a.allowance l.work l.n l.taken l.extents l.spot.at l.spot.len l.spare
-turn c = turn-of c.loop-spot.invariant.0 c.loop-spot-test.true
+pub loop-taken-init : goal.loop-taken-init
+loop-taken-init c = record {
+  stage = stage_start _ _ _ _ c.requires.simplifiable_1 c.requires.simplifiable_2 c.survey.ensures;
+  work_as_long = refl;
+  facts_as_long = refl;
+  spare_as_long = refl;
+}
 
 -- the table is no longer than it was
-short : (c : At-loop-spot) → c.loop-spot.n ≤ c.args.len
-short c = let start = c in omega (arith, stage-short _ _ _ _ _ _ _ _ _ _ c.loop-spot.invariant.0, length-take-le start.args.len start.args.work.now start.requires.simplifiable_2)
+short : (c : At-loop-taken) → c.loop-taken.n ≤ c.args.len
+short c = let s = c in omega (arith, stage-short c.loop-taken.invariant.stage, length-take-le s.args.len s.args.work.now s.requires.simplifiable_2)
 
-pub make_step-n-requires : goal.make_step-n-requires
-make_step-n-requires c =
-    let t = turn (goal.at.make_step-n-requires c).In-loop-spot in
+pub returns-in_default-clause-fact_1 : goal.returns-in_default-clause-fact_1
+returns-in_default-clause-fact_1 c = stage-finished c.loop-taken.invariant.stage _ c.in_default.ensures.rewritten
+
+pub make_step-n-requires-clause-surveyed_3 : goal.make_step-n-requires-clause-surveyed_3
+make_step-n-requires-clause-surveyed_3 c =
+    let i = c.loop-taken.invariant in
+    omega (arith, stage-fewer i.stage _ _ c.in-Some.ensures.rewritten, short (goal.at.make_step-n-requires-clause-surveyed_3 c).At-loop-taken, c.requires.simplifiable_3, i.spare_as_long, c.step_onto.auto)
+
+pub make_step-n-requires-clause-table_1 : goal.make_step-n-requires-clause-table_1
+make_step-n-requires-clause-table_1 c = (stage-next c.loop-taken.invariant.stage _ _ c.in-Some.ensures.rewritten c.loop-taken-test.true).simplifiable.table
+
+pub make_step-n-requires-clause-table_2 : goal.make_step-n-requires-clause-table_2
+make_step-n-requires-clause-table_2 c = stage-fewer c.loop-taken.invariant.stage _ _ c.in-Some.ensures.rewritten
+
+pub loop-taken-preserved : goal.loop-taken-preserved
+loop-taken-preserved c =
+    let i = c.loop-taken.invariant in
+    let made = c.make_step-n.ensures in
     record {
-      surveyed_1 = c.loop-spot.invariant.0.known;
-      surveyed_2 = c.loop-spot.invariant.0.room;
-      surveyed_3 = omega (arith, t.fewer, short (goal.at.make_step-n-requires c).At-loop-spot, c.requires.simplifiable_3, c.loop-spot.invariant.4);
-      placed = t.placed;
-      table_1 = t.going.simplifiable.table;
-      table_2 = t.fewer;
+      stage = stage_made i.stage _ _ c.in-Some.ensures.rewritten c.loop-taken-test.true _ _ _ made.value.1
+          (omega (arith, made.value.0, stage-fewer i.stage _ _ c.in-Some.ensures.rewritten, i.stage.room, c.make_step-n.auto)) made.surveyed_2_1 made.surveyed_2_2;
+      work_as_long = search rules;
+      facts_as_long = search rules;
+      spare_as_long = search rules;
     }
 
-pub overflow_add-taken : goal.overflow_add-taken
-overflow_add-taken c =
-    omega (arith, (turn (goal.at.overflow_add-taken c).In-loop-spot).more, c.ranges.allowance)
-
-pub slice_bounds-step_onto-end-in-loop-spot : goal.slice_bounds-step_onto-end-in-loop-spot
-slice_bounds-step_onto-end-in-loop-spot c =
-    omega (arith, c.make_step-n.ensures.value.0, (turn (goal.at.slice_bounds-step_onto-end-in-loop-spot c).In-loop-spot).fewer, c.loop-spot.invariant.0.room, c.make_step-n.auto)
-
-pub step_onto-spot-requires-in-loop-spot : goal.step_onto-spot-requires-in-loop-spot
-step_onto-spot-requires-in-loop-spot c =
-    let t = turn (goal.at.step_onto-spot-requires-in-loop-spot c).In-loop-spot in
-    let tells = c.make_step-n.ensures in
-    let k = step-ready c.make_step-n.new.work _ _ c.make_step-n.result _ (length c.loop-spot.spare) (going-as tells.value.1 t.going).simplifiable (omega (arith, tells.value.0, t.fewer, c.loop-spot.invariant.0.room, c.make_step-n.auto)) tells.surveyed_2_1 tells.surveyed_2_2
-    (omega (arith, tells.value.0, t.fewer, short (goal.at.step_onto-spot-requires-in-loop-spot c).At-loop-spot, c.requires.simplifiable_3, c.loop-spot.invariant.4)) in
-    record { fact_1 = k.0; fact_2 = k.1.0; fact_3 = k.1.1.0; fact_4 = k.1.1.1 }
-
-pub loop-spot-smaller : goal.loop-spot-smaller
-loop-spot-smaller c =
-    omega (arith, (turn (goal.at.loop-spot-smaller c).In-loop-spot).more)
-
-pub loop-spot-preserved : goal.loop-spot-preserved
-loop-spot-preserved c =
-    let t = turn (goal.at.loop-spot-preserved c).In-loop-spot in
-    let tells = c.make_step-n.ensures in
-    let whole = part-to c.make_step-n.new.work c.make_step-n.result in (
-      record {
-        going = going-as tells.value.1 t.going;
-        room = omega (arith, tells.value.0, t.fewer, c.loop-spot.invariant.0.room, c.make_step-n.auto);
-        known = tells.surveyed_2_1;
-        next = rw whole at c.step_onto-spot-in-loop-spot.ensures.rewritten;
-        found = rw whole at c.step_onto-spot-in-loop-spot.ensures.found;
-      },
-      omega (arith, c.make_step-n.auto, c.loop-spot.invariant.1),
-      omega (arith, c.make_step-n.auto, c.loop-spot.invariant.2),
-      omega (arith, c.make_step-n.auto, c.loop-spot.invariant.3),
-      omega (arith, c.step_onto-spot-in-loop-spot.auto, c.loop-spot.invariant.4),
-    )
-
 pub returns-clause-fact_1 : goal.returns-clause-fact_1
-returns-clause-fact_1 c = stage-ends _ _ _ _ _ _ _ _ _ _ c.loop-spot.invariant.0 c.loop-spot-test.false
-
-pub returns-clause-fact_2 : goal.returns-clause-fact_2
-returns-clause-fact_2 c = short (goal.at.returns-clause-fact_2 c).At-loop-spot
+returns-clause-fact_1 c =
+    stage-used c.loop-taken.invariant.stage _ _ c.step_onto-next.ensures.rewritten c.loop-taken-test.false _ c.is_none.ensures

@@ -1,9 +1,9 @@
 -- Steps up to an allowance, one after the other, each an edit of the table's bytes.
-use Rattle.std.specs.Prelude.{◌≡◌, refl, Bool, true, false, not, ◌&&◌, List, ◌++◌, ℕ, ◌+◌, ◌*◌, ◌-◌, ◌<◌, ◌≤◌, suc, zero, T, eqb, ltb, drop, get_or, length, take}
-use Rattle.std.proofs.Common.{ap, sym, subst, ◌∙◌, append-nil, add-zero, zero-add, arith, length-take-le, eqb-true, ltb-false, ltb-true}
+use Rattle.std.specs.Prelude.{◌≡◌, refl, Bool, true, false, not, List, ◌++◌, ℕ, ◌+◌, ◌*◌, ◌-◌, ◌<◌, ◌≤◌, suc, zero, T, drop, length, take, is_some, Some, None}
+use Rattle.std.specs.declared.option.Option.{Option as Maybe}
+use Rattle.std.proofs.Common.{ap, sym, subst, ◌∙◌, append-nil, add-zero, zero-add, arith, length-take-le}
 use Rattle.std.proofs.Math.Option.{Option, none, some}
 use Rattle.std.proofs.Math.Nat.{sub-zero}
-use Rattle.std.proofs.lemmas.Bool.{eqb-false}
 use Rattle.table.specs.Checking.{IsTable}
 use Rattle.table.specs.Numbers.{record_length}
 use Rattle.table.specs.Questions.{Accepted}
@@ -16,7 +16,9 @@ use Rattle.evaluate.specs.Evaluate.{zeros}
 use Rattle.simplify.specs.Steps.{Made, also, is_none, onward, step, steps}
 use Rattle.simplify.proofs.Laws.Keeps.{Kept}
 use Rattle.simplify.proofs.Laws.Stepping.{Steps, ends, goes, last, step-steps}
-use Rattle.subtrees.specs.Facts.{Extents, Surveyed, marks_each}
+use Rattle.subtrees.specs.Facts.{Surveyed, extent_at}
+use Rattle.subtrees.specs.declared.Facts.{Facts}
+use Rattle.searching.specs.declared.Spot.{Spot}
 use Rattle.subtrees.specs.Parts.{Simplifiable}
 use Rattle.subtrees.specs.Laws.Parts.{extent-some}
 use Rattle.writing.specs.Records.{front}
@@ -56,14 +58,14 @@ pub record Next (b : List ℕ) (at n : ℕ) (out : List ℕ) : Type 0 where
   pub count : at + n ≡ records tree
   pub bytes : front at b ++ front n out ≡ encode tree
 
-next_of : (b : List ℕ) (at n : ℕ) (out : List ℕ) (x : Option Tree) → step (decode b) ≡ x → (n ≡ 0 → ⊥) → Rewritten (also (λ u. u ▸ nil) x) b at n out → Next b at n out
+next_of : (b : List ℕ) (spot : Spot) (out : List ℕ) (x : Option Tree) → step (decode b) ≡ x → Rewritten (also (λ u. u ▸ nil) x) b (Some spot) out → Next b spot.at spot.len out
 unfolding also Rewritten encodes records_in
-next_of b at n out none e z w = absurd (z w)
-next_of b at n out (some u) e z w = record { tree = u; is = e; inside = w.2; count = omega (arith, w.1); bytes = w.3 ∙ append-nil (encode u) }
+next_of b spot out none e w = absurd w
+next_of b spot out (some u) e w = record { tree = u; is = e; inside = w.2; count = omega (arith, w.1); bytes = w.3 ∙ append-nil (encode u) }
 
-pub next-step : (b : List ℕ) (at n : ℕ) (out : List ℕ) → (n ≡ 0 → ⊥) → Rewritten (stepped (decode b)) b at n out → Next b at n out
+pub next-step : (b : List ℕ) (spot : Spot) (out : List ℕ) → Rewritten (stepped (decode b)) b (Some spot) out → Next b spot.at spot.len out
 unfolding stepped
-next-step b at n out z w = next_of b at n out (step (decode b)) refl z w
+next-step b spot out w = next_of b spot out (step (decode b)) refl w
 
 unfoldable keeps : Tree → Option Tree → Type 0
 keeps t none = Unit {0}
@@ -123,15 +125,15 @@ ends_by b₀ n b k finished g e =
     let m = g.same ∙ ap (added k) e in
     record { bytes = ap (λ x. encode x.tree) m ∙ g.simplifiable.table.back; taken = ap (λ x. x.taken) m ∙ add-zero k; ending = ap (λ x. x.finished) m }
 
-none_of : (x : Option Tree) (b : List ℕ) (at : ℕ) (out : List ℕ) → Rewritten (also (λ u. u ▸ nil) x) b at 0 out → x ≡ none
+none_of : (x : Option Tree) (b out : List ℕ) → Rewritten (also (λ u. u ▸ nil) x) b None out → x ≡ none
 unfolding also Rewritten
-none_of none b at out w = refl
-none_of (some u) b at out w = absurd (omega (arith, w.0))
+none_of none b out w = refl
+none_of (some u) b out w = absurd w
 
 -- no rule fits
-pub ends-finished : (b₀ : List ℕ) (n : ℕ) (b : List ℕ) (k at : ℕ) (out : List ℕ) → Going b₀ n b k → Rewritten (stepped (decode b)) b at 0 out → Ends b₀ n b k true
+pub ends-finished : (b₀ : List ℕ) (n : ℕ) (b : List ℕ) (k : ℕ) (out : List ℕ) → Going b₀ n b k → Rewritten (stepped (decode b)) b None out → Ends b₀ n b k true
 unfolding stepped
-ends-finished b₀ n b k at out g w = ends_by b₀ n b k true g (done (n - k) (decode b) (none_of (step (decode b)) b at out w))
+ends-finished b₀ n b k out g w = ends_by b₀ n b k true g (done (n - k) (decode b) (none_of (step (decode b)) b out w))
 
 -- the allowance is used, and a rule fits
 pub ends-spent : (b₀ : List ℕ) (n : ℕ) (b : List ℕ) (k : ℕ) → Going b₀ n b k → n ≤ k → {at m : ℕ} {out : List ℕ} → Next b at m out → Ends b₀ n b k false
@@ -139,87 +141,85 @@ ends-spent b₀ n b k g l x =
     let none_left : n - k ≡ 0 = omega arith in
     ends_by b₀ n b k false g (rw none_left (used (decode b) x.tree x.is))
 
+-- the allowance is used: whether a rule fits is asked once more
+pub ends-used : (b₀ : List ℕ) (n : ℕ) (b : List ℕ) (k : ℕ) (out : List ℕ) → Going b₀ n b k → n ≤ k → (next : Maybe Spot) → Rewritten (stepped (decode b)) b next out
+    → (finished : Bool) → is_some next ≡ not finished → Ends b₀ n b k finished
+ends-used b₀ n b k out g l None w true e = ends-finished b₀ n b k out g w
+ends-used b₀ n b k out g l None w false e = absurd (subst T (sym e) tt)
+ends-used b₀ n b k out g l (Some spot) w true e = absurd (subst T e tt)
+ends-used b₀ n b k out g l (Some spot) w false e = ends-spent b₀ n b k g l (next-step b spot out w)
+
 -- ---- on the table in the first bytes of a buffer
 
--- k steps made the table in the first `long` bytes of work, whose facts are known, and the next step is told by a spot and the buffer out
-pub record Stage (b₀ : List ℕ) (n : ℕ) (work : List ℕ) (long k : ℕ) (extents marks : List ℕ) (at m : ℕ) (out : List ℕ) : Type 0 where
+-- what a slice of a buffer's first bytes is
+abbrev pub part : ℕ → List ℕ → List ℕ
+part n work = take (n - 0) (drop 0 work)
+
+-- k steps made the table in the first `long` bytes of work, whose facts are known, the last of them at record `at`
+pub record Stage (b₀ : List ℕ) (n : ℕ) (work : List ℕ) (long k : ℕ) (facts : List Facts) (at : ℕ) : Type 0 where
   pub going : Going b₀ n (take long work) k
   pub room : long ≤ length work
-  pub known : Surveyed (take long work) extents marks
-  pub next : Rewritten (stepped (decode (take long work))) (take long work) at m out
-  pub found : Found (take long work) extents at m out
+  pub known : Surveyed (take long work) facts
+  pub settled : Settled (take long work) facts at
 
 -- a part of a buffer, ready to be surveyed
-pub survey-ready : (work : List ℕ) (n facts marks : ℕ) → Simplifiable (take n work) → n ≤ length work → n ≤ record_length * facts → marks_each * n ≤ record_length * marks
-    → let b = take (n - 0) (drop 0 work) in IsTable b × ((record_count b ≤ facts) × (marks_each * record_count b ≤ marks))
-survey-ready work n facts marks s l f g =
+pub survey-ready : (work : List ℕ) (n facts : ℕ) → Simplifiable (take n work) → n ≤ length work → n ≤ record_length * facts → IsTable (part n work) × (record_count (part n work) ≤ facts)
+survey-ready work n facts s l f =
     let long = length-take-le n work l in
-    rw (part-to work n) (s.table, (omega arith, omega arith))
-
--- and ready for a step
-pub step-ready : (work extents marks : List ℕ) (n at out : ℕ) → Simplifiable (take n work) → n ≤ length work → Surveyed (take n work) extents marks → Settled (take n work) extents at → n ≤ out
-    → let b = take (n - 0) (drop 0 work) in Simplifiable b × (Surveyed b extents marks × (Settled b extents at × (length b ≤ out)))
-step-ready work extents marks n at out s l v q h =
-    let long = length-take-le n work l in
-    rw (part-to work n) (s, (v, (q, omega arith)))
+    rw (part-to work n) (s.table, omega arith)
 
 -- before the first step every subtree ends behind record 0
-pub none-settled : (b extents : List ℕ) → Extents b extents → Settled b extents 0
-none-settled b extents x j l o = absurd (omega (arith, o, extent-some b extents x j l))
+none-settled : (b : List ℕ) (facts : List Facts) → Surveyed b facts → Settled b facts 0
+none-settled b facts x j l o = absurd (omega (arith, o, extent-some b facts x j l))
 
-module _ (b₀ : List ℕ) (n : ℕ) (work : List ℕ) (long k : ℕ) (extents marks : List ℕ) (at m : ℕ) (out : List ℕ) (s : Stage b₀ n work long k extents marks at m out) where
+pub stage_start : (work : List ℕ) (n long : ℕ) (facts : List Facts) → Simplifiable (take long work) → long ≤ length work → Surveyed (part long work) facts → Stage (take long work) n work long 0 facts 0
+stage_start work n long facts s l v =
+    let known : Surveyed (take long work) facts = rw (part-to work long) at v in
+    record { going = going_start _ n s; room = l; known = known; settled = none-settled _ facts known }
+
+module _ {b₀ : List ℕ} {n : ℕ} {work : List ℕ} {long k : ℕ} {facts : List Facts} {at : ℕ} (s : Stage b₀ n work long k facts at) where
   long-is : length (take long work) ≡ long
   long-is = length-take-le long work s.room
 
   pub stage-short : long ≤ length b₀
   stage-short = omega (arith, s.going.no_longer, long-is)
 
-  module _ (z : m ≡ 0 → ⊥) where
-    next_one : Next (take long work) at m out
-    next_one = next-step _ at m out z s.next
+  -- the part, ready for a step
+  pub stage-known : Surveyed (part long work) facts
+  stage-known = rw (part-to work long) s.known
+
+  pub stage-ready : Simplifiable (part long work) × Settled (part long work) facts at × (length (part long work) ≡ long)
+  stage-ready = rw (part-to work long) (s.going.simplifiable, s.settled, long-is)
+
+  -- no rule fits
+  pub stage-finished : (out : List ℕ) → Rewritten (stepped (decode (part long work))) (part long work) None out → Ends b₀ n (take long work) k true
+  stage-finished out w = ends-finished b₀ n (take long work) k out s.going (rw (part-to work long) at w)
+
+  -- the allowance is used
+  pub stage-used : (out : List ℕ) (next : Maybe Spot) → Rewritten (stepped (decode (part long work))) (part long work) next out → n ≤ k → (finished : Bool) → is_some next ≡ not finished
+      → Ends b₀ n (take long work) n finished
+  stage-used out next w l finished e =
+      let all : k ≡ n = omega (arith, s.going.within) in
+      subst (λ m. Ends b₀ n (take long work) m finished) all (ends-used b₀ n (take long work) k out s.going l next (rw (part-to work long) at w) finished e)
+
+  -- a step at a spot
+  module _ (spot : Spot) (out : List ℕ) (w : Rewritten (stepped (decode (part long work))) (part long work) (Some spot) out) where
+    next_one : Next (take long work) spot.at spot.len out
+    next_one = next-step _ spot out (rw (part-to work long) at w)
 
     -- the step leaves no more records
-    pub stage-fewer : record_length * (at + m) ≤ long
+    pub stage-fewer : record_length * (spot.at + spot.len) ≤ long
     stage-fewer =
         let t = s.going.simplifiable in
         omega (arith, next_one.count, (kept_step _ _ next_one.is).no_more (λ x. t.fits) t.table.accepted, length-encode (decode (take long work)), ap length t.table.back, long-is)
 
-    stage-next : k < n → Going b₀ n (front at (take long work) ++ front m out) (k + 1)
+    pub stage-next : k < n → Going b₀ n (front spot.at (take long work) ++ front spot.len out) (k + 1)
     stage-next l = going_next b₀ n (take long work) k s.going l next_one
 
-    pub stage-spent : n ≤ k → Ends b₀ n (take long work) k false
-    stage-spent l = ends-spent b₀ n (take long work) k s.going l next_one
+    pub stage-placed : Found (part long work) facts (Some spot) out → Placed (take long work) spot.at (spot.at + extent_at facts spot.at) spot.len out
+    stage-placed f = rw (part-to work long) at f
 
-  pub stage-finished : m ≡ 0 → Ends b₀ n (take long work) k true
-  stage-finished e = ends-finished b₀ n (take long work) k at out s.going (rw e at s.next)
-
-  -- by the loop's test
-  pub stage-ends : (not (eqb m 0) && ltb k n) ≡ false → Ends b₀ n (take long work) k (eqb m 0)
-  stage-ends e = go (eqb m 0) refl (ltb k n) refl e
-    where
-      go : (x : Bool) → eqb m 0 ≡ x → (y : Bool) → ltb k n ≡ y → (not x && y) ≡ false → Ends b₀ n (take long work) k x
-      go true p y q e = stage-finished (eqb-true m 0 p)
-      go false p true q e = absurd (subst T e tt)
-      go false p false q e = stage-spent (eqb-false m 0 p) (ltb-false k n q)
-
-  -- and where it goes on
-  pub stage-on : (not (eqb m 0) && ltb k n) ≡ true → (m ≡ 0 → ⊥) × (k < n)
-  stage-on e = go (eqb m 0) refl (ltb k n) refl e
-    where
-      go : (x : Bool) → eqb m 0 ≡ x → (y : Bool) → ltb k n ≡ y → (not x && y) ≡ true → (m ≡ 0 → ⊥) × (k < n)
-      go true p y q e = absurd (subst T (sym e) tt)
-      go false p true q e = (eqb-false m 0 p, ltb-true k n q)
-      go false p false q e = absurd (subst T (sym e) tt)
-
--- what holds in a turn of the loop
-pub record Turn (b₀ : List ℕ) (n : ℕ) (work : List ℕ) (long k : ℕ) (extents : List ℕ) (at m : ℕ) (out : List ℕ) : Type 0 where
-  pub more : k < n
-  pub fewer : record_length * (at + m) ≤ long
-  pub placed : Placed (take long work) at (at + get_or extents at 0) m out
-  pub going : Going b₀ n (front at (take long work) ++ front m out) (k + 1)
-
-pub turn-of : {b₀ : List ℕ} {n : ℕ} {work : List ℕ} {long k : ℕ} {extents marks : List ℕ} {at m : ℕ} {out : List ℕ} → Stage b₀ n work long k extents marks at m out → (not (eqb m 0) && ltb k n) ≡ true
-    → Turn b₀ n work long k extents at m out
-turn-of s e =
-    let (z, o) = stage-on _ _ _ _ _ _ _ _ _ _ s e in
-    record { more = o; fewer = stage-fewer _ _ _ _ _ _ _ _ _ _ s z; placed = s.found z; going = stage-next _ _ _ _ _ _ _ _ _ _ s z o }
+    -- made
+    pub stage_made : k < n → (new : List ℕ) (r : ℕ) (facts' : List Facts) → take r new ≡ front spot.at (take long work) ++ front spot.len out → r ≤ length new
+        → Surveyed (take r new) facts' → Settled (take r new) facts' spot.at → Stage b₀ n new r (k + 1) facts' spot.at
+    stage_made l new r facts' e o v q = record { going = going-as e (stage-next l); room = o; known = v; settled = q }

@@ -1,13 +1,7 @@
--- The invariant: the facts from record i on are kept, and before it those of the subtrees that end at `at` or before. The measure: the records left.
-use mathlib.Core.Path.{◌≡◌}
-use Prim.Native.Nat.{◌≤◌}
-use lib.ListN.{length}
+-- The invariant: the facts from record i on are kept, and before it those of the subtrees that end at `at` or before.
+use Rattle.std.proofs.Common.{◌≡◌, length}
 use Rattle.subtrees.specs.Facts.{Known, OwnBefore}
 use Rattle.subtrees.proofs.mark_around.Given as goal
 
 abbrev pub invariant-loop-i : goal.invariant-loop-i
-invariant-loop-i l =
-    (l.i ≤ l.at) × (length l.extents ≡ length l.initial.extents) × (length l.marks ≡ length l.initial.marks) × Known l.table l.extents l.marks l.i × OwnBefore l.table l.extents l.marks l.at l.i
-
-abbrev pub decreases-loop-i : goal.decreases-loop-i
-decreases-loop-i l = l.i
+invariant-loop-i l = record { long : length l.facts ≡ length l.initial.facts; known : Known l.table l.facts l.i; before : OwnBefore l.table l.facts l.at l.i }

@@ -1,10 +1,10 @@
 -- The facts kept of a subtree say what the rules ask, and those of a node follow from its children's.
-use Rattle.std.specs.Prelude.{◌≡◌, Bool, cond, not, ◌||◌, ℕ, ◌+◌, ◌-◌, ◌<◌, ◌≤◌, max, min, suc, T, eqb, leb}
+use Rattle.std.specs.Prelude.{◌≡◌, Bool, cond, not, ◌&&◌, ◌||◌, ℕ, ◌+◌, ◌-◌, ◌<◌, ◌≤◌, max, min, suc, T, eqb, leb}
 use Rattle.std.proofs.Math.Path.{refl}
 use Rattle.std.proofs.Common.{ap, sym, ◌∙◌, add_assoc, zero-add, arith, eqb→eq, leb→le, le→leb, lt→ltb, le-leb, leb-true}
 use Rattle.std.proofs.Math.Bool.{true, false}
 use Rattle.std.proofs.lemmas.Bool.{lt-leb}
-use Rattle.booleans.specs.Laws.{both, is_T, join-and, same_test}
+use Rattle.booleans.specs.Laws.{and_is, both, is_T, join-and, same_test}
 use Rattle.booleans.specs.Tests.{◌and◌}
 use Rattle.table.specs.Numbers.{most_loops, whole_run}
 use Rattle.table.specs.Questions.{paired_block, depth, depth_in, limit_in_range, listed, listed_in}
@@ -15,7 +15,7 @@ use Rattle.evaluate.specs.Closed.{closed, closed_in, stays, symbol_free, symbol_
 use Rattle.evaluate.specs.Evaluate.{name, name_in, outward, seen}
 use Rattle.evaluate.proofs.Laws.Monotone.{name_in-le}
 use Rattle.subtrees.specs.Nodes.{AtMost, Block, Choice, Kind, Limit, Loop, Sequence, Unlimited}
-use Rattle.subtrees.specs.Facts.{below_of, child_in, is_loop, no_child, outer, paired_reach, passed, reach, reach_in, symbols, symbols_in}
+use Rattle.subtrees.specs.Facts.{below_of, child_in, facts_of, is_loop, no_child, outer, paired_reach, passed, reach, reach_in}
 use Rattle.subtrees.specs.declared.Below.{Below}
 use Rattle.subtrees.specs.Laws.Forests.{Sound}
 
@@ -120,20 +120,15 @@ passed-loop (Loop m) n = refl
 -- the children so far, s, and those of f, the first of them a loop's body or not
 unfoldable pub more_children : (body : Bool) → Below → Forest → Below
 more_children body s nil = s
-more_children body s (t ▸ f) = more_children false (child_in body s (records t) (symbols t) (name t) (reach t)) f
+more_children body s (t ▸ f) = more_children false (child_in body s (facts_of t)) f
 
 abbrev with-below : Below → Below → Below
-with-below s c = record { records = s.records + c.records; symbols = max s.symbols c.symbols; named = min s.named c.named; reach = max s.reach c.reach }
+with-below s c = record { records = s.records + c.records; symbol_free = s.symbol_free && c.symbol_free; named = min s.named c.named; reach = max s.reach c.reach }
 
-symbols-more : (t : Tree) (f : Forest) → symbols_in (t ▸ f) ≡ max (symbols t) (symbols_in f)
-unfolding symbols symbols_in symbol_free_in
-symbols-more t f = go (symbol_free t) (symbol_free_in f)
-  where
-    go : (x y : Bool) → cond (x and y) 0 1 ≡ max (cond x 0 1) (cond y 0 1)
-    go true true = unfold ◌and◌ in refl
-    go true false = unfold ◌and◌ in refl
-    go false true = unfold ◌and◌ in refl
-    go false false = unfold ◌and◌ in refl
+free-more : (a : Bool) (t : Tree) (f : Forest) → (a && symbol_free t && symbol_free_in f) ≡ (a && symbol_free_in (t ▸ f))
+unfolding symbol_free_in
+free-more true t f = and_is (symbol_free t) (symbol_free_in f)
+free-more false t f = refl
 
 max_assoc : (a b c : ℕ) → max (max a b) c ≡ max a (max b c)
 max_assoc a b c = omega arith
@@ -142,22 +137,25 @@ min_assoc : (a b c : ℕ) → min (min a b) c ≡ min a (min b c)
 min_assoc a b c = omega arith
 
 -- the same, one field after the other
-child-below : (k : Kind) (t : Tree) (f : Forest) (s : Below)
-    → with-below (child_in (is_loop k) s (records t) (symbols t) (name t) (reach t)) (below_of (rest k) f) ≡ with-below s (below_of k (t ▸ f))
+child-below : (k : Kind) (t : Tree) (f : Forest) (s : Below) → with-below (child_in (is_loop k) s (facts_of t)) (below_of (rest k) f) ≡ with-below s (below_of k (t ▸ f))
 unfolding records_in name_in reach_in
 child-below k t f s = λ i. record {
   records = add_assoc s.records (records t) (records_in f) i;
-  symbols = (max_assoc s.symbols (symbols t) (symbols_in f) ∙ ap (max s.symbols) (sym (symbols-more t f))) i;
+  symbol_free = free-more s.symbol_free t f i;
   named = (ap (λ x. min (min s.named x) (name_in (rest k) f)) (seen-loop k (name t)) ∙ min_assoc s.named (seen k (name t)) (name_in (rest k) f)) i;
   reach = (ap (λ x. max (max s.reach x) (reach_in (rest k) f)) (passed-loop k (reach t)) ∙ max_assoc s.reach (passed k (reach t)) (reach_in (rest k) f)) i;
 }
 
 more-children : (k : Kind) (f : Forest) (s : Below) → s.named ≤ whole_run → more_children (is_loop k) s f ≡ with-below s (below_of k f)
-unfolding more_children records_in name_in reach_in symbols_in symbol_free_in
-more-children k nil s h = λ i. record { records = nil-add s.records i; symbols = nil-max s.symbols i; named = nil-min s.named h i; reach = nil-max s.reach i }
+unfolding more_children records_in name_in reach_in symbol_free_in
+more-children k nil s h = λ i. record { records = nil-add s.records i; symbol_free = nil-free s.symbol_free i; named = nil-min s.named h i; reach = nil-max s.reach i }
   where
     nil-add : (n : ℕ) → n ≡ n + 0
     nil-add n = omega arith
+
+    nil-free : (x : Bool) → x ≡ (x && true)
+    nil-free true = refl
+    nil-free false = refl
 
     nil-max : (n : ℕ) → n ≡ max n 0
     nil-max n = omega arith
@@ -165,27 +163,17 @@ more-children k nil s h = λ i. record { records = nil-add s.records i; symbols 
     nil-min : (n : ℕ) → n ≤ whole_run → n ≡ min n whole_run
     nil-min n h = omega arith
 more-children k (t ▸ f) s h =
-    ap (λ x. more_children x (child_in (is_loop k) s (records t) (symbols t) (name t) (reach t)) f) (sym (rest-loop k))
-    ∙ more-children (rest k) f (child_in (is_loop k) s (records t) (symbols t) (name t) (reach t)) (omega arith) ∙ child-below k t f s
+    ap (λ x. more_children x (child_in (is_loop k) s (facts_of t)) f) (sym (rest-loop k))
+    ∙ more-children (rest k) f (child_in (is_loop k) s (facts_of t)) (omega arith) ∙ child-below k t f s
 
 pub all-children : (k : Kind) (f : Forest) → more_children (is_loop k) no_child f ≡ below_of k f
 all-children k f = more-children k f no_child (omega arith) ∙ none_before
   where
     none_before : with-below no_child (below_of k f) ≡ below_of k f
-    none_before = λ i. record { records = zero-add (records_in f) i; symbols = zero-max (symbols_in f) i; named = run-min (name_in k f) (name_in-le k f) i; reach = zero-max (reach_in k f) i }
+    none_before = λ i. record { records = zero-add (records_in f) i; symbol_free = symbol_free_in f; named = run-min (name_in k f) (name_in-le k f) i; reach = zero-max (reach_in k f) i }
       where
         zero-max : (n : ℕ) → max 0 n ≡ n
         zero-max n = omega arith
 
         run-min : (n : ℕ) → n ≤ whole_run → min whole_run n ≡ n
         run-min n h = omega arith
-
--- ---- symbols
-
-pub free-is : (t : Tree) → eqb (symbols t) 0 ≡ symbol_free t
-unfolding symbols
-free-is t = go (symbol_free t)
-  where
-    go : (x : Bool) → eqb (cond x 0 1) 0 ≡ x
-    go true = refl
-    go false = refl

@@ -1,5 +1,5 @@
 -- What stands at a record of an accepted table.
-use Rattle.std.specs.Prelude.{◌≡◌, ℕ, ◌+◌, ◌-◌, ◌*◌, ◌≤◌, ◌<◌, suc, T, get_or, length, take}
+use Rattle.std.specs.Prelude.{◌≡◌, ℕ, ◌+◌, ◌-◌, ◌*◌, ◌≤◌, ◌<◌, suc, T, length, take}
 use Rattle.std.proofs.Math.Path.{refl, ap}
 use Rattle.std.proofs.Common.{sym, ◌∙◌, subst, length-drop, take_all, take_at}
 use mathlib.Core.List.{List, ◌++◌, append_assoc, append-nil}
@@ -17,7 +17,8 @@ use Rattle.evaluate.specs.Evaluate.{fits, fits_in, zeros}
 use Rattle.subtrees.specs.Nodes.{Node}
 use Rattle.table.specs.Checking.{IsTable}
 use Rattle.subtrees.specs.Parts.{Simplifiable, subtree, trees_at}
-use Rattle.subtrees.specs.Facts.{Extents}
+use Rattle.subtrees.specs.Facts.{Surveyed, extent_at}
+use Rattle.subtrees.specs.declared.Facts.{Facts}
 use Rattle.subtrees.specs.Laws.Forests.{Sound, SoundIn, below, drop-from, encodes-⧺, from, from-add, from-fits, from_next, from-records, from_row, from-sound, records-⧺, row_back}
 
 -- the node at record i with its children, and what stands after them
@@ -188,43 +189,47 @@ module _ (b : List ℕ) (s : IsTable b) where
             inside = inside;
           }
 
--- the same by the extents
-pub record Next (b extents : List ℕ) (p left : ℕ) (r : Row b p left) : Type 0 where
-  pub others : Row b (p + get_or extents p 0) (left - 1)
+-- how many records a subtree has, by the facts that are kept
+pub sized : (b : List ℕ) (facts : List Facts) → Surveyed b facts → (j : ℕ) → j < record_count b → extent_at facts j ≡ records (subtree b j)
+sized b facts x j l = ap (λ f. f.records) (x.each j l)
+
+-- the same by the facts
+pub record Next (b : List ℕ) (facts : List Facts) (p left : ℕ) (r : Row b p left) : Type 0 where
+  pub others : Row b (p + extent_at facts p) (left - 1)
   pub are : r.trees ≡ subtree b p ▸ others.trees
   pub same : others.later ≡ r.later
   pub inside : p < record_count b
-  pub sized : p < length extents
-  pub extent : get_or extents p 0 ≡ records (subtree b p)
-  pub within : p + get_or extents p 0 ≤ record_count b
+  pub sized : p < length facts
+  pub extent : extent_at facts p ≡ records (subtree b p)
+  pub within : p + extent_at facts p ≤ record_count b
 
-pub next_row : (b extents : List ℕ) → Extents b extents → (p left : ℕ) (r : Row b p left) → 0 < left → Next b extents p left r
-next_row b extents x p left r l =
+pub next_row : (b : List ℕ) (facts : List Facts) → Surveyed b facts → (p left : ℕ) (r : Row b p left) → 0 < left → Next b facts p left r
+next_row b facts x p left r l =
     let f = first-row b x.table p left r l in
-    let e : get_or extents p 0 ≡ records f.tree = x.each p f.start ∙ ap records f.here in
+    let e : extent_at facts p ≡ records f.tree = sized b facts x p f.start ∙ ap records f.here in
     record {
       others = record { trees = f.others.trees; later = f.others.later; row = rw e f.others.row; many = f.others.many; last = omega (arith, f.others.last) };
       are = f.split ∙ ap (λ t. t ▸ f.others.trees) (sym f.here);
       same = f.same;
       inside = f.start;
       sized = omega (arith, f.start, x.room);
-      extent = x.each p f.start;
+      extent = sized b facts x p f.start;
       within = omega (arith, f.inside);
     }
 
 -- how long the subtree at record i is, and what stands past it
-module _ (b extents : List ℕ) (x : Extents b extents) (i : ℕ) (l : i < record_count b) where
-  pub node-extent : (h : Here b i) → get_or extents i 0 ≡ suc (records_in h.kids)
+module _ (b : List ℕ) (facts : List Facts) (x : Surveyed b facts) (i : ℕ) (l : i < record_count b) where
+  pub node-extent : (h : Here b i) → extent_at facts i ≡ suc (records_in h.kids)
   unfolding records
-  node-extent h = x.each i l ∙ ap records (top-at b i h.here)
+  node-extent h = sized b facts x i l ∙ ap records (top-at b i h.here)
 
-  pub past-node : (h : Here b i) → (trees_at b (i + get_or extents i 0) ≡ h.later) × (i + get_or extents i 0 ≤ record_count b)
-  past-node h = rw (x.each i l ∙ ap records (top-at b i h.here)) (past_first b x.table i (node h.own h.kids) h.later h.here)
+  pub past-node : (h : Here b i) → (trees_at b (i + extent_at facts i) ≡ h.later) × (i + extent_at facts i ≤ record_count b)
+  past-node h = rw (sized b facts x i l ∙ ap records (top-at b i h.here)) (past_first b x.table i (node h.own h.kids) h.later h.here)
 
-  pub extent-some : 0 < get_or extents i 0
-  extent-some = omega (arith, x.each i l, some-records (subtree b i))
+  pub extent-some : 0 < extent_at facts i
+  extent-some = omega (arith, sized b facts x i l, some-records (subtree b i))
 
-  pub past-inside : i + get_or extents i 0 ≤ record_count b
+  pub past-inside : i + extent_at facts i ≤ record_count b
   past-inside = (past-node (here-at b x.table i l)).1
 
 -- question 10 of a table that simplifying works on is question 10 of what stands at each record

@@ -1,22 +1,23 @@
 -- The pass over a table that finds the facts of every record, from the last to the first.
-use Rattle.std.specs.Prelude.{◌≡◌, Bool, cond, true, List, ℕ, ◌+◌, ◌*◌, ◌-◌, ◌<◌, ◌≤◌, max, zero, suc, T, eqb, ltb, drop, get_or, set}
+use Rattle.std.specs.Prelude.{◌≡◌, Bool, true, ◌&&◌, List, ℕ, ◌+◌, ◌*◌, ◌-◌, ◌<◌, ◌≤◌, max, zero, suc, T, eqb, ltb, drop, set}
 use Rattle.std.proofs.Math.Path.{refl, ap, sym}
-use Rattle.std.proofs.Common.{subst, ◌∙◌, ltb-false, ltb-true, ne_eqb}
+use Rattle.std.proofs.Common.{subst, ◌∙◌, add-one, ltb-false, ltb-true, ne_eqb}
 use Rattle.std.proofs.Math.Bool.{false}
 use native.Mathlib.Omega.{arith}
-use Rattle.std.proofs.Math.ListN.{length, length-set}
+use Rattle.std.proofs.Math.ListN.{length}
 use Rattle.std.proofs.Math.Seq.{get_or-set_other, get_or-set_same}
-use Rattle.booleans.specs.Laws.{both}
+use Rattle.booleans.specs.Laws.{and_is, both}
 use Rattle.booleans.specs.Tests.{◌and◌}
 use Rattle.table.specs.Numbers.{most_records, record_length}
 use Rattle.table.specs.Table.{child_byte, first_node, flag, flagless, limit_num, loop_byte, record_bytes, record_count, value_num, most_flags}
 use Rattle.table.specs.Questions.{limit_in_range, listed}
-use Rattle.table.specs.Trees.{Forest, Tree, node, ◌▸◌, records, records_in}
+use Rattle.table.specs.Trees.{Forest, node, ◌▸◌, records, records_in}
 use Rattle.evaluate.specs.Closed.{is_plain, plain_kind, plain_limit, symbol_free, symbol_free_in, plain_most}
-use Rattle.evaluate.specs.Evaluate.{inner, name}
+use Rattle.evaluate.specs.Evaluate.{inner, name, name_in}
 use Rattle.subtrees.specs.Nodes.{AtMost, Block, Choice, Kind, Limit, Loop, Node, Number, Plain, Sequence, Symbol, Unlimited, Most}
-use Rattle.subtrees.specs.Facts.{Known, MarkedAt, Moved, Outdated, Own, OwnBefore, SameFacts, Surveyed, Unchanged, below_at, below_of, child_in, is_loop, marks_each, no_child, paired_reach, reach, reach_below, symbols, symbols_in}
-use Rattle.subtrees.specs.Marks.{limited_name, marked}
+use Rattle.subtrees.specs.Facts.{Known, Outdated, Own, OwnBefore, Surveyed, Unchanged, below_at, below_of, child_in, extent_at, fact_at, facts_of, is_loop, limited_name, no_child, paired_reach, reach, reach_below, reach_in}
+use Rattle.subtrees.specs.declared.Facts.{Facts}
+use Rattle.std.specs.List.{CopiedTo, SameBelow}
 use Rattle.table.specs.Checking.{IsTable}
 use Rattle.subtrees.specs.Parts.{subtree, trees_at}
 use Rattle.subtrees.specs.declared.Below.{Below}
@@ -55,33 +56,28 @@ module _ (b : List ℕ) (s : IsTable b) where
       few-kids : (i : ℕ) (h : Here b i) → no_child.records + records_in h.kids ≤ most_records
       few-kids i h = omega (arith, records-at b s i, few-records b s, ap records_in h.here, first-records h.own h.kids h.later)
 
-  module _ (extents marks : List ℕ) (i : ℕ) (k : Known b extents marks (i + 1)) (all found : Below) (body : Bool) (left p : ℕ) (w : Walk b i all found body left p) (l : 0 < left) where
+  module _ (facts : List Facts) (i : ℕ) (k : Known b facts (i + 1)) (all found : Below) (body : Bool) (left p : ℕ) (w : Walk b i all found body left p) (l : 0 < left) where
     first : First b p left w.row
     first = first-row b s p left w.row l
 
-    walk_inside : p < record_count b
-    walk_inside = first.start
+    kept : fact_at facts p ≡ facts_of first.tree
+    kept = k.each p (omega (arith, w.near)) first.start ∙ ap facts_of first.here
 
-    extent : get_or extents p 0 ≡ records first.tree
-    extent = k.sizes p (omega (arith, w.near)) walk_inside ∙ ap records first.here
+    size_of : extent_at facts p ≡ records first.tree
+    size_of = ap (λ f. f.records) kept
 
-    pub walk-few : found.records + get_or extents p 0 ≤ most_records
+    pub walk-few : found.records + extent_at facts p ≤ most_records
     unfolding records_in
-    walk-few = omega (arith, w.few, extent, ap records_in first.split)
+    walk-few = omega (arith, w.few, size_of, ap records_in first.split)
 
-    pub walk-past : p + get_or extents p 0 ≤ record_count b
-    walk-past = omega (arith, extent, first.inside)
+    pub walk-past : p + extent_at facts p ≤ record_count b
+    walk-past = omega (arith, size_of, first.inside)
 
-    pub walk-next : (next : Below) → next ≡ child_in body found (get_or extents p 0) (get_or marks (marks_each * p) 0) (get_or marks (marks_each * p + 1) 0) (get_or marks (marks_each * p + 2) 0)
-        → Walk b i all next false (left - 1) (p + get_or extents p 0)
+    pub walk-next : (fewer : ℕ) → fewer ≡ left - 1 → (next : Below) → next ≡ child_in body found (fact_at facts p) → Walk b i all next false fewer (p + extent_at facts p)
     unfolding records_in more_children
-    walk-next next e =
-        let m = k.each p (omega (arith, w.near)) walk_inside in
-        let t = first.tree in
-        let f = first.others.trees in
-        let n : next ≡ child_in body found (records t) (symbols t) (name t) (reach t) =
-        e ∙ rw (extent, m.symbols ∙ ap symbols first.here, m.named ∙ ap name first.here, m.reach ∙ ap reach first.here) refl in
-        rw (extent, n) (record {
+    walk-next fewer d next e =
+        let n : next ≡ child_in body found (facts_of first.tree) = e ∙ ap (child_in body found) kept in
+        rw (d, size_of, n) (record {
           row = first.others;
           sum = sym (ap (more_children body found) first.split) ∙ w.sum;
           few = omega (arith, w.few, ap records_in first.split);
@@ -130,144 +126,36 @@ unfolding flagless record_bytes
 flagless-is b i h =
     rw (h.bytes, plain_value h.own.kind, plain-most h.own.limit) (sym (both-flags (flag (value_num h.own.kind)) (most_flags (limit_num h.own.limit))))
 
--- a symbol of the node, or below it
-symbols-of : (n : Node) (f : Forest) → cond (plain_kind n.kind and plain_limit n.limit) (symbols_in f) 1 ≡ symbols (node n f)
-unfolding symbols symbols_in symbol_free
-symbols-of n f = go (plain_kind n.kind and plain_limit n.limit) (symbol_free_in f)
-  where
-    go : (x y : Bool) → ◌≡◌ {A = ℕ} (cond x (cond y 0 1) 1) (cond (x and y) 0 1)
-    go true y = unfold ◌and◌ in refl
-    go false y = unfold ◌and◌ in refl
+-- no symbol of the node, nor below it
+free-of : (n : Node) (f : Forest) → ((plain_kind n.kind and plain_limit n.limit) && symbol_free_in f) ≡ symbol_free (node n f)
+unfolding symbol_free
+free-of n f = and_is (plain_kind n.kind and plain_limit n.limit) (symbol_free_in f)
 
 name_of : (l : Limit) (k : ℕ) → T (limit_in_range l) → limited_name (loop_byte l) k ≡ inner l k
 unfolding loop_byte inner limit_in_range
 name_of Unlimited k h = refl
 name_of (AtMost j m) k h = rw (ne_eqb j 0 (λ e. omega (arith, limit-byte j (both _ _ h).0))) refl
 
--- ---- the marks of a record, written
+-- ---- facts, written one after the other
 
-module _ (marks : List ℕ) (i y k r u : ℕ) where
-  one : List ℕ
-  one = set marks (marks_each * i) y
-
-  two : List ℕ
-  two = set one (marks_each * i + 1) k
-
-  three : List ℕ
-  three = set two (marks_each * i + 2) r
-
-  marked_other : (n : ℕ) → (n ≡ marks_each * i → ⊥) → (n ≡ marks_each * i + 1 → ⊥) → (n ≡ marks_each * i + 2 → ⊥) → (n ≡ marks_each * i + 3 → ⊥)
-      → get_or (marked marks i y k r u) n 0 ≡ get_or marks n 0
-  unfolding marked one two three
-  marked_other n p q s t =
-      get_or-set_other three (marks_each * i + 3) n u 0 t ∙ get_or-set_other two (marks_each * i + 2) n r 0 s
-      ∙ get_or-set_other one (marks_each * i + 1) n k 0 q ∙ get_or-set_other marks (marks_each * i) n y 0 p
-
-  -- the facts at another place stay
-  pub put-apart : (extents : List ℕ) (x j : ℕ) → (j ≡ i → ⊥) → SameFacts extents marks j (set extents i x) (marked marks i y k r u) j
-  put-apart extents x j o = record {
-    size = get_or-set_other extents i j x 0 o;
-    symbols = marked_other (marks_each * j) (λ e. o (omega (arith, e))) (λ e. omega arith) (λ e. omega arith) (λ e. omega arith);
-    named = marked_other (marks_each * j + 1) (λ e. omega arith) (λ e. o (omega (arith, e))) (λ e. omega arith) (λ e. omega arith);
-    reach = marked_other (marks_each * j + 2) (λ e. omega arith) (λ e. omega arith) (λ e. o (omega (arith, e))) (λ e. omega arith);
-    below = marked_other (marks_each * j + 3) (λ e. omega arith) (λ e. omega arith) (λ e. omega arith) (λ e. o (omega (arith, e)));
-  }
-
-  module _ (l : marks_each * i + marks_each ≤ length marks) where
-    marked-symbols : get_or (marked marks i y k r u) (marks_each * i) 0 ≡ y
-    unfolding marked one two three
-    marked-symbols =
-        get_or-set_other three (marks_each * i + 3) (marks_each * i) u 0 (λ e. omega arith) ∙ get_or-set_other two (marks_each * i + 2) (marks_each * i) r 0 (λ e. omega arith)
-        ∙ get_or-set_other one (marks_each * i + 1) (marks_each * i) k 0 (λ e. omega arith) ∙ get_or-set_same marks (marks_each * i) y 0 (omega arith)
-
-    marked-named : get_or (marked marks i y k r u) (marks_each * i + 1) 0 ≡ k
-    unfolding marked one two three
-    marked-named =
-        get_or-set_other three (marks_each * i + 3) (marks_each * i + 1) u 0 (λ e. omega arith) ∙ get_or-set_other two (marks_each * i + 2) (marks_each * i + 1) r 0 (λ e. omega arith)
-        ∙ get_or-set_same one (marks_each * i + 1) k 0 (simp length-set (omega arith))
-
-    marked-reach : get_or (marked marks i y k r u) (marks_each * i + 2) 0 ≡ r
-    unfolding marked one two three
-    marked-reach =
-        get_or-set_other three (marks_each * i + 3) (marks_each * i + 2) u 0 (λ e. omega arith) ∙ get_or-set_same two (marks_each * i + 2) r 0 (simp length-set (omega arith))
-
-    marked-below : get_or (marked marks i y k r u) (marks_each * i + 3) 0 ≡ u
-    unfolding marked one two three
-    marked-below = get_or-set_same three (marks_each * i + 3) u 0 (simp length-set (omega arith))
-
-pub still : (extents marks : List ℕ) (j : ℕ) → SameFacts extents marks j extents marks j
-still extents marks j = record { size = refl; symbols = refl; named = refl; reach = refl; below = refl }
-
-pub then_same : {e m e' m' e'' m'' : List ℕ} {j k l : ℕ} → SameFacts e m j e' m' k → SameFacts e' m' k e'' m'' l → SameFacts e m j e'' m'' l
-then_same p q =
-    record { size = q.size ∙ p.size; symbols = q.symbols ∙ p.symbols; named = q.named ∙ p.named; reach = q.reach ∙ p.reach; below = q.below ∙ p.below }
-
--- a tree's facts are its own wherever they stand
-own-moved : (t : Tree) {extents marks extents' marks' : List ℕ} {j k : ℕ} → SameFacts extents marks j extents' marks' k → Own t extents marks j → Own t extents' marks' k
-own-moved t s (e, m) =
-    (s.size ∙ e, record { symbols = s.symbols ∙ m.symbols; named = s.named ∙ m.named; reach = s.reach ∙ m.reach; below = s.below ∙ m.below })
-
--- k records' facts were moved from place `from` to place `to`, and the others from there on are as they were
-pub record Moving (from to k : ℕ) (e m e' m' : List ℕ) : Type 0 where
-  pub moved : Moved from to k e m e' m'
-  pub before : Unchanged to e m e' m'
-  pub behind : (j : ℕ) → from + k ≤ j → SameFacts e m j e' m' j
-
-pub none-moved : (from to : ℕ) (e m : List ℕ) → Moving from to 0 e m e m
-none-moved from to e m = record { moved = λ k l. absurd (omega (arith, l)); before = λ j l. still e m j; behind = λ j l. still e m j }
-
--- the facts at place i, by those at place j
-abbrev copy_extent : List ℕ → ℕ → ℕ → List ℕ
-copy_extent e i j = set e i (get_or e j 0)
-
-abbrev copy_marks : List ℕ → ℕ → ℕ → List ℕ
-copy_marks m i j = marked m i (get_or m (marks_each * j) 0) (get_or m (marks_each * j + 1) 0) (get_or m (marks_each * j + 2) 0) (get_or m (marks_each * j + 3) 0)
-
-copy-there : (e m : List ℕ) (i j : ℕ) → i < length e → marks_each * i + marks_each ≤ length m → SameFacts e m j (copy_extent e i j) (copy_marks m i j) i
-copy-there e m i j o l = record {
-  size = get_or-set_same e i _ 0 o;
-  symbols = marked-symbols m i _ _ _ _ l;
-  named = marked-named m i _ _ _ _ l;
-  reach = marked-reach m i _ _ _ _ l;
-  below = marked-below m i _ _ _ _ l;
-}
-
-pub one-moved : (from to k : ℕ) (e m e' m' : List ℕ) → to ≤ from → to + k < length e' → marks_each * (to + k) + marks_each ≤ length m' → Moving from to k e m e' m'
-    → Moving from to (k + 1) e m (copy_extent e' (to + k) (from + k)) (copy_marks m' (to + k) (from + k))
-one-moved from to k e m e' m' o l w s = record {
-  moved = λ j p. moved j p (ltb j k) refl;
-  before = λ j p. then_same (s.before j p) (apart j (λ d. omega (arith, d, p)));
-  behind = λ j p. then_same (s.behind j (omega (arith, p))) (apart j (λ d. omega (arith, d, p, o)));
-}
-  where
-    apart : (j : ℕ) → (j ≡ to + k → ⊥) → SameFacts e' m' j (copy_extent e' (to + k) (from + k)) (copy_marks m' (to + k) (from + k)) j
-    apart j d = put-apart m' (to + k) _ _ _ _ e' _ j d
-
-    moved : (j : ℕ) → j < k + 1 → (x : Bool) → ltb j k ≡ x → SameFacts e m (from + j) (copy_extent e' (to + k) (from + k)) (copy_marks m' (to + k) (from + k)) (to + j)
-    moved j p true t = then_same (s.moved j (ltb-true j k t)) (apart (to + j) (λ d. omega (arith, d, ltb-true j k t)))
-    moved j p false t =
-        let same : j ≡ k = omega (arith, p, ltb-false j k t) in
-        rw same (then_same (s.behind (from + k) (omega arith)) (copy-there e' m' (to + k) (from + k) l w))
+pub put-apart : (facts : List Facts) (i : ℕ) (x : Facts) (j : ℕ) → (j ≡ i → ⊥) → fact_at (set facts i x) j ≡ fact_at facts j
+put-apart facts i x j o = get_or-set_other facts i j x _ o
 
 -- one record more
-pub known_more : (b extents marks : List ℕ) (i : ℕ) → Known b extents marks (i + 1) → Own (subtree b i) extents marks i → Known b extents marks i
-known_more b extents marks i k o = record { sizes = λ j p q. (own j p q (ltb i j) refl).0; each = λ j p q. (own j p q (ltb i j) refl).1 }
+pub known_more : (b : List ℕ) (facts : List Facts) (i : ℕ) → Known b facts (i + 1) → Own (subtree b i) facts i → Known b facts i
+known_more b facts i k o = record { each = λ j p q. own j p q (ltb i j) refl }
   where
-    own : (j : ℕ) → i ≤ j → j < record_count b → (x : Bool) → ltb i j ≡ x → Own (subtree b j) extents marks j
-    own j p q true t = let later : i + 1 ≤ j = omega (arith, ltb-true i j t) in (k.sizes j later q, k.each j later q)
-    own j p q false t = let same : j ≡ i = omega (arith, ltb-false i j t) in rw same o
+    own : (j : ℕ) → i ≤ j → j < record_count b → (x : Bool) → ltb i j ≡ x → Own (subtree b j) facts j
+    own j p q true t = k.each j (omega (arith, ltb-true i j t)) q
+    own j p q false t = let same : j ≡ i = omega (arith, p, ltb-false i j t) in rw same o
 
 -- all of them
-pub known-all : (b extents marks : List ℕ) → IsTable b → record_count b ≤ length extents → marks_each * record_count b ≤ length marks → {i : ℕ} → i ≤ 0 → Known b extents marks i → Surveyed b extents marks
-known-all b extents marks s room space l k = record {
-  sizes = record { table = s; room = room; each = λ j p. k.sizes j (omega (arith, l)) p };
-  room = space;
-  each = λ j p. k.each j (omega (arith, l)) p;
-}
+pub known-all : (b : List ℕ) (facts : List Facts) → IsTable b → record_count b ≤ length facts → {i : ℕ} → i ≤ 0 → Known b facts i → Surveyed b facts
+known-all b facts s room l k = record { table = s; room = room; each = λ j p. k.each j (omega (arith, l)) p }
 
 -- where nothing changes before record i
-pub before-still : (b : List ℕ) {e m e' m' : List ℕ} (at n i : ℕ) → i ≤ n → Unchanged i e m e' m' → OwnBefore b e m at n → OwnBefore b e' m' at i
-before-still b at n i o u w = λ j p q. own-moved (subtree b j) (u j p) (w j (omega (arith, o, p)) (omega (arith, q, (u j p).size)))
+pub before-still : (b : List ℕ) (e f : List Facts) (at n i : ℕ) → i ≤ n → Unchanged i e f → OwnBefore b e at n → OwnBefore b f at i
+before-still b e f at n i o u w = λ j p q. u j p ∙ w j (omega (arith, o, p)) (omega (arith, q, ap (λ f. f.records) (u j p)))
 
 module _ (b : List ℕ) (s : IsTable b) (i : ℕ) (l : i < record_count b) where
   h : Here b i
@@ -285,54 +173,51 @@ module _ (b : List ℕ) (s : IsTable b) (i : ℕ) (l : i < record_count b) where
   ranged = let (p, q) = both _ _ h.sound.fair.listed in (both _ _ (both _ _ p).0).1
 
   -- what is kept of the record, by its node and what its children come to
-  abbrev pub new_extents : List ℕ → Below → List ℕ
-  new_extents extents c = set extents i (c.records + 1)
-
-  abbrev pub new_marks : List ℕ → Below → List ℕ
-  new_marks marks c =
+  abbrev pub new_facts : Below → Facts
+  new_facts c =
       let r = drop (record_length * i) b in
       let k = loop_byte (first_node r).limit in
-      marked marks i (cond (flagless r) c.symbols 1) (limited_name k c.named) (max (max k (paired_reach (first_node r).kind)) c.reach) c.reach
-
-  fresh-extent : (extents : List ℕ) → record_count b ≤ length extents → (c : Below) → c ≡ below_at (trees_at b i) → get_or (new_extents extents c) i 0 ≡ records (subtree b i)
-  unfolding records
-  fresh-extent extents room c e = get_or-set_same extents i (c.records + 1) 0 (omega arith) ∙ rw (e ∙ come, at_here) (omega arith)
-
-  fresh-marks : (marks : List ℕ) → marks_each * record_count b ≤ length marks → (c : Below) → c ≡ below_at (trees_at b i) → MarkedAt b (new_marks marks c) i
-  unfolding name reach reach_below
-  fresh-marks marks space c e =
-      let long : marks_each * i + marks_each ≤ length marks = omega arith in
       record {
-        symbols = marked-symbols marks i _ _ _ _ long ∙ rw (e ∙ come, at_here, flagless-is b i h) (symbols-of h.own h.kids);
-        named = marked-named marks i _ _ _ _ long ∙ rw (e ∙ come, at_here, node_at b i h) (name_of h.own.limit _ ranged);
-        reach = marked-reach marks i _ _ _ _ long ∙ rw (e ∙ come, at_here, node_at b i h) refl;
-        below = marked-below marks i _ _ _ _ long ∙ rw (e ∙ come, at_here) refl;
+        records = c.records + 1;
+        symbol_free = flagless r && c.symbol_free;
+        named = limited_name k c.named;
+        reach = max (max k (paired_reach (first_node r).kind)) c.reach;
+        reach_below = c.reach;
       }
+
+  own_facts : (c : Below) → c ≡ below_at (trees_at b i) → new_facts c ≡ facts_of (subtree b i)
+  unfolding records name reach reach_below
+  own_facts c e = rw (e ∙ come, at_here, flagless-is b i h, node_at b i h) (λ j. record {
+    records = add-one (records_in h.kids) j;
+    symbol_free = free-of h.own h.kids j;
+    named = name_of h.own.limit (name_in h.own.kind h.kids) ranged j;
+    reach = max (max (loop_byte h.own.limit) (paired_reach h.own.kind)) (reach_in h.own.kind h.kids);
+    reach_below = reach_in h.own.kind h.kids;
+  })
 
   pub few-below : (c : Below) → c ≡ below_at (trees_at b i) → c.records + 1 ≤ most_records
   few-below c e =
       omega (arith, ap (λ x. x.records) (e ∙ come), records-at b s i, few-records b s, ap records_in h.here, first-records h.own h.kids h.later)
 
-  pub known_next : (extents marks : List ℕ) → record_count b ≤ length extents → marks_each * record_count b ≤ length marks → Known b extents marks (i + 1)
-      → (c : Below) → c ≡ below_at (trees_at b i) → Known b (new_extents extents c) (new_marks marks c) i
-  known_next extents marks room space k c e =
-      let apart : (j : ℕ) → i + 1 ≤ j → SameFacts extents marks j (new_extents extents c) (new_marks marks c) j = λ j p. put-apart marks i _ _ _ _ extents _ j (λ d. omega (arith, p)) in
-      let own : (j : ℕ) → i + 1 ≤ j → j < record_count b → Own (subtree b j) (new_extents extents c) (new_marks marks c) j = λ j p q. own-moved (subtree b j) (apart j p) (k.sizes j p q, k.each j p q) in
-      known_more b _ _ i (record { sizes = λ j p q. (own j p q).0; each = λ j p q. (own j p q).1 }) (fresh-extent extents room c e, fresh-marks marks space c e)
+  pub known_next : (facts : List Facts) → record_count b ≤ length facts → Known b facts (i + 1) → (c : Below) → c ≡ below_at (trees_at b i) → Known b (set facts i (new_facts c)) i
+  known_next facts room k c e =
+      known_more b _ i
+      (record { each = λ j p q. put-apart facts i _ j (λ d. omega (arith, p)) ∙ k.each j p q })
+      (get_or-set_same facts i (new_facts c) _ (omega arith) ∙ own_facts c e)
 
 -- ---- a table that changed
 
-module _ (b e m : List ℕ) (at end rest : ℕ) (o : Outdated b e m at end rest) where
+module _ (b : List ℕ) (e : List Facts) (at end rest : ℕ) (o : Outdated b e at end rest) where
   -- the last records' facts, where they stand for the table as it is now
-  pub moved-known : {e' m' : List ℕ} → Moved end (record_count b - rest) rest e m e' m' → Known b e' m' (record_count b - rest)
-  moved-known {e'} {m'} w = record { sizes = λ j p q. (own j p q).0; each = λ j p q. (own j p q).1 }
+  pub moved-known : {f : List Facts} → CopiedTo e f end (record_count b - rest) rest → Known b f (record_count b - rest)
+  moved-known {f} w = record { each = own }
     where
-      own : (j : ℕ) → record_count b - rest ≤ j → j < record_count b → Own (subtree b j) e' m' j
+      own : (j : ℕ) → record_count b - rest ≤ j → j < record_count b → Own (subtree b j) f j
       own j p q =
           let k = j - (record_count b - rest) in
           let less : k < rest = omega (arith, p, q, o.changed) in
           let same : record_count b - rest + k ≡ j = omega (arith, p) in
-          subst (λ i. Own (subtree b i) e' m' i) same (own-moved (subtree b (record_count b - rest + k)) (w k less) (o.behind k less))
+          w j _ p (omega (arith, q, o.changed)) ∙ subst (λ i. fact_at e (end + k) ≡ facts_of (subtree b i)) same (o.behind k less)
 
-  pub moved_before : {e' m' : List ℕ} → Unchanged (record_count b - rest) e m e' m' → OwnBefore b e' m' at at
-  moved_before u = before-still b at at at (omega arith) (λ j l. u j (omega (arith, l, o.changed))) o.before
+  pub moved_before : (f : List Facts) → SameBelow e f (record_count b - rest) → OwnBefore b f at at
+  moved_before f u = before-still b e f at at at (omega arith) (λ j l. u j _ (omega (arith, l, o.changed))) o.before
