@@ -54,16 +54,7 @@ fn may_fill(table: &[u8], symbol: u64, number: u64) -> bool
     if !(is_fillable(symbol) & (number <= most)) {
         return false;
     }
-    let n = table.len() / RECORD_LENGTH;
-    let mut i: usize = 0;
-    while i < n {
-        let at = RECORD_LENGTH * i;
-        if !record_free(&table[at..], symbol) {
-            return false;
-        }
-        i += 1;
-    }
-    true
+    table::every_record(table, |b| record_free(b, symbol))
 }
 
 // Questions 1 to 8, then 15: the first that says no.

@@ -49,7 +49,7 @@ fn put_graft(host: &[u8], sent: &[u8], symbol: u64, out: &mut [u8]) -> Result<us
     };
     let len = RECORD_LENGTH * n;
     // The walk asks question 6 too, which always says yes here.
-    if table::survey_table(&work[0..len]).accept().is_err() {
+    if table::accept_tree(&work[0..len]).is_err() {
         return Err(Refusal::Graft);
     }
     if out.len() < len {

@@ -57,16 +57,7 @@ fn may_be_sent(b: &[u8], symbol: u64) -> bool
 pub fn sendable(table: &[u8], symbol: u64) -> bool
     ensures { result ≡ each (sendable_first symbol) (record_count table.now) table.now }
 {
-    let n = table.len() / RECORD_LENGTH;
-    let mut i: usize = 0;
-    while i < n {
-        let at = RECORD_LENGTH * i;
-        if !may_be_sent(&table[at..], symbol) {
-            return false;
-        }
-        i += 1;
-    }
-    true
+    table::every_record(table, |b| may_be_sent(b, symbol))
 }
 
 // ---- The sent table, renamed

@@ -7,12 +7,12 @@ use borrow.Author.Tests.{not-false, not-true}
 use Rattle.booleans.specs.Tests.{◌and◌}
 use Rattle.booleans.specs.Laws.{and_is, both}
 use Rattle.table.specs.Numbers.{first_paired_symbol, record_length}
-use Rattle.table.specs.Table.{record_count}
+use Rattle.table.specs.Table.{each, record_count}
 use Rattle.table.specs.Asking.{Question, ◌asks◌, first_no}
 use Rattle.table.specs.Checking.{questions, refusal}
 use Rattle.table.proofs.Laws.Asking.{Yes, all_yes, numbered, passed, passes, stops}
 use Rattle.table.proofs.Laws.Refusal.{check-passed, check-passes, check-stops}
-use Rattle.table.proofs.Laws.Reading.{Passed, all-passed, each_at, one-failed, part_at}
+use Rattle.table.proofs.Laws.Reading.{each_at}
 use Rattle.values.specs.Values.{ceiling}
 use Rattle.fill.specs.Answers.{both_ask, fillable, question15, record_free}
 
@@ -34,14 +34,10 @@ module _ (b : List ℕ) (s x : ℕ) where
   unfolding number_allowed question15 ◌and◌
   number-no r e t = sym (rw (sym e ∙ not-true r t) refl)
 
-  module _ (e : number_allowed s x ≡ true) (i : ℕ) (p : Passed (record_free s) b i) where
-    pub record-no : (r : Bool) → i < record_count b → r ≡ record_free s (part_at b i) → not r ≡ true → false ≡ question15 b s x
-    unfolding number_allowed question15 ◌and◌
-    record-no r l f t = sym (rw e (one-failed (record_free s) b i r l p f t))
-
-    pub record-yes : record_count b ≤ i → true ≡ question15 b s x
-    unfolding number_allowed question15 ◌and◌
-    record-yes l = sym (rw e (all-passed (record_free s) b i l p))
+  -- as the pass over the records answers
+  pub records-told : number_allowed s x ≡ true → (r : Bool) → r ≡ each (record_free s) (record_count b) b → r ≡ question15 b s x
+  unfolding number_allowed question15 ◌and◌
+  records-told e r f = f ∙ sym (rw e refl)
 
 -- ---- what it says
 

@@ -4,6 +4,7 @@ use Rattle.std.proofs.Common.{◌∙◌, arith, leb→le, sym}
 use borrow.Author.Tests.{not-false, not-true}
 use Rattle.booleans.specs.Laws.{is_T}
 use Rattle.refusals.specs.Laws.{number-some, passed_on}
+use Rattle.table.specs.Bytes.{AreBytes}
 use Rattle.table.proofs.Laws.Accepted.{is-table}
 use Rattle.marking.specs.Laws.Opening.{marks-whole}
 use Rattle.fill.proofs.Laws.Asking.{both_yes}
@@ -12,8 +13,9 @@ use Rattle.fill.proofs.open.Goals as goal
 
 pub returns-in_err-accept_both : goal.returns-in_err-accept_both
 returns-in_err-accept_both c =
+    let bytes : AreBytes c.args.table.now = λ i. omega (arith, c.type_inv.table i) in
     let no = open-refused _ _ _ _ _ c.in_err-accept_both.ensures (number-some _) in
-    let k = open-all _ _ _ _ _ (λ i. omega (arith, c.type_inv.table i)) (passed_on _ _ c.from_residual.ensures.1 ∙ no.0, no.1) in
+    let k = open-all _ _ _ _ _ bytes (passed_on _ _ c.from_residual.ensures.1 ∙ no.0, no.1) in
     record { answer = k.0; written = k.1.0; promise = k.1.1 }
 
 pub returns-then-not-marks_allowed : goal.returns-then-not-marks_allowed

@@ -16,7 +16,6 @@ use Rattle.table.specs.Numbers.{most_depth, most_records, record_length}
 use Rattle.table.specs.Table.{decode}
 use Rattle.table.specs.Trees.{records}
 use Rattle.table.specs.Survey.{survey_node, survey_refusal}
-use Rattle.table.specs.declared.Survey.{Survey}
 use Rattle.table.proofs.Laws.Accepted.{is-table}
 use Rattle.table.proofs.Laws.Asking.{Yes, all_yes, by-refusals, numbered}
 use Rattle.table.proofs.Laws.Reading.{part-to}
@@ -111,9 +110,9 @@ module _ (h b : List ℕ) (s : ℕ) (n : ℕ) (work : List ℕ) (m : Made h b s 
       result-length : length (graft_table h b s) ≡ record_length * records (graft s (decode b) (decode h))
       result-length = unfold graft_table in length-encode _
 
-  pub made-asked : Allowed h b s → length work ≤ record_length * most_records → (v : Survey) → v ≡ survey_node most_depth 0 (take (record_length * n - 0) (drop 0 work)) → (r : ℕ) → r ≡ survey_refusal v → eqb r 0 ≡ question12 (graft_table h b s)
-  made-asked a l v e r f =
-      ap (λ k. eqb k 0) (f ∙ ap survey_refusal (e ∙ ap (survey_node most_depth 0) (part-to work (record_length * n) ∙ m.bytes))) ∙ result-surveyed h b s a.host a.sent (made-short l)
+  pub made-asked : Allowed h b s → length work ≤ record_length * most_records → (r : ℕ) → r ≡ survey_refusal (survey_node most_depth 0 (take (record_length * n - 0) (drop 0 work))) → eqb r 0 ≡ question12 (graft_table h b s)
+  made-asked a l r f =
+      ap (λ k. eqb k 0) (f ∙ ap (λ x. survey_refusal (survey_node most_depth 0 x)) (part-to work (record_length * n) ∙ m.bytes)) ∙ result-surveyed h b s a.host a.sent (made-short l)
 
 -- a result that is no error has no refusal
 pub refusal-told : {A : Type 0} (r : Result A Refusal) → eqb (refused (answer r)) 0 ≡ not (is_err r)

@@ -1,5 +1,5 @@
 -- The result of grafting accepted tables passes questions 2, 3, 4 and 6 always: it is accepted exactly where 1, 5 and 7 say yes.
-use Rattle.std.specs.Prelude.{◌≡◌, Bool, cond, ℕ, ◌*◌, ◌%◌, ◌≤◌}
+use Rattle.std.specs.Prelude.{◌≡◌, Bool, cond, Some, ℕ, ◌*◌, ◌%◌, ◌≤◌}
 use Rattle.std.proofs.Math.Path.{refl, ap}
 use Rattle.std.proofs.Common.{sym, subst, ◌∙◌}
 use Rattle.std.proofs.Math.Bool.{true, false}
@@ -55,7 +55,7 @@ module _ (t : Tree) (l : T (listed t)) (m : T (named t 0)) where
       let n : length (encode t) ≤ record_length * most_records = omega arith in
       rw (eq-eqb _ 0 z, le-leb _ _ o, le-leb _ _ n) refl
 
-  walk-asked : (p : Bool) → eqb (survey_refusal (cond p (survey_of t 0) unfit)) 0 ≡ ((true and p) and leb (weight t 0) most_weight)
+  walk-asked : (p : Bool) → eqb (survey_refusal (cond p (Some (survey_of t 0)) unfit)) 0 ≡ ((true and p) and leb (weight t 0) most_weight)
   unfolding ◌and◌ first_no
   walk-asked true = rw (T-is (named t 0) m) (seven (leb (weight t 0) most_weight))
     where

@@ -10,8 +10,8 @@ use Rattle.graft.proofs.put_graft.Goals as goal
 asked : (c : After-is_err) → not c.is_err.result ≡ question12 (graft_table c.args.host.now c.args.sent.now c.args.symbol)
 asked c =
     ap not c.is_err.ensures.value
-    ∙ sym (refusal-told c.accept.result)
-    ∙ made-asked _ _ _ _ _ c.in-Some.ensures c.requires (omega (arith, c.make_graft.auto)) _ c.survey_table.ensures _ c.accept.ensures
+    ∙ sym (refusal-told c.accept_tree.result)
+    ∙ made-asked _ _ _ _ _ c.in-Some.ensures c.requires (omega (arith, c.make_graft.auto)) _ c.accept_tree.ensures
 
 pub returns-in_default : goal.returns-in_default
 returns-in_default c = result-refused _ _ _ _ c.requires c.in_default.ensures
