@@ -25,11 +25,11 @@ fn same_fields(table: &[u8], a: usize, b: usize) -> bool
 {
     let one = RECORD_LENGTH * a;
     let other = RECORD_LENGTH * b;
-    let compared = words::compare(
+    let differing = words::compare(
         &table[one..one + FIELDS_LENGTH],
         &table[other..other + FIELDS_LENGTH],
     );
-    compared.is_none()
+    differing.is_none()
 }
 
 // Are the n records from record a on the same, but for their addresses, as those from record b on?

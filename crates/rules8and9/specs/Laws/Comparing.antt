@@ -1,5 +1,5 @@
 -- Two subtrees compared: by the words of each record before its address.
-use Rattle.std.specs.Prelude.{Option as Answer, None, Some, is_some, not, ◌≡◌, Bool, true, false, ℕ, zero, suc, ◌+◌, ◌*◌, ◌-◌, ◌<◌, ◌≤◌, drop, length, take}
+use Rattle.std.specs.Prelude.{◌≡◌, Bool, true, false, ℕ, zero, suc, ◌+◌, ◌*◌, ◌-◌, ◌<◌, ◌≤◌, drop, length, take, Option, None, Some, is_none}
 use Rattle.std.proofs.Math.Path.{refl, sym, subst}
 use Rattle.std.proofs.Common.{ap, ap₂, ◌∙◌, add-zero, suc-add, zero-add, add_assoc, eqb→eq, length-append, length-drop, length-take, drop_at, length-take-le, take_at}
 use mathlib.Core.List.{List, [], ◌∷◌, ◌++◌, append_assoc, append-nil}
@@ -63,10 +63,18 @@ module _ (b : List ℕ) (i j : ℕ) where
   pub whole_words : i < record_count b → j < record_count b → SameWords (lent b i) (lent b j)
   whole_words l m = rw (lent_is b i, lent_is b j) (fields-long b i l ∙ sym (fields-long b j m), omega (arith, fields-long b i l))
 
-  pub words_tell : (r : Answer ℕ) → Compared (lent b i) (lent b j) r → not (is_some r) ≡ same_bytes (fields_at b i) (fields_at b j)
+  words_same : Compared (lent b i) (lent b j) None → true ≡ same_bytes (fields_at b i) (fields_at b j)
   unfolding Compared
-  words_tell None h = sym (T-is _ (subst (λ x. T (same_bytes (fields_at b i) x)) (sym (lent_is b i) ∙ h ∙ lent_is b j) (bytes-self (fields_at b i))))
-  words_tell (Some k) h = never _ (λ t. h.1 (ap (word k) (lent_is b i ∙ bytes-are (fields_at b i) (fields_at b j) t ∙ sym (lent_is b j))))
+  words_same q = sym (T-is _ (subst (λ x. T (same_bytes (fields_at b i) x)) (sym (lent_is b i) ∙ q ∙ lent_is b j) (bytes-self (fields_at b i))))
+
+  words-other : (k : ℕ) → Compared (lent b i) (lent b j) (Some k) → false ≡ same_bytes (fields_at b i) (fields_at b j)
+  unfolding Compared
+  words-other k d = never _ (λ t. d.1 (ap (word k) (lent_is b i ∙ bytes-are (fields_at b i) (fields_at b j) t ∙ sym (lent_is b j))))
+
+  -- the same where no word differs
+  pub words-compared : (r : Option ℕ) → Compared (lent b i) (lent b j) r → is_none r ≡ same_bytes (fields_at b i) (fields_at b j)
+  words-compared None h = words_same h
+  words-compared (Some k) h = words-other k h
 
 -- ---- one record after the other
 
