@@ -1,7 +1,7 @@
 -- What a pass over the records of a table asks of its test, and what it says of it.
 use Rattle.std.specs.Prelude.{◌≡◌, Bool, List, ℕ, ◌≤◌, length}
 use Rattle.std.specs.Fn.{Shared}
-use denote.Ref.{Bor}
+use Rattle.std.specs.Borrow.{Bor}
 use Rattle.table.specs.Numbers.{record_length}
 
 module _ {F : Type 0} (g : Shared F (Bor (List ℕ) × Unit {0}) Bool) (f : F) where
