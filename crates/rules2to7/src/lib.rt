@@ -4,7 +4,6 @@
 
 ghost use Rattle.std.specs.Prelude.{◌≡◌, false, ◌*◌, ◌+◌, ◌<◌, ◌≤◌, suc, leb, length, Some};
 ghost use Rattle.std.proofs.Math.Option.{some};
-ghost use Rattle.table.specs.Checking.{IsTable};
 ghost use Rattle.table.specs.Numbers.{most_children, most_time, record_length};
 ghost use Rattle.table.specs.Table.{encodes, record_bytes, record_count};
 ghost use Rattle.table.specs.Trees.{records_in};
@@ -34,23 +33,21 @@ fn has_room(count: usize, more: usize) -> bool
 }
 
 // Does the tree at record p, a child of a node of this kind and this many children, give way to its own children?
-fn gives_way(table: &[u8], p: usize, kind: Kind, count: usize) -> bool
-    requires fact_1 { IsTable table.now }
-    requires fact_2 { p < record_count table.now }
-    ensures { result ≡ gives kind count (subtree table.now p) }
+fn gives_way(view: View, p: usize, kind: Kind, count: usize) -> bool
+    requires { p < record_count view.table.now }
+    ensures { result ≡ gives kind count (subtree view.entry.table.now p) }
 {
-    let own = table::node_at(table, p);
-    let more = table::children_at(table, p);
+    let own = table::node_at(view.table, p);
+    let more = table::children_at(view.table, p);
     (own.kind == kind) & rewrite::is_unlimited(own.limit) & has_room(count, more)
 }
 
 // Is the tree at record p an unlimited plain block of time 0?
-fn is_zero(table: &[u8], p: usize) -> bool
-    requires fact_1 { IsTable table.now }
-    requires fact_2 { p < record_count table.now }
-    ensures { result ≡ is_zero (subtree table.now p) }
+fn is_zero(view: View, p: usize) -> bool
+    requires { p < record_count view.table.now }
+    ensures { result ≡ is_zero (subtree view.entry.table.now p) }
 {
-    match rewrite::bare_time(table, p) {
+    match rewrite::bare_time(view, p) {
         Some(time) => time == 0,
         None => false,
     }
@@ -83,7 +80,7 @@ pub fn rule2_at(view: View, i: usize, out: &mut [u8]) -> Option<usize>
         return None;
     }
     let count = table::children_at(table, i);
-    let p = view.first_child(i, |p| gives_way(table, p, node.kind, count))?;
+    let p = view.first_child(i, |p| gives_way(view, p, node.kind, count))?;
     let more = table::children_at(table, p);
     let all = (count + more - 1) as u8;
     Some(dissolve_at(table, i, p, node, all, out))
@@ -92,12 +89,12 @@ pub fn rule2_at(view: View, i: usize, out: &mut [u8]) -> Option<usize>
 // ---- Rule 3
 
 // What the table becomes from record p on where the unlimited tree there takes this limit: answers how many records that is, where it has no limit.
-fn relimit_at(table: &[u8], p: usize, limit: Limit, out: &mut [u8]) -> Option<usize>
-    requires fact_1 { IsTable table.now }
-    requires fact_2 { p < record_count table.now }
-    requires fact_3 { length table.now ≤ length out.old }
-    ensures { Wrote (relimited limit (trees_at table.now p)) result out.new }
+fn relimit_at(view: View, p: usize, limit: Limit, out: &mut [u8]) -> Option<usize>
+    requires inside { p < record_count view.table.now }
+    requires room { length view.table.now ≤ length out.old }
+    ensures { Wrote (relimited limit (trees_at view.entry.table.now p)) result out.new }
 {
+    let table = view.table;
     let own = table::node_at(table, p);
     if !rewrite::is_unlimited(own.limit) {
         return None;
@@ -130,7 +127,7 @@ pub fn rule3_at(view: View, i: usize, out: &mut [u8]) -> Option<usize>
     if rewrite::is_unlimited(node.limit) {
         return Some(writing::copy_rest(table, first, out, 0));
     }
-    relimit_at(table, first, node.limit, out)
+    relimit_at(view, first, node.limit, out)
 }
 
 // ---- Rule 4
@@ -207,7 +204,7 @@ pub fn rule5_at(view: View, i: usize, out: &mut [u8]) -> Option<usize>
     if count < 2 {
         return None;
     }
-    let p = view.first_child(i, |p| is_zero(table, p))?;
+    let p = view.first_child(i, |p| is_zero(view, p))?;
     let fewer = (count - 1) as u8;
     Some(dissolve_at(table, i, p, node, fewer, out))
 }
@@ -223,13 +220,12 @@ pub struct Bares {
 }
 
 // What was found so far, and the child at record p.
-fn with_child(found: Bares, table: &[u8], p: usize) -> Bares
-    requires fact_1 { IsTable table.now }
-    requires fact_2 { p < record_count table.now }
-    requires fact_3 { (found.count < p) × (found.total ≤ most_time * found.count) }
-    ensures { (result ≡ with_child found (subtree table.now p)) × (result.count ≤ p) × (result.total ≤ most_time * result.count) }
+fn with_child(found: Bares, view: View, p: usize) -> Bares
+    requires inside { p < record_count view.table.now }
+    requires few { (found.count < p) × (found.total ≤ most_time * found.count) }
+    ensures { (result ≡ with_child found (subtree view.entry.table.now p)) × (result.count ≤ p) × (result.total ≤ most_time * result.count) }
 {
-    let Some(time) = rewrite::bare_time(table, p) else {
+    let Some(time) = rewrite::bare_time(view, p) else {
         return found;
     };
     Bares {
@@ -253,7 +249,7 @@ fn bares_in(view: View, i: usize) -> Bares
     };
     // no `for`: the children's extents are the steps, and no closure: it would change what was found
     while p < end {
-        found = with_child(found, view.table, p);
+        found = with_child(found, view, p);
         p += view.facts[p].records;
     }
     found
@@ -279,7 +275,7 @@ fn kept(view: View, p: usize) -> usize
     requires { p < record_count view.table.now }
     ensures { result ≡ kept_records (subtree view.entry.table.now p) }
 {
-    if rewrite::is_bare(view.table, p) {
+    if rewrite::is_bare(view, p) {
         return 0;
     }
     view.facts[p].records
@@ -343,6 +339,6 @@ pub fn rule7_at(view: View, i: usize, out: &mut [u8]) -> Option<usize>
     ensures { Wrote (rule_at rule7 (trees_at view.entry.table.now i)) result out.new }
 {
     let found = two_bares_in(view, i, Kind::Choice)?;
-    let first = view.first_child(i, |p| rewrite::is_bare(view.table, p))?;
+    let first = view.first_child(i, |p| rewrite::is_bare(view, p))?;
     Some(merge_bares(view, i, first, found.largest, found.count, out))
 }

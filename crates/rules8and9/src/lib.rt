@@ -3,7 +3,6 @@
 #![tactic(auto)]
 
 ghost use Rattle.std.specs.Prelude.{◌≡◌, ◌*◌, ◌+◌, ◌<◌, ◌≤◌, length};
-ghost use Rattle.table.specs.Checking.{IsTable};
 ghost use Rattle.table.specs.Numbers.{record_length};
 ghost use Rattle.table.specs.Table.{record_count};
 ghost use Rattle.writing.specs.Records.{front};
@@ -62,15 +61,14 @@ fn same_subtrees(view: View, a: usize, b: usize) -> bool
 }
 
 // Is the tree at record p an unlimited sequence of two children?
-fn is_pair(table: &[u8], p: usize) -> bool
-    requires fact_1 { IsTable table.now }
-    requires fact_2 { p < record_count table.now }
-    ensures { result ≡ is_pair (subtree table.now p) }
+fn is_pair(view: View, p: usize) -> bool
+    requires { p < record_count view.table.now }
+    ensures { result ≡ is_pair (subtree view.entry.table.now p) }
 {
-    let node = table::node_at(table, p);
+    let node = table::node_at(view.table, p);
     (node.kind == Kind::Sequence)
         & rewrite::is_unlimited(node.limit)
-        & (table::children_at(table, p) == 2)
+        & (table::children_at(view.table, p) == 2)
 }
 
 // Is it one whose second child is the same, but for its addresses, as the subtree at record `second`?
@@ -79,7 +77,7 @@ fn pair_shares(view: View, p: usize, second: usize) -> bool
     requires second { second < record_count view.table.now }
     ensures { result ≡ sharing (subtree view.entry.table.now second) (subtree view.entry.table.now p) }
 {
-    if !is_pair(view.table, p) {
+    if !is_pair(view, p) {
         return false;
     }
     let first = p + 1;
@@ -106,7 +104,7 @@ fn shared_child(view: View, i: usize) -> Option<usize>
         return None;
     }
     let p = i + 1;
-    if !is_pair(view.table, p) {
+    if !is_pair(view, p) {
         return None;
     }
     let first = p + 1;
@@ -139,14 +137,13 @@ fn copy_firsts(view: View, p: usize, n: usize, out: &mut [u8], at: usize) -> usi
 
 // Puts the records of a sequence of two with the limit and the address of the node at record i, and of an unlimited choice with its number of children and
 // address 0.
-fn put_tops(table: &[u8], i: usize, out: &mut [u8]) -> usize
-    requires fact_1 { IsTable table.now }
-    requires fact_2 { i < record_count table.now }
-    requires fact_3 { record_length * 2 ≤ length out.old }
-    ensures { (result ≡ 2) × (front result out.new ≡ top_bytes (subtree table.now i)) }
+fn put_tops(view: View, i: usize, out: &mut [u8]) -> usize
+    requires inside { i < record_count view.table.now }
+    requires room { record_length * 2 ≤ length out.old }
+    ensures { (result ≡ 2) × (front result out.new ≡ top_bytes (subtree view.entry.table.now i)) }
 {
-    let node = table::node_at(table, i);
-    let count = table::children_at(table, i);
+    let node = table::node_at(view.table, i);
+    let count = table::children_at(view.table, i);
     let sequence = Node {
         kind: Kind::Sequence,
         limit: node.limit,
@@ -171,7 +168,7 @@ pub fn rule8_at(view: View, i: usize, out: &mut [u8]) -> Option<usize>
     let table = view.table;
     let second = shared_child(view, i)?;
     let count = table::children_at(table, i);
-    let tops = put_tops(table, i, out);
+    let tops = put_tops(view, i, out);
     let firsts = copy_firsts(view, i + 1, count, out, tops);
     let at = writing::copy_records(table, second, view.facts[second].records, out, firsts);
     let from = i + view.facts[i].records;
@@ -181,12 +178,11 @@ pub fn rule8_at(view: View, i: usize, out: &mut [u8]) -> Option<usize>
 // ---- Rule 9
 
 // Is the tree at record p an unlimited loop of plain bound 0?
-fn is_idle(table: &[u8], p: usize) -> bool
-    requires fact_1 { IsTable table.now }
-    requires fact_2 { p < record_count table.now }
-    ensures { result ≡ idle (subtree table.now p) }
+fn is_idle(view: View, p: usize) -> bool
+    requires { p < record_count view.table.now }
+    ensures { result ≡ idle (subtree view.entry.table.now p) }
 {
-    let node = table::node_at(table, p);
+    let node = table::node_at(view.table, p);
     (node.kind == Kind::Loop(Number::Plain(0))) & rewrite::is_unlimited(node.limit)
 }
 
@@ -196,7 +192,7 @@ pub fn rule9_at(view: View, i: usize, out: &mut [u8]) -> Option<usize>
     requires room { length view.table.now ≤ length out.old }
     ensures { Wrote (rule_at rule9 (trees_at view.entry.table.now i)) result out.new }
 {
-    if !is_idle(view.table, i) {
+    if !is_idle(view, i) {
         return None;
     }
     let body = i + 1;

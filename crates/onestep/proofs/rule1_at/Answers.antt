@@ -12,8 +12,8 @@ returns-then-not-view c =
 pub bounds-view-0 : goal.bounds-view-0
 bounds-view-0 c = omega (arith, some-record _ c.requires.simplifiable, c.args.view.surveyed.room)
 
-pub is_bare-requires-clause-fact_2 : goal.is_bare-requires-clause-fact_2
-is_bare-requires-clause-fact_2 c = some-record _ c.requires.simplifiable
+pub is_bare-requires : goal.is_bare-requires
+is_bare-requires c = some-record _ c.requires.simplifiable
 
 pub returns-then-is_bare : goal.returns-then-is_bare
 returns-then-is_bare c = that-already _ c.requires.simplifiable _ _ c.is_bare.ensures c.if-is_bare.true

@@ -22,8 +22,8 @@ returns-then-is_unlimited c =
     child-alone v.table.now v.surveyed.table c.args.i c.requires.inside _ c.node_at-node.ensures c.is_sum.ensures c.if-not-is_sum.false
     c.children_at.ensures.0 c.if-children_at-ne1.false c.is_unlimited.ensures c.if-is_unlimited.true (omega arith) e
 
-pub relimit_at-requires-clause-fact_2 : goal.relimit_at-requires-clause-fact_2
-relimit_at-requires-clause-fact_2 c =
+pub relimit_at-requires-clause-inside : goal.relimit_at-requires-clause-inside
+relimit_at-requires-clause-inside c =
     let v = c.args.view in
     child-inside v.table.now v.surveyed.table c.args.i c.requires.inside c.children_at.ensures.0 c.if-children_at-ne1.false
 

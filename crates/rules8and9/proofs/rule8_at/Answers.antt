@@ -18,9 +18,9 @@ firsts-end c x = omega (arith, c.copy_firsts-firsts.ensures.0, c.put_tops-tops.e
 pub returns-in_err-second : goal.returns-in_err-second
 returns-in_err-second c = rw c.from_residual.ensures (no_sharing _ c.args.view.surveyed.table _ _ c.requires.inside c.in_err-second.ensures)
 
-pub put_tops-tops-requires-clause-fact_3 : goal.put_tops-tops-requires-clause-fact_3
-put_tops-tops-requires-clause-fact_3 c =
-    let x = found (goal.at.put_tops-tops-requires-clause-fact_3 c).In_ok-second in
+pub put_tops-tops-requires-clause-room : goal.put_tops-tops-requires-clause-room
+put_tops-tops-requires-clause-room c =
+    let x = found (goal.at.put_tops-tops-requires-clause-room c).In_ok-second in
     omega (arith, x.small, length-is _ x.table, c.requires.room)
 
 pub copy_firsts-firsts-requires-clause-pairs : goal.copy_firsts-firsts-requires-clause-pairs

@@ -17,8 +17,8 @@ returns-then-ne-children_at c =
     no-choice _ c.args.view.surveyed.table _ c.requires
     (sym (other-read c.args.view.table.now c.args.i c.node_at-node.ensures (c.ne.ensures ∙ ap not (equal-kinds _ _)) c.children_at.ensures.0) ∙ c.if-ne-children_at.true)
 
-pub is_pair-requires-clause-fact_2 : goal.is_pair-requires-clause-fact_2
-is_pair-requires-clause-fact_2 c = (choice (goal.at.is_pair-requires-clause-fact_2 c).Else-ne-children_at).inside
+pub is_pair-requires : goal.is_pair-requires
+is_pair-requires c = (choice (goal.at.is_pair-requires c).Else-ne-children_at).inside
 
 pub returns-then-not-is_pair : goal.returns-then-not-is_pair
 returns-then-not-is_pair c = first-no-pair (choice (goal.at.returns-then-not-is_pair c).Else-ne-children_at) _ c.is_pair.ensures c.if-not-is_pair.true
