@@ -24,17 +24,6 @@ fn is_fillable(symbol: u64) -> bool
     symbol < FIRST_PAIRED_SYMBOL
 }
 
-// Is a limit's number not the symbol under flag 4?
-#[tactic(auto, unfolding(crate::specs::Answers::not_under_four))]
-fn not_under_four(most: Most, symbol: u64) -> bool
-    ensures { result ≡ not_under_four symbol most }
-{
-    match most {
-        Most::Plain(_) | Most::Symbol(_) => true,
-        Most::Triangular(s) => s != symbol,
-    }
-}
-
 // Is the limit of the record at the front of `b` not the symbol under flag 4?
 fn record_free(b: &[u8], symbol: u64) -> bool
     requires { record_length ≤ length b.now }
@@ -42,7 +31,7 @@ fn record_free(b: &[u8], symbol: u64) -> bool
 {
     match table::read_limit(b) {
         Limit::Unlimited => true,
-        Limit::AtMost(_, most) => not_under_four(most, symbol),
+        Limit::AtMost(_, most) => most != Most::Triangular(symbol),
     }
 }
 
@@ -87,7 +76,7 @@ fn write_filled(table: &[u8], symbol: u64, number: u64, out: &mut [u8], marks: &
     writing::write_front(&bytes, MARK_LENGTH, marks);
 }
 
-// Writes the opened table over the front of `out`.
+// Writes the opened table over the front of `out`. It and the one before are one call each of the pass that they share.
 fn write_opened(table: &[u8], marks: &[u8], symbol: u64, out: &mut [u8])
     requires fact_1 { IsTable table.now }
     requires fact_2 { (length table.now ≤ length out.old) × (length marks.now ≡ mark_length) }

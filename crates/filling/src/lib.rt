@@ -65,7 +65,7 @@ fn put_next(table: &[u8], i: usize, digit: u8, value: Number, most: Most, out: &
     writing::put_node(out, i, put_fields(node, digit, value, most), count);
 }
 
-// Puts all of the table's records, with these in the marked fields, at the buffer's front.
+// Puts all of the table's records, with these in the marked fields, at the buffer's front. A limit has numbers that a time has not, so there are two of them.
 pub fn put_marked(table: &[u8], marks: &[u8], value: Number, most: Most, out: &mut [u8])
     requires { (record_length * record_count table.now ≤ length out.old) × (length marks.now ≡ mark_length) × (record_count table.now ≤ most_records) }
     ensures { front (record_count table.now) out.new ≡ put_records value most (digit_at marks.now) (record_count table.now) 0 table.now }

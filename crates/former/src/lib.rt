@@ -15,7 +15,7 @@ use table::{FILL, MOST_RECORDS, RECORD_LENGTH};
 // The bytes of a former record, as in specs/Former.antt.
 pub const FORMER_LENGTH: usize = 16;
 
-// Question 1 of former tables.
+// Question 1 of former tables: the one line of tables with another length, which a const parameter would make no shorter.
 fn length_allowed(old: &[u8]) -> bool
     ensures { result ≡ former_question1 old.now }
 {

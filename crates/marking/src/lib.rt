@@ -45,7 +45,7 @@ fn mark_digit(table: &[u8], i: usize, symbol: u64) -> u8
     mark_node(table::node_at(table, i), symbol)
 }
 
-// Four records' marks.
+// Four records' marks, as the format has them: a loop over the four would say no more.
 fn mark_byte(table: &[u8], j: usize, symbol: u64) -> u8
     requires { j < mark_length }
     ensures { result ≡ mark_byte (mark_digit symbol table.now) j }
@@ -105,7 +105,7 @@ fn kind_opens(kind: Kind, symbol: u64, number: u64) -> bool
     }
 }
 
-// May it in a node's limit?
+// May it in a node's limit? It and the value's test share no more than that a number is compared and the symbol's range asked, each by functions of its own.
 fn limit_opens(limit: Limit, symbol: u64, number: u64) -> bool
     ensures { result ≡ limit_opens symbol number limit }
 {

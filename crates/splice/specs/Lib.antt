@@ -1,5 +1,5 @@
 -- Definitions, in the order of reading.
-mod Nodes
+pub mod Nodes
 pub mod Graft
 pub mod Renaming
 pub mod Splice

@@ -18,14 +18,10 @@ const LOOP_ROOM: usize = 9;
 // ---- The symbol
 
 // Is this a block whose time is the symbol?
-#[tactic(auto, unfolding(crate::specs::Graft::is_symbol))]
 fn is_symbol(kind: Kind, symbol: u64) -> bool
     ensures { result ≡ is_symbol symbol kind }
 {
-    match kind {
-        Kind::Block(time) => table::number_has(time, symbol),
-        Kind::Sequence | Kind::Choice | Kind::Loop(_) => false,
-    }
+    kind == Kind::Block(Number::Symbol(symbol))
 }
 
 // Is record i a block with the symbol?

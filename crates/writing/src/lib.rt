@@ -31,6 +31,9 @@ pub fn copy_bytes(from: &[u8], start: usize, n: usize, out: &mut [u8], at: usize
 
 // ---- Records copied
 
+// A buffer and its record `at` are no struct: a caller lends the buffer for one call and goes on from the record that it answers, so that each call would make
+// the struct and take it apart.
+
 // Copies n records from record i on to the buffer's record `at` and on; answers the record after them.
 pub fn copy_records(table: &[u8], i: usize, n: usize, out: &mut [u8], at: usize) -> usize
     requires { (record_length * (i + n) ≤ length table.now) × (record_length * (at + n) ≤ length out.old) }
@@ -67,7 +70,8 @@ pub fn copy_rest(table: &[u8], i: usize, out: &mut [u8], at: usize) -> usize
 
 // ---- The record of a node
 
-// The flag of a time or bound, and its field.
+// The flag of a time or bound, and its field. A kind, a number and a limit have several bytes in a record, of which none is the value's own number: so each is
+// a function with the byte's name, and no From.
 #[tactic(auto, unfolding(table::specs::Table::flag))]
 pub fn flag_of(number: Number) -> u8
     ensures { (result ≡ flag number) × (result ≤ 1) }
