@@ -1,9 +1,9 @@
 -- What converting answers, beside the buffer that it wrote to.
 use Rattle.std.specs.Prelude.{List, ℕ}
 use Rattle.io.specs.Counts.{IsPrefixLen}
-use Rattle.former.specs.declared.Conversion.{Conversion}
+use Rattle.refusals.specs.Refusals.{Answer, Given, Refused}
 
 -- a written table stands at the buffer's front
-unfoldable pub Within : Conversion → (buffer : List ℕ) → Type 0
-Within (Conversion.Written n) x = IsPrefixLen n x
-Within (Conversion.Refused number) x = Unit {0}
+unfoldable pub Within : Answer ℕ → (buffer : List ℕ) → Type 0
+Within (Given n) x = IsPrefixLen n x
+Within (Refused number) x = Unit {0}

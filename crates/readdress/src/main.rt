@@ -2,26 +2,15 @@
 // old.tab's length is not one that such a table had, nothing is written, and a tree.tab that is there stays as it is. It prints nothing.
 #![tactic(auto)]
 
-ghost use Rattle.io.specs.Counts.{IsPrefixLen};
-
-use former::{Conversion, FORMER_LENGTH};
+use former::FORMER_LENGTH;
 use std::random::RandomSource;
 use std::rt::Files;
 use table::{MOST_RECORDS, RECORD_LENGTH};
 
-// Saves the front of the buffer as tree.tab, in place of one that is there.
-fn deliver(rt: &(impl Files + RandomSource + Eprint), tree: &[u8], len: usize)
-    requires { IsPrefixLen len tree.now }
-{
-    files::save(rt, b"tree.tab", &tree[..len]);
-}
-
-// Makes the table in the lent buffer, and delivers what was written there.
+// Makes the table in the lent buffer, and saves what was written there as tree.tab, in place of one that is there.
 fn convert_into(rt: &(impl Files + RandomSource + Eprint), old: &[u8], tree: &mut [u8]) {
-    let answer = former::convert(old, tree);
-    match answer {
-        Conversion::Written(len) => deliver(rt, tree, len),
-        Conversion::Refused(_) => {}
+    if let Ok(len) = former::convert(old, tree) {
+        files::save(rt, b"tree.tab", &tree[..len]);
     }
 }
 

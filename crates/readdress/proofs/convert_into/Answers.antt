@@ -1,7 +1,15 @@
-use Rattle.readdress.specs.Laws.Buffers.{answer-within, within-counts}
+use Rattle.readdress.specs.Buffers.{Within}
+use Rattle.readdress.specs.Laws.Buffers.{answer-within}
 use Rattle.readdress.proofs.convert_into.Goals as goal
 
-pub deliver-requires : goal.deliver-requires
-deliver-requires g c =
-    let h = c.convert-answer.ensures in
-    within-counts _ c.in-Written.is (answer-within _ _ _ _ h.answer h.written)
+pub slice_bounds-save-end-in-Ok : goal.slice_bounds-save-end-in-Ok
+unfolding Within
+slice_bounds-save-end-in-Ok g c =
+    let h = c.in-Ok.ensures in
+    (answer-within _ _ _ _ h.answer h.written).0
+
+pub slice_bounds-save-end-in-Ok-2 : goal.slice_bounds-save-end-in-Ok-2
+unfolding Within
+slice_bounds-save-end-in-Ok-2 g c =
+    let h = c.in-Ok.ensures in
+    (answer-within _ _ _ _ h.answer h.written).1
