@@ -49,6 +49,7 @@ fn read_file(rt: &impl Files, path: &[u8], buf: &mut [u8]) -> io::Result<usize>
 }
 
 // Reads to the file's end, or until the buffer is full, which is enough: callers lend one longer than what they accept. A read that gives nothing is the end.
+// A loop, since no method of std reads so: `read_exact` refuses a short file, and `read_to_end` wants a `Vec`.
 fn read_whole<F: Read>(file: &mut F, buf: &mut [u8]) -> io::Result<usize>
     ensures prefix_len { IfOk result (λ n. IsPrefixLen n buf.new) }
     ensures bytes { IfOk result (λ n. Consumes (F.remaining file.old) (F.remaining file.new) (take n buf.new)) }
