@@ -630,13 +630,3 @@ pub fn accept(table: &[u8]) -> Result<(), Refusal>
     }
     accept_tree(table)
 }
-
-// The number of the first question that says no, or 0.
-pub fn refusal_of(table: &[u8]) -> u64
-    ensures { result ≡ refusal table.now }
-{
-    match accept(table) {
-        Ok(()) => 0,
-        Err(refusal) => u64::from(refusal),
-    }
-}

@@ -110,14 +110,3 @@ pub fn accept(table: &[u8], values: &[u64], free: bool) -> Result<(), Refusal>
     }
     Ok(())
 }
-
-// The number of that question, or 0.
-pub fn values_refusal(table: &[u8], values: &[u64], free: bool) -> u64
-    requires { free ≡ flag_free table.now }
-    ensures { result ≡ values_refusal table.now values.now }
-{
-    match accept(table, values, free) {
-        Ok(()) => 0,
-        Err(refusal) => u64::from(refusal),
-    }
-}
