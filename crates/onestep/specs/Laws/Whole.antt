@@ -1,5 +1,5 @@
 -- Rule 1: the whole table as one block; and a step, by rule 1 or by the search.
-use Rattle.std.specs.Prelude.{◌≡◌, Bool, not, true, List, [], ◌++◌, ℕ, ◌+◌, ◌*◌, ◌<◌, ◌≤◌, drop, get_or, length, Some, None}
+use Rattle.std.specs.Prelude.{◌≡◌, Bool, not, true, List, [], ◌++◌, ℕ, ◌+◌, ◌*◌, ◌<◌, ◌≤◌, drop, length, Some, None}
 use Rattle.std.specs.declared.option.Option.{Option as Maybe}
 use Rattle.searching.specs.declared.Spot.{Spot}
 use Rattle.std.proofs.Math.Path.{refl, ap, sym}

@@ -1,5 +1,5 @@
 -- Each return has the answers to the questions before it; the last two have what the walk found.
-use mathlib.Core.Path.{ap, sym, ◌∙◌}
+use mathlib.Core.Path.{ap, sym}
 use native.Mathlib.Omega.{arith}
 use Rattle.refusals.specs.Laws.{number-some, passed_on}
 use Rattle.table.specs.Bytes.{AreBytes}

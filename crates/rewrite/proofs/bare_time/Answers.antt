@@ -1,4 +1,3 @@
-use Rattle.std.proofs.Common.{rules}
 use Rattle.subtrees.specs.Laws.Parts.{here-at}
 use Rattle.rewrite.specs.Laws.Tests.{limited-time, low-time, some-time}
 use Rattle.rewrite.proofs.bare_time.Goals as goal

@@ -8,7 +8,6 @@ use Rattle.std.proofs.Math.Option.{some}
 use Rattle.std.proofs.Math.Dec.{T}
 use Rattle.booleans.specs.Laws.{both}
 use Rattle.booleans.specs.Tests.{◌and◌}
-use Rattle.std.proofs.Math.ListN.{get_or}
 use Rattle.table.specs.Numbers.{most_depth, most_records, record_length}
 use Rattle.table.specs.Questions.{depth, listed}
 use Rattle.table.specs.Table.{child_byte, encode, encodes, first_node, record_bytes, record_count}

@@ -1,5 +1,5 @@
 -- Each question put in its order; what is left is the steps.
-use mathlib.Core.Path.{◌≡◌, ap, sym, ◌∙◌}
+use mathlib.Core.Path.{◌≡◌, ap, sym}
 use native.Mathlib.Omega.{arith}
 use Rattle.refusals.specs.Laws.{number-some, passed_on}
 use Rattle.table.specs.Bytes.{AreBytes}
