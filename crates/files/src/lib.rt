@@ -84,7 +84,7 @@ pub fn save(rt: &(impl Files + RandomSource + Eprint), path: &[u8], bytes: &[u8]
     told(rt, path, replace(rt, path, &name[..n], bytes))
 }
 
-// Says what failed, if anything did, and answers whether all was well.
+// Says what failed, if anything did, and answers whether all was well. A flag and no result, here and where it is passed on: what failed has been told.
 fn told(rt: &impl Eprint, path: &[u8], ended: io::Result<()>) -> bool
     ensures { result ≡ is_ok ended }
 {

@@ -43,6 +43,7 @@ fn put_graft(host: &[u8], sent: &[u8], symbol: u64, out: &mut [u8]) -> Result<us
     requires { Allowed host.now sent.now symbol }
     ensures { (answer result ≡ graft_answer host.now sent.now symbol out.old) × (out.new ≡ over (graft_writes host.now sent.now symbol out.old) out.old) }
 {
+    // Fixed memory, no heap: the result can be the longest table, and only its front is lent on.
     let mut work = [0; RECORD_LENGTH * MOST_RECORDS];
     let Some(n) = make_graft(host, sent, symbol, &mut work) else {
         return Err(Refusal::Graft);

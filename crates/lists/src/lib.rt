@@ -134,7 +134,7 @@ impl List {
     }
 }
 
-// One, or none of none.
+// One, or none of none: how many pairs, by which an index moves on, and no yes or no. So are the numbers of `Head` and `Turn` that are 0 or 1.
 pub fn some_of(x: u64) -> usize
     ensures { result ≡ some x }
 {

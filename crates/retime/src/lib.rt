@@ -12,7 +12,7 @@ ghost use Rattle.retime.specs.Promises.{CommitPromises, PreviewPromises};
 
 use quoting::Quote;
 use refusals::Refusal;
-use table::{Kind, MOST_RECORDS, MOST_TIME, RECORD_LENGTH};
+use table::{Kind, MOST_RECORDS, MOST_TIME, Number, RECORD_LENGTH};
 
 // Figure and branch of the table, and of the one that commit would leave.
 #[derive(Clone, Copy)]
@@ -27,12 +27,7 @@ pub struct Previewed {
 fn is_time(kind: Kind, old: u64) -> bool
     ensures { result ≡ is_time old kind }
 {
-    match kind {
-        Kind::Block(time) => marking::number_is(time, old),
-        Kind::Sequence => false,
-        Kind::Choice => false,
-        Kind::Loop(_) => false,
-    }
+    kind == Kind::Block(Number::Plain(old))
 }
 
 // Question 17: a block with that plain old time at record `place`, and the new time in range?

@@ -19,7 +19,8 @@ pub struct Spot {
     pub len: usize,
 }
 
-// The lowest of rules 2 to 9 that fits the subtree at record i. None fits a block.
+// The lowest of rules 2 to 9 that fits the subtree at record i. None fits a block. One `if let` after the other and no `or_else`: its closures would write
+// `out`, and of what a closure writes a proof learns nothing.
 fn rule_at(view: View, i: usize, out: &mut [u8]) -> Option<usize>
     requires inside { i < record_count view.table.now }
     requires room { length view.table.now ≤ length out.old }

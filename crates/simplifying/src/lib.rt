@@ -15,7 +15,7 @@ use refusals::Refusal;
 use subtrees::Facts;
 use table::{MOST_RECORDS, RECORD_LENGTH};
 
-// No rule fits what was written, or the allowance is used and a rule fits.
+// No rule fits what was written, or the allowance is used and a rule fits. An enum and no flag: C and the sales line read it by its two names.
 #[derive(Clone, Copy)]
 pub enum Ending {
     Finished,

@@ -1,19 +1,19 @@
+use Rattle.std.proofs.Common.{◌≡◌, ◌∙◌, refl, ℕ}
+use Rattle.table.specs.contracts.KindPartialEq.TheImpl as kind
+use Rattle.table.specs.declared.Number.TheVariants.{Plain, Symbol}
+use Rattle.marking.specs.Opening.{number_is}
 use Rattle.retime.specs.Answers.{is_time}
-use borrow.Author.Rules.{rules}
+use Rattle.retime.specs.Nodes.{Kind, Block, Sequence, Choice, Loop}
 use Rattle.retime.proofs.is_time.Goals as goal
 
-pub returns-in-Block : goal.returns-in-Block
-unfolding is_time
-returns-in-Block c = rw c.in-Block.is c.number_is.ensures
+-- what the derived equality says of a block of that time
+same : (k : Kind) (n : ℕ) → kind.ghosts.eq k (Block (Plain n)) ≡ is_time n k
+unfolding is_time number_is
+same (Block (Plain x)) n = refl
+same (Block (Symbol s)) n = refl
+same Sequence n = refl
+same Choice n = refl
+same (Loop x) n = refl
 
-pub returns-in-Sequence : goal.returns-in-Sequence
-unfolding is_time
-returns-in-Sequence c = search rules
-
-pub returns-in-Choice : goal.returns-in-Choice
-unfolding is_time
-returns-in-Choice c = search rules
-
-pub returns-in-Loop : goal.returns-in-Loop
-unfolding is_time
-returns-in-Loop c = search rules
+pub returns : goal.returns
+returns c = c.eq.ensures ∙ same c.args.kind c.args.old

@@ -63,11 +63,11 @@ module _ (b : List ℕ) (i j : ℕ) where
   pub whole_words : i < record_count b → j < record_count b → SameWords (lent b i) (lent b j)
   whole_words l m = rw (lent_is b i, lent_is b j) (fields-long b i l ∙ sym (fields-long b j m), omega (arith, fields-long b i l))
 
-  words_same : Compared (lent b i) (lent b j) None → true ≡ same_bytes (fields_at b i) (fields_at b j)
+  pub words_same : Compared (lent b i) (lent b j) None → true ≡ same_bytes (fields_at b i) (fields_at b j)
   unfolding Compared
   words_same q = sym (T-is _ (subst (λ x. T (same_bytes (fields_at b i) x)) (sym (lent_is b i) ∙ q ∙ lent_is b j) (bytes-self (fields_at b i))))
 
-  words-other : (k : ℕ) → Compared (lent b i) (lent b j) (Some k) → false ≡ same_bytes (fields_at b i) (fields_at b j)
+  pub words-other : (k : ℕ) → Compared (lent b i) (lent b j) (Some k) → false ≡ same_bytes (fields_at b i) (fields_at b j)
   unfolding Compared
   words-other k d = never _ (λ t. d.1 (ap (word k) (lent_is b i ∙ bytes-are (fields_at b i) (fields_at b j) t ∙ sym (lent_is b j))))
 

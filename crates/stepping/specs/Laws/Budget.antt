@@ -4,6 +4,7 @@ use Rattle.std.specs.declared.option.Option.{Option as Maybe}
 use Rattle.std.proofs.Common.{ap, sym, subst, ◌∙◌, append-nil, add-zero, zero-add, arith, length-take-le}
 use Rattle.std.proofs.Math.Option.{Option, none, some}
 use Rattle.std.proofs.Math.Nat.{sub-zero}
+use Rattle.table.specs.Checking.{IsTable}
 use Rattle.table.specs.Numbers.{record_length}
 use Rattle.table.specs.Questions.{Accepted}
 use Rattle.table.specs.Table.{decode, encode, encodes, record_count}
@@ -15,13 +16,13 @@ use Rattle.evaluate.specs.Evaluate.{zeros}
 use Rattle.simplify.specs.Steps.{Made, also, is_none, onward, step, steps}
 use Rattle.simplify.proofs.Laws.Keeps.{Kept}
 use Rattle.simplify.proofs.Laws.Stepping.{Steps, ends, goes, last, step-steps}
-use Rattle.subtrees.specs.Facts.{Surveyed}
+use Rattle.subtrees.specs.Facts.{Surveyed, extent_at}
 use Rattle.subtrees.specs.declared.Facts.{Facts}
 use Rattle.searching.specs.declared.Spot.{Spot}
 use Rattle.subtrees.specs.Parts.{Simplifiable}
 use Rattle.subtrees.specs.Laws.Parts.{extent-some}
 use Rattle.writing.specs.Records.{front}
-use Rattle.searching.specs.Found.{Settled}
+use Rattle.searching.specs.Found.{Found, Placed, Settled}
 use Rattle.searching.specs.Rewritten.{Rewritten}
 use Rattle.onestep.specs.Step.{stepped}
 use Rattle.stepping.specs.Steps.{Ends}
@@ -161,6 +162,12 @@ pub record Stage (b₀ : List ℕ) (n : ℕ) (work : List ℕ) (long k : ℕ) (f
   pub known : Surveyed (take long work) facts
   pub settled : Settled (take long work) facts at
 
+-- a part of a buffer, ready to be surveyed
+pub survey-ready : (work : List ℕ) (n facts : ℕ) → Simplifiable (take n work) → n ≤ length work → n ≤ record_length * facts → IsTable (part n work) × (record_count (part n work) ≤ facts)
+survey-ready work n facts s l f =
+    let long = length-take-le n work l in
+    rw (part-to work n) (s.table, omega arith)
+
 -- before the first step every subtree ends behind record 0
 none-settled : (b : List ℕ) (facts : List Facts) → Surveyed b facts → Settled b facts 0
 none-settled b facts x j l o = absurd (omega (arith, o, extent-some b facts x j l))
@@ -176,6 +183,13 @@ module _ {b₀ : List ℕ} {n : ℕ} {work : List ℕ} {long k : ℕ} {facts : L
 
   pub stage-short : long ≤ length b₀
   stage-short = omega (arith, s.going.no_longer, long-is)
+
+  -- the part, ready for a step
+  pub stage-known : Surveyed (part long work) facts
+  stage-known = rw (part-to work long) s.known
+
+  pub stage-ready : Simplifiable (part long work) × Settled (part long work) facts at × (length (part long work) ≡ long)
+  stage-ready = rw (part-to work long) (s.going.simplifiable, s.settled, long-is)
 
   -- no rule fits
   pub stage-finished : (out : List ℕ) → Rewritten (stepped (decode (part long work))) (part long work) None out → Ends b₀ n (take long work) k true
@@ -201,6 +215,9 @@ module _ {b₀ : List ℕ} {n : ℕ} {work : List ℕ} {long k : ℕ} {facts : L
 
     pub stage-next : k < n → Going b₀ n (front spot.at (take long work) ++ front spot.len out) (k + 1)
     stage-next l = going_next b₀ n (take long work) k s.going l next_one
+
+    pub stage-placed : Found (part long work) facts (Some spot) out → Placed (take long work) spot.at (spot.at + extent_at facts spot.at) spot.len out
+    stage-placed f = rw (part-to work long) at f
 
     -- made
     pub stage_made : k < n → (new : List ℕ) (r : ℕ) (facts' : List Facts) → take r new ≡ front spot.at (take long work) ++ front spot.len out → r ≤ length new

@@ -1,7 +1,7 @@
 -- The pass over a table that finds the facts of every record, from the last to the first.
 use Rattle.std.specs.Prelude.{◌≡◌, Bool, true, ◌&&◌, List, ℕ, ◌+◌, ◌*◌, ◌-◌, ◌<◌, ◌≤◌, max, zero, suc, T, eqb, ltb, drop, set}
 use Rattle.std.proofs.Math.Path.{refl, ap, sym}
-use Rattle.std.proofs.Common.{◌∙◌, add-one, ltb-false, ltb-true, ne_eqb}
+use Rattle.std.proofs.Common.{subst, ◌∙◌, add-one, ltb-false, ltb-true, ne_eqb}
 use Rattle.std.proofs.Math.Bool.{false}
 use native.Mathlib.Omega.{arith}
 use Rattle.std.proofs.Math.ListN.{length}
@@ -15,8 +15,9 @@ use Rattle.table.specs.Trees.{Forest, node, ◌▸◌, records, records_in}
 use Rattle.evaluate.specs.Closed.{is_plain, plain_kind, plain_limit, symbol_free, symbol_free_in, plain_most}
 use Rattle.evaluate.specs.Evaluate.{inner, name, name_in}
 use Rattle.subtrees.specs.Nodes.{AtMost, Block, Choice, Kind, Limit, Loop, Node, Number, Plain, Sequence, Symbol, Unlimited, Most}
-use Rattle.subtrees.specs.Facts.{Known, Own, below_at, below_of, child_in, extent_at, fact_at, facts_of, is_loop, limited_name, no_child, paired_reach, reach, reach_below, reach_in}
+use Rattle.subtrees.specs.Facts.{Known, Outdated, Own, OwnBefore, Surveyed, Unchanged, below_at, below_of, child_in, extent_at, fact_at, facts_of, is_loop, limited_name, no_child, paired_reach, reach, reach_below, reach_in}
 use Rattle.subtrees.specs.declared.Facts.{Facts}
+use Rattle.std.specs.List.{CopiedTo, SameBelow}
 use Rattle.table.specs.Checking.{IsTable}
 use Rattle.subtrees.specs.Parts.{subtree, trees_at}
 use Rattle.subtrees.specs.declared.Below.{Below}
@@ -148,6 +149,14 @@ known_more b facts i k o = record { each = λ j p q. own j p q (ltb i j) refl }
     own j p q true t = k.each j (omega (arith, ltb-true i j t)) q
     own j p q false t = let same : j ≡ i = omega (arith, p, ltb-false i j t) in rw same o
 
+-- all of them
+pub known-all : (b : List ℕ) (facts : List Facts) → IsTable b → record_count b ≤ length facts → {i : ℕ} → i ≤ 0 → Known b facts i → Surveyed b facts
+known-all b facts s room l k = record { table = s; room = room; each = λ j p. k.each j (omega (arith, l)) p }
+
+-- where nothing changes before record i
+pub before-still : (b : List ℕ) (e f : List Facts) (at n i : ℕ) → i ≤ n → Unchanged i e f → OwnBefore b e at n → OwnBefore b f at i
+before-still b e f at n i o u w = λ j p q. u j p ∙ w j (omega (arith, o, p)) (omega (arith, q, ap (λ f. f.records) (u j p)))
+
 module _ (b : List ℕ) (s : IsTable b) (i : ℕ) (l : i < record_count b) where
   h : Here b i
   h = here-at b s i l
@@ -195,3 +204,20 @@ module _ (b : List ℕ) (s : IsTable b) (i : ℕ) (l : i < record_count b) where
       known_more b _ i
       (record { each = λ j p q. put-apart facts i _ j (λ d. omega (arith, p)) ∙ k.each j p q })
       (get_or-set_same facts i (new_facts c) _ (omega arith) ∙ own_facts c e)
+
+-- ---- a table that changed
+
+module _ (b : List ℕ) (e : List Facts) (at end rest : ℕ) (o : Outdated b e at end rest) where
+  -- the last records' facts, where they stand for the table as it is now
+  pub moved-known : {f : List Facts} → CopiedTo e f end (record_count b - rest) rest → Known b f (record_count b - rest)
+  moved-known {f} w = record { each = own }
+    where
+      own : (j : ℕ) → record_count b - rest ≤ j → j < record_count b → Own (subtree b j) f j
+      own j p q =
+          let k = j - (record_count b - rest) in
+          let less : k < rest = omega (arith, p, q, o.changed) in
+          let same : record_count b - rest + k ≡ j = omega (arith, p) in
+          w j _ p (omega (arith, q, o.changed)) ∙ subst (λ i. fact_at e (end + k) ≡ facts_of (subtree b i)) same (o.behind k less)
+
+  pub moved_before : (f : List Facts) → SameBelow e f (record_count b - rest) → OwnBefore b f at at
+  moved_before f u = before-still b e f at at at (omega arith) (λ j l. u j _ (omega (arith, l, o.changed))) o.before
