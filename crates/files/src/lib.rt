@@ -26,6 +26,7 @@ fn as_text(path: &[u8]) -> io::Result<&str>
 // ---- Reading
 
 // Reads the file into the front of `buf`, and answers that part of it. A missing file is empty. One that cannot be read is said so, and gives none.
+// The clause says no more than how long the part is: none can be proved of what a buffer holds while the answer borrows it.
 pub fn load<'a>(rt: &(impl Files + Eprint), path: &[u8], buf: &'a mut [u8]) -> Option<&'a [u8]>
     ensures { IfSome result (λ bytes. length bytes.now ≤ length buf.old) }
 {

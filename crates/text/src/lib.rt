@@ -43,7 +43,7 @@ impl<const N: usize> Text<N> {
         &self.bytes[..self.len]
     }
 
-    // Puts a word after what is put already, as the other methods do.
+    // Puts a word. Each method puts its text behind what was put before.
     pub fn put_word(&mut self, word: &[u8])
         requires { length self.old + length word.now ≤ N }
         ensures { self.new ≡ self.old ++ word.now }
