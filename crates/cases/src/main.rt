@@ -7,7 +7,7 @@ ghost use Rattle.text.specs.Texts.{longest_line, most_digits};
 use quoting::Quote;
 use std::rt::Files;
 use table::{HOW_MANY_VALUES, MOST_RECORDS, RECORD_LENGTH};
-use text::LONGEST_LINE;
+use text::{LONGEST_LINE, Text};
 
 // One record more than a table may have.
 const ROOM: usize = RECORD_LENGTH * (MOST_RECORDS + 1);
@@ -15,27 +15,19 @@ const ROOM: usize = RECORD_LENGTH * (MOST_RECORDS + 1);
 fn say(rt: &(impl Print + Eprint), name: &[u8], word: &[u8], number: u64)
     requires { length name.now + length word.now + most_digits + 1 ≤ longest_line }
 {
-    let mut line = [0u8; LONGEST_LINE];
-    let named = text::put_word(&mut line, 0, name);
-    let n = text::put_line(&mut line, named, word, number);
-    text::say(rt, &line[..n]);
+    let mut line = Text::<LONGEST_LINE>::new();
+    line.put_word(name);
+    line.put_line(word, number);
+    text::say(rt, line.as_bytes());
 }
 
 fn say_figure(rt: &(impl Print + Eprint), name: &[u8], quote: Quote)
     requires { length name.now ≤ 32 }
 {
-    let mut line = [0u8; LONGEST_LINE];
-    let named = text::put_word(&mut line, 0, name);
-    let n = text::put_two_numbers(
-        &mut line,
-        named,
-        b" figure ",
-        quote.figure,
-        b" branch ",
-        quote.branch,
-        b"\n",
-    );
-    text::say(rt, &line[..n]);
+    let mut line = Text::<LONGEST_LINE>::new();
+    line.put_word(name);
+    line.put_two_numbers(b" figure ", quote.figure, b" branch ", quote.branch, b"\n");
+    text::say(rt, line.as_bytes());
 }
 
 // The figure of a case's table, with every value 0.

@@ -11,7 +11,7 @@ use std::io::{ErrorKind, Read, Write};
 use std::random::RandomSource;
 use std::rt::Files;
 use std::{fs, io, str};
-use text::MOST_DIGITS;
+use text::{MOST_DIGITS, Text};
 
 // A path's bytes as text: std names files by nothing else.
 fn as_text(path: &[u8]) -> io::Result<&str>
@@ -26,6 +26,7 @@ fn as_text(path: &[u8]) -> io::Result<&str>
 // ---- Reading
 
 // Reads the file into the front of `buf`, and answers that part of it. A missing file is empty. One that cannot be read is said so, and gives none.
+// The clause says no more than how long the part is: none can be proved of what a buffer holds while the answer borrows it.
 pub fn load<'a>(rt: &(impl Files + Eprint), path: &[u8], buf: &'a mut [u8]) -> Option<&'a [u8]>
     ensures { IfSome result (λ bytes. length bytes.now ≤ length buf.old) }
 {
@@ -79,9 +80,8 @@ const LONGEST_NAME: usize = LONGEST_PATH + 1 + MOST_DIGITS;
 pub fn save(rt: &(impl Files + RandomSource + Eprint), path: &[u8], bytes: &[u8]) -> bool
     requires { length path.now ≤ 64 }
 {
-    let mut name = [0u8; LONGEST_NAME];
-    let n = put_name(&mut name, path, random(rt));
-    told(rt, path, replace(rt, path, &name[..n], bytes))
+    let name: Text<LONGEST_NAME> = name_beside(path, random(rt));
+    told(rt, path, replace(rt, path, name.as_bytes(), bytes))
 }
 
 // Says what failed, if anything did, and answers whether all was well. A flag and no result, here and where it is passed on: what failed has been told.
@@ -95,15 +95,16 @@ fn told(rt: &impl Eprint, path: &[u8], ended: io::Result<()>) -> bool
     true
 }
 
-// Puts a name beside the path into the buffer, with a number, so that each program has a file of its own.
-fn put_name(name: &mut [u8], path: &[u8], number: u64) -> usize
-    requires { length path.now + 1 + most_digits ≤ length name.old }
-    ensures prefix_len { IsPrefixLen result name.new }
-    ensures numbered { Numbered (path.now ++ 46 ∷ []) number (take result name.new) }
+// A name beside the path, with a number, so that each program has a file of its own.
+fn name_beside<const N: usize>(path: &[u8], number: u64) -> Text<N>
+    requires { length path.now + 1 + most_digits ≤ N }
+    ensures { Numbered (path.now ++ 46 ∷ []) number result }
 {
-    let named = text::put_word(name, 0, path);
-    let dotted = text::put_word(name, named, b".");
-    text::put_number(name, dotted, number)
+    let mut name = Text::new();
+    name.put_word(path);
+    name.put_word(b".");
+    name.put_number(number);
+    name
 }
 
 // Where the system has no random bytes, 0: a name that is taken is refused, and no other program's file is written.

@@ -1,7 +1,7 @@
 // The sales desk's program: simplifies tree.tab to simple.tab, both in the folder that it runs in, and says so on one line. Its one argument is the allowance of steps; without it there is no end to them.
 #![tactic(auto)]
 
-ghost use Rattle.std.specs.Prelude.{◌+◌, ◌≤◌, length, take};
+ghost use Rattle.std.specs.Prelude.{◌+◌, ◌≤◌, length};
 ghost use Rattle.io.specs.Counts.{IsPrefixLen};
 ghost use Rattle.sales.specs.Lines.{Line};
 ghost use Rattle.text.specs.Texts.{longest_line};
@@ -12,7 +12,7 @@ use std::env::{Env, FillError};
 use std::random::RandomSource;
 use std::rt::Files;
 use table::{MOST_RECORDS, RECORD_LENGTH};
-use text::LONGEST_LINE;
+use text::{LONGEST_LINE, Text};
 
 // One record more than a table may have, so that a longer file shows.
 const ROOM: usize = RECORD_LENGTH * (MOST_RECORDS + 1);
@@ -37,22 +37,21 @@ fn allowance(rt: &impl Env) -> Option<u64> {
     }
 }
 
-// Puts the line of a written table into the buffer; answers its length. The bytes before its ending are at most 58: two words of 11 and 7, and two numbers
-// of 20 digits.
-fn put_line(line: &mut [u8], len: u64, steps: u64, ending: &[u8]) -> usize
-    requires { 58 + length ending.now ≤ length line.old }
-    ensures prefix_len { IsPrefixLen result line.new }
-    ensures line { Line len steps ending.now (take result line.new) }
+// The line of a written table. The bytes before its ending are at most 58: two words of 11 and 7, and two numbers of 20 digits.
+fn put_line<const N: usize>(len: u64, steps: u64, ending: &[u8]) -> Text<N>
+    requires { 58 + length ending.now ≤ N }
+    ensures { Line len steps ending.now result }
 {
-    text::put_two_numbers(line, 0, b"simplified ", len, b" steps ", steps, ending)
+    let mut line = Text::new();
+    line.put_two_numbers(b"simplified ", len, b" steps ", steps, ending);
+    line
 }
 
 fn say(rt: &(impl Print + Eprint), len: u64, steps: u64, ending: &[u8])
     requires { 58 + length ending.now ≤ longest_line }
 {
-    let mut line = [0u8; LONGEST_LINE];
-    let n = put_line(&mut line, len, steps, ending);
-    text::say(rt, &line[..n]);
+    let line: Text<LONGEST_LINE> = put_line(len, steps, ending);
+    text::say(rt, line.as_bytes());
 }
 
 // Saves what was written into the buffer, and says so once it is saved.

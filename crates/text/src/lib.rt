@@ -1,77 +1,105 @@
-// Text put together in a lent buffer, so that a program writes its line by one call, and the lines of programs that write at once stay whole.
+// Text put together in a buffer, so that a program writes its line by one call, and the lines of programs that write at once stay whole.
 #![tactic(auto)]
 
-ghost use Rattle.std.specs.Prelude.{◌≡◌, ◌++◌, ◌+◌, ◌≤◌, length, take};
-ghost use Rattle.io.specs.Counts.{IsPrefixLen};
+ghost use Rattle.std.specs.Prelude.{◌≡◌, ℕ, List, [], ◌++◌, ◌+◌, ◌≤◌, length, take};
 ghost use Rattle.text.specs.Texts.{Line, Numbered, TwoNumbers, longest_line, most_digits};
 
 use std::io::Error;
+use std::marker::Model;
 
 // The most digits that a number has.
 pub const MOST_DIGITS: usize = 20;
 
-// Puts a word after the buffer's first bytes, which are text already; answers the text's length.
-pub fn put_word(out: &mut [u8], at: usize, word: &[u8]) -> usize
-    requires { at + length word.now ≤ length out.old }
-    ensures prefix_len { IsPrefixLen result out.new }
-    ensures value { result ≡ at + length word.now }
-    ensures out_after { take result out.new ≡ take at out.old ++ word.now }
-{
-    let n = word.len();
-    writing::write_front(word, n, &mut out[at..]);
-    at + n
+// A text that is put together in a fixed buffer of N bytes.
+#[derive(Drop)]
+pub struct Text<const N: usize> {
+    bytes: [u8; N],
+    len: usize,
 }
 
-// Puts a number's decimal digits there.
-pub fn put_number(out: &mut [u8], at: usize, number: u64) -> usize
-    requires { at + most_digits ≤ length out.old }
-    ensures prefix_len { IsPrefixLen result out.new }
-    ensures upper_bound { result ≤ at + most_digits }
-    ensures numbered { Numbered (take at out.old) number (take result out.new) }
-{
-    let mut digits = [0u8; MOST_DIGITS];
-    let k = io::decimal(number, &mut digits);
-    put_word(out, at, &digits[..k])
+// Clauses see the bytes that are put.
+impl<const N: usize> Model for Text<N> {
+    ghost Value = { List ℕ };
+
+    ghost view = { λ text. take text.len text.bytes };
+
+    ghost invariant = { λ text. text.len ≤ N };
 }
 
-// Puts a word and a number there.
-fn put_numbered(out: &mut [u8], at: usize, word: &[u8], number: u64) -> usize
-    requires { at + length word.now + most_digits ≤ length out.old }
-    ensures prefix_len { IsPrefixLen result out.new }
-    ensures upper_bound { result ≤ at + length word.now + most_digits }
-    ensures numbered { Numbered (take at out.old ++ word.now) number (take result out.new) }
-{
-    let named = put_word(out, at, word);
-    put_number(out, named, number)
-}
+impl<const N: usize> Text<N> {
+    pub fn new() -> Self
+        ensures { result ≡ [] }
+    {
+        Text {
+            bytes: [0; N],
+            len: 0,
+        }
+    }
 
-// Puts a line there: a word, a number and the line's end.
-pub fn put_line(out: &mut [u8], at: usize, word: &[u8], number: u64) -> usize
-    requires { at + length word.now + most_digits + 1 ≤ length out.old }
-    ensures prefix_len { IsPrefixLen result out.new }
-    ensures line { Line (take at out.old ++ word.now) number (take result out.new) }
-{
-    let numbered = put_numbered(out, at, word, number);
-    put_word(out, numbered, b"\n")
-}
+    pub fn as_bytes(&self) -> &[u8]
+        ensures value { result.now ≡ self.now }
+        ensures within { length result.now ≤ N }
+    {
+        &self.bytes[..self.len]
+    }
 
-// Puts two numbers there, each after its word, and then an ending.
-pub fn put_two_numbers(
-    out: &mut [u8],
-    at: usize,
-    word: &[u8],
-    first: u64,
-    between: &[u8],
-    second: u64,
-    ending: &[u8],
-) -> usize
-    requires { at + length word.now + most_digits + length between.now + most_digits + length ending.now ≤ length out.old }
-    ensures prefix_len { IsPrefixLen result out.new }
-    ensures two_numbers { TwoNumbers (take at out.old ++ word.now) first between.now second ending.now (take result out.new) }
-{
-    let front = put_numbered(out, at, word, first);
-    let numbers = put_numbered(out, front, between, second);
-    put_word(out, numbers, ending)
+    // Puts a word. Each method puts its text behind what was put before.
+    pub fn put_word(&mut self, word: &[u8])
+        requires { length self.old + length word.now ≤ N }
+        ensures { self.new ≡ self.old ++ word.now }
+    {
+        let n = word.len();
+        let bytes = &mut self.bytes[..];
+        writing::write_front(word, n, &mut bytes[self.len..]);
+        self.len += n;
+    }
+
+    // Puts a number's decimal digits.
+    pub fn put_number(&mut self, number: u64)
+        requires { length self.old + most_digits ≤ N }
+        ensures upper_bound { length self.new ≤ length self.old + most_digits }
+        ensures numbered { Numbered self.old number self.new }
+    {
+        let mut digits = [0u8; MOST_DIGITS];
+        let k = io::decimal(number, &mut digits);
+        self.put_word(&digits[..k]);
+    }
+
+    // Puts a word and a number.
+    fn put_numbered(&mut self, word: &[u8], number: u64)
+        requires { length self.old + length word.now + most_digits ≤ N }
+        ensures upper_bound { length self.new ≤ length self.old + length word.now + most_digits }
+        ensures numbered { Numbered (self.old ++ word.now) number self.new }
+    {
+        self.put_word(word);
+        self.put_number(number);
+    }
+
+    // Puts a line: a word, a number and the line's end.
+    pub fn put_line(&mut self, word: &[u8], number: u64)
+        requires { length self.old + length word.now + most_digits + 1 ≤ N }
+        ensures { Line (self.old ++ word.now) number self.new }
+    {
+        self.put_numbered(word, number);
+        self.put_word(b"\n");
+    }
+
+    // Puts two numbers, each after its word, and then an ending.
+    pub fn put_two_numbers(
+        &mut self,
+        word: &[u8],
+        first: u64,
+        between: &[u8],
+        second: u64,
+        ending: &[u8],
+    )
+        requires { length self.old + length word.now + most_digits + length between.now + most_digits + length ending.now ≤ N }
+        ensures { TwoNumbers (self.old ++ word.now) first between.now second ending.now self.new }
+    {
+        self.put_numbered(word, first);
+        self.put_numbered(between, second);
+        self.put_word(ending);
+    }
 }
 
 // Writes a line to standard output, or says on standard error why it cannot. The whole line goes to the system in one call: in pieces, another program's could come between.
@@ -93,9 +121,9 @@ pub const LONGEST_LINE: usize = 96;
 pub fn say_number(rt: &(impl Print + Eprint), word: &[u8], number: u64)
     requires { length word.now + most_digits + 1 ≤ longest_line }
 {
-    let mut line = [0u8; LONGEST_LINE];
-    let n = put_line(&mut line, 0, word, number);
-    say(rt, &line[..n]);
+    let mut line = Text::<LONGEST_LINE>::new();
+    line.put_line(word, number);
+    say(rt, line.as_bytes());
 }
 
 // Says a line of two words, each before its number.
@@ -108,7 +136,7 @@ pub fn say_two_numbers(
 )
     requires { length word.now + most_digits + length between.now + most_digits + 1 ≤ longest_line }
 {
-    let mut line = [0u8; LONGEST_LINE];
-    let n = put_two_numbers(&mut line, 0, word, first, between, second, b"\n");
-    say(rt, &line[..n]);
+    let mut line = Text::<LONGEST_LINE>::new();
+    line.put_two_numbers(word, first, between, second, b"\n");
+    say(rt, line.as_bytes());
 }
