@@ -31,11 +31,11 @@ fn printed() -> Vec<u64> {
     text.lines().map(number).collect()
 }
 
-/// The constant table of the library.
+/// The table of the library.
 fn constant() -> Vec<u64> {
     let text = read("crates/triangular/src/lib.rt");
     let (_, rest) = text
-        .split_once("const TRIANGULAR: [u32; 1001] = [")
+        .split_once("static TRIANGULAR: [u32; 1001] = [")
         .expect("the table");
     let (numbers, _) = rest.split_once("];").expect("its end");
     let numbers = numbers.split(',').map(str::trim);
