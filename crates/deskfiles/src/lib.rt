@@ -14,45 +14,53 @@ use table::{HOW_MANY_SYMBOLS, HOW_MANY_VALUES, LATER_PLACE};
 // Bytes that a value takes in a file.
 pub const VALUE_LENGTH: usize = 8;
 
-// Value i of a file of whole values, or what an absent one counts.
-fn value_or(absent: u64, bytes: &[u8], i: usize) -> u64
-    requires { (length bytes.now % value_length ≡ 0) × (i < how_many_values) }
-    ensures { result ≡ value_or absent (drop (value_length * i) bytes.now) }
-{
-    let at = VALUE_LENGTH * i;
-    if at < bytes.len() {
-        table::read_u64(bytes, at)
-    } else {
-        absent
+// The bytes of a file of whole values.
+#[derive(Clone, Copy)]
+struct ValuesFile<'a> {
+    bytes: &'a [u8],
+    ghost whole: { length bytes.now % value_length ≡ 0 },
+}
+
+impl<'a> ValuesFile<'a> {
+    // Value i, or what an absent one counts.
+    fn value_or(self, absent: u64, i: usize) -> u64
+        requires { i < how_many_values }
+        ensures { result ≡ value_or absent (drop (value_length * i) self.entry.bytes.now) }
+    {
+        let at = VALUE_LENGTH * i;
+        if at < self.bytes.len() {
+            table::read_u64(self.bytes, at)
+        } else {
+            absent
+        }
     }
-}
 
-// A symbol's value, its first where it has two. An absent one counts its ceiling, so that a blank never flatters a quote.
-fn symbol_value(bytes: &[u8], i: usize) -> u64
-    requires { (length bytes.now % value_length ≡ 0) × (i < how_many_values) }
-    ensures { result ≡ symbol_value bytes.now i }
-{
-    value_or(values::ceiling_of(i), bytes, i)
-}
-
-// Any value: an absent later one equals its first.
-fn value_of(bytes: &[u8], i: usize) -> u64
-    requires { (length bytes.now % value_length ≡ 0) × (i < how_many_values) }
-    ensures { result ≡ file_value bytes.now i }
-{
-    if (i as u64) < HOW_MANY_SYMBOLS {
-        return symbol_value(bytes, i);
+    // A symbol's value, its first where it has two. An absent one counts its ceiling, so that a blank never flatters a quote.
+    fn symbol_value(self, i: usize) -> u64
+        requires { i < how_many_values }
+        ensures { result ≡ symbol_value self.entry.bytes.now i }
+    {
+        self.value_or(values::ceiling_of(i), i)
     }
-    let first = symbol_value(bytes, i - LATER_PLACE);
-    value_or(first, bytes, i)
-}
 
-// All the values: those of a file of whole values, then what the absent ones count.
-fn values_of(bytes: &[u8]) -> [u64; HOW_MANY_VALUES]
-    requires { length bytes.now % value_length ≡ 0 }
-    ensures { result ≡ file_values bytes.now }
-{
-    array::from_fn(|i| value_of(bytes, i))
+    // Any value: an absent later one equals its first.
+    fn value(self, i: usize) -> u64
+        requires { i < how_many_values }
+        ensures { result ≡ file_value self.entry.bytes.now i }
+    {
+        if (i as u64) < HOW_MANY_SYMBOLS {
+            return self.symbol_value(i);
+        }
+        let first = self.symbol_value(i - LATER_PLACE);
+        self.value_or(first, i)
+    }
+
+    // All the values: those of the file, then what the absent ones count.
+    fn values(self) -> [u64; HOW_MANY_VALUES]
+        ensures { result ≡ file_values self.entry.bytes.now }
+    {
+        array::from_fn(|i| self.value(i))
+    }
 }
 
 // Does a file hold whole values, and no more than there are?
@@ -69,7 +77,8 @@ pub fn quote_files(tree: &[u8], values: &[u8]) -> Result<Quote, Refusal>
     ensures promise { FilesPromise tree.now values.now (answer result) }
 {
     if values_whole(values) {
-        return quoting::figure(tree, &values_of(values));
+        let file = ValuesFile { bytes: values };
+        return quoting::figure(tree, &file.values());
     }
     table::accept(tree)?;
     Err(Refusal::Values)

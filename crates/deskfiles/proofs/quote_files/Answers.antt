@@ -4,14 +4,14 @@ use Rattle.quoting.specs.Answers.{figure_answer}
 use Rattle.deskfiles.proofs.Laws.Files.{whole_length, files-kept, files-whole, files-refused, files-other}
 use Rattle.deskfiles.proofs.quote_files.Goals as goal
 
-pub values_of-requires : goal.values_of-requires
-values_of-requires c = whole_length _ (sym c.values_whole.ensures ∙ c.if-values_whole.true)
+pub invariant_of-file : goal.invariant_of-file
+invariant_of-file c = record { whole = whole_length _ (sym c.values_whole.ensures ∙ c.if-values_whole.true) }
 
 pub returns-then-values_whole : goal.returns-then-values_whole
 returns-then-values_whole c =
     let a = c.args in
     let k = files-kept _ _ _
-    (c.figure.ensures.answer ∙ ap (figure_answer a.tree.now) c.values_of.ensures ∙ files-whole _ _ (sym c.values_whole.ensures ∙ c.if-values_whole.true)) in
+    (c.figure.ensures.answer ∙ ap (figure_answer a.tree.now) c.values.ensures ∙ files-whole _ _ (sym c.values_whole.ensures ∙ c.if-values_whole.true)) in
     record { answer = k.0; promise = k.1 }
 
 pub returns-in_err-accept : goal.returns-in_err-accept

@@ -1,5 +1,5 @@
 use Rattle.deskfiles.specs.Files.{symbol_value}
-use Rattle.deskfiles.proofs.symbol_value.Goals as goal
+use Rattle.deskfiles.proofs.ValuesFile.symbol_value.Goals as goal
 
 pub returns : goal.returns
 unfolding symbol_value
