@@ -40,7 +40,8 @@ fn allowance(rt: &impl Env) -> Option<u64> {
 // The line of a written table. The bytes before its ending are at most 58: two words of 11 and 7, and two numbers of 20 digits.
 fn put_line<const N: usize>(len: u64, steps: u64, ending: &[u8]) -> Text<N>
     requires { 58 + length ending.now ≤ N }
-    ensures { Line len steps ending.now result }
+    ensures within { length result ≤ N }
+    ensures line { Line len steps ending.now result }
 {
     let mut line = Text::new();
     line.put_two_numbers(b"simplified ", len, b" steps ", steps, ending);

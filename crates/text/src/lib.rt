@@ -78,7 +78,8 @@ impl<const N: usize> Text<N> {
     // Puts a line: a word, a number and the line's end.
     pub fn put_line(&mut self, word: &[u8], number: u64)
         requires { length self.old + length word.now + most_digits + 1 ≤ N }
-        ensures { Line (self.old ++ word.now) number self.new }
+        ensures within { length self.new ≤ N }
+        ensures line { Line (self.old ++ word.now) number self.new }
     {
         self.put_numbered(word, number);
         self.put_word(b"\n");
@@ -94,7 +95,8 @@ impl<const N: usize> Text<N> {
         ending: &[u8],
     )
         requires { length self.old + length word.now + most_digits + length between.now + most_digits + length ending.now ≤ N }
-        ensures { TwoNumbers (self.old ++ word.now) first between.now second ending.now self.new }
+        ensures within { length self.new ≤ N }
+        ensures two_numbers { TwoNumbers (self.old ++ word.now) first between.now second ending.now self.new }
     {
         self.put_numbered(word, first);
         self.put_numbered(between, second);
