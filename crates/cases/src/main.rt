@@ -35,10 +35,10 @@ fn quote(rt: &(impl Files + Print + Eprint), path: &[u8])
     requires { length path.now ≤ 32 }
 {
     let mut table = [0u8; ROOM];
-    let Some(table) = files::load(rt, path, &mut table) else {
+    let Some(len) = files::load(rt, path, &mut table) else {
         return;
     };
-    match quoting::figure(table, &[0; HOW_MANY_VALUES]) {
+    match quoting::figure(&table[..len], &[0; HOW_MANY_VALUES]) {
         Ok(quote) => say_figure(rt, path, quote),
         Err(refusal) => say(rt, path, b" refused ", u64::from(refusal)),
     }
@@ -48,10 +48,10 @@ fn check(rt: &(impl Files + Print + Eprint), path: &[u8])
     requires { length path.now ≤ 32 }
 {
     let mut table = [0u8; ROOM];
-    let Some(table) = files::load(rt, path, &mut table) else {
+    let Some(len) = files::load(rt, path, &mut table) else {
         return;
     };
-    match quoting::check(table) {
+    match quoting::check(&table[..len]) {
         Ok(records) => say(rt, path, b" accepted ", records as u64),
         Err(refusal) => say(rt, path, b" refused ", u64::from(refusal)),
     }

@@ -25,13 +25,13 @@ fn as_text(path: &[u8]) -> io::Result<&str>
 
 // ---- Reading
 
-// Reads the file into the front of `buf`, and answers that part of it. A missing file is empty. One that cannot be read is said so, and gives none.
-// The clause says no more than how long the part is: none can be proved of what a buffer holds while the answer borrows it.
-pub fn load<'a>(rt: &(impl Files + Eprint), path: &[u8], buf: &'a mut [u8]) -> Option<&'a [u8]>
-    ensures { IfSome result (λ bytes. length bytes.now ≤ length buf.old) }
+// Reads the file into the front of `buf`, and answers how much of it that is. A missing file is empty. One that cannot be read is said so, and gives none.
+// A length and no part of `buf`: of what a buffer holds while its part is lent on, no clause can speak.
+pub fn load(rt: &(impl Files + Eprint), path: &[u8], buf: &mut [u8]) -> Option<usize>
+    ensures { IfSome result (λ len. IsPrefixLen len buf.new) }
 {
     match read_file(rt, path, buf) {
-        Ok(len) => Some(&buf[..len]),
+        Ok(len) => Some(len),
         Err(error) => {
             text::fail(rt, path, error);
             None

@@ -18,7 +18,7 @@ fn main(rt: HostRuntime) {
     // One record more than a table may have, so that a longer file shows.
     let mut old = [0u8; FORMER_LENGTH * (MOST_RECORDS + 1)];
     let mut tree = [0u8; RECORD_LENGTH * MOST_RECORDS];
-    if let Some(old) = files::load(&rt, b"old.tab", &mut old) {
-        convert_into(&rt, old, &mut tree);
+    if let Some(len) = files::load(&rt, b"old.tab", &mut old) {
+        convert_into(&rt, &old[..len], &mut tree);
     }
 }

@@ -97,8 +97,8 @@ fn complain(rt: &impl Eprint) {
 fn run(rt: &(impl Files + RandomSource + Print + Eprint), allowance: u64) {
     let mut tree = [0u8; ROOM];
     let mut simple = [0u8; ROOM];
-    if let Some(tree) = files::load(rt, b"tree.tab", &mut tree) {
-        simplify_into(rt, tree, allowance, &mut simple);
+    if let Some(len) = files::load(rt, b"tree.tab", &mut tree) {
+        simplify_into(rt, &tree[..len], allowance, &mut simple);
     }
 }
 
