@@ -1,10 +1,10 @@
 -- An allowance as a program reads it, digit by digit.
-use Rattle.std.specs.Prelude.{◌≡◌, refl, true, false, cond, List, [], ◌∷◌, ℕ, suc, ◌+◌, ◌*◌, ◌-◌, ◌<◌, ◌≤◌, leb, length, get_or, drop, Option, Some, None}
-use Rattle.std.proofs.Common.{sym, ◌∙◌, arith, leb→le, drop-cons, lt-ltb, le-ltb, le-leb}
+use Rattle.std.specs.Prelude.{◌≡◌, refl, Bool, not, true, false, cond, List, [], ◌∷◌, ℕ, suc, ◌+◌, ◌*◌, ◌-◌, ◌<◌, ◌≤◌, ◌/◌, leb, length, get_or, drop, Option, Some, None}
+use Rattle.std.proofs.Common.{sym, ◌∙◌, arith, leb→le, drop-cons, lt-ltb, le-ltb, le-leb, leb-true, leb-false}
 use Rattle.std.proofs.Math.Seq.{drop-length}
-use Rattle.std.proofs.lemmas.Bool.{lt-leb}
+use Rattle.std.proofs.lemmas.Bool.{lt-leb, not-true, not-false}
 use Rattle.booleans.specs.Tests.{◌and◌}
-use Rattle.booleans.specs.Laws.{&&-both, and-false, is_T}
+use Rattle.booleans.specs.Laws.{&&-both, and-false, is_T, same_test}
 use Rattle.arguments.specs.Allowances.{zero_digit, nine_digit, is_digit, all_digits, number_from, most_steps, is_allowance, allowance_answer}
 
 -- what these characters and those before them make, which stand for n
@@ -53,3 +53,17 @@ too_large cs n i d l h t e o =
 pub all_read : (cs : List ℕ) (n i : ℕ) → i ≡ length cs → n ≤ most_steps → Read cs n i → Some n ≡ allowance_answer cs
 unfolding read_from all_digits number_from ◌and◌
 all_read cs n i q l h = sym (h ∙ rw (q, drop-length cs, le-leb n most_steps l) refl)
+
+-- ---- one more digit fits: ten times the number and the digit, or the number against what that leaves
+
+pub room-is : (n d : ℕ) → d ≤ 9 → leb n ((most_steps - d) / 10) ≡ leb (10 * n + d) most_steps
+room-is n d l =
+    same_test (leb n ((most_steps - d) / 10)) (leb (10 * n + d) most_steps)
+    (λ t. let h = leb→le n ((most_steps - d) / 10) t in is_T _ (le-leb (10 * n + d) most_steps (omega arith)))
+    (λ t. let h = leb→le (10 * n + d) most_steps t in is_T _ (le-leb n ((most_steps - d) / 10) (omega arith)))
+
+pub has_room : (n d : ℕ) (b : Bool) → b ≡ leb (10 * n + d) most_steps → not b ≡ false → 10 * n + d ≤ most_steps
+has_room n d b e t = leb-true (10 * n + d) most_steps (sym e ∙ not-false b t)
+
+pub no_room : (n d : ℕ) (b : Bool) → b ≡ leb (10 * n + d) most_steps → not b ≡ true → most_steps < 10 * n + d
+no_room n d b e t = leb-false (10 * n + d) most_steps (sym e ∙ not-true b t)

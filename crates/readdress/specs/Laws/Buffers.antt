@@ -1,7 +1,7 @@
 -- What the convert call promises of its answer and its buffer says that a written table stands at the buffer's front.
 use Rattle.std.specs.Prelude.{◌≡◌, List, ◌++◌, ℕ, length, drop}
 use Rattle.std.proofs.Common.{subst, arith, length-append, length-take}
-use Rattle.refusals.specs.Refusals.{Answer, Refused}
+use Rattle.refusals.specs.Refusals.{Answer, Given, Refused}
 use Rattle.io.specs.Counts.{IsPrefixLen}
 use Rattle.table.proofs.Laws.Asking.{by-refusals}
 use Rattle.writing.specs.Over.{over}
@@ -9,6 +9,10 @@ use Rattle.former.specs.Former.{former_count}
 use Rattle.former.specs.Converted.{new_table, convert_answer, convert_refusal, convert_writes}
 use Rattle.former.proofs.Laws.Converted.{converted-long}
 use Rattle.readdress.specs.Buffers.{Within}
+
+pub within-counts : {r : Answer ℕ} {n : ℕ} (x : List ℕ) → r ≡ Given n → Within r x → IsPrefixLen n x
+unfolding Within
+within-counts x e h = subst (λ (r : Answer ℕ). Within r x) e h
 
 pub answer-within : (b out x : List ℕ) (r : Answer ℕ) → r ≡ convert_answer b out → x ≡ over (convert_writes b out) out → Within r x
 unfolding Within convert_answer convert_writes over
