@@ -12,7 +12,7 @@ use Rattle.evaluate.specs.declared.Valued.{Valued}
 use Rattle.evaluate.specs.Nodes.{Kind}
 use Rattle.evaluate.specs.Evaluate.{Values}
 use Rattle.evaluate.specs.Evaluator.{Found, and_then, found, gone_round, joined, unfit}
-use Rattle.evaluate.specs.Shown.{Limitable, Ready, Shows, found_in, with_next}
+use Rattle.evaluate.specs.Shown.{Limitable, Ready, Shows, answered_in, found_in, with_next}
 use Rattle.evaluate.proofs.Laws.Sane.{Below, Sane}
 
 -- ---- lists
@@ -37,6 +37,11 @@ list-shown s = record { proper = s.0; pairs = sym (ap (λ c. c.pairs) s.1) }
 pub shown-fits : (r : Option Valued) (a : Listed) (e : Found) → Shows r a e → e.fits ≡ true → Is a e.pairs
 shown-fits None a e s f = absurd (subst T (sym f ∙ ap (λ c. c.fits) s) tt)
 shown-fits (Some r) a e s f = list-shown s
+
+-- what an answer shows, where it may be None
+pub shown-is : (r : Option Valued) (a : Listed) {e : Found} → Shows r a e → e ≡ answered_in r a
+shown-is None a s = s
+shown-is (Some r) a s = s.1
 
 -- what comes next after what is found
 pub then-shown : {r : Valued} {a : Listed} {e : Found} → Shows (Some r) a e → (f : Found → Found) → and_then e f ≡ f (found_in r a)
