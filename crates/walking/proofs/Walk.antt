@@ -20,7 +20,7 @@ use Rattle.evaluate.specs.Evaluate.{Values, no_branch}
 use Rattle.evaluate.specs.Evaluator.{Found, and_then, checked, evaluate_below, evaluate_more, evaluate_node, found, gone_round, limited, time_pairs, unfit}
 use Rattle.evaluate.specs.Shown.{Limitable, Ready, Shows, answered_in, evaluate_children, found_in, with_next}
 use Rattle.evaluate.proofs.Laws.Sane.{Below, Sane, below-block, sane, sane-is-below, sane-more, sane-next, sane-none, sane-where}
-use Rattle.evaluate.proofs.Laws.Shown.{found-shown, limitable-shown, ready-shown, sane-ready, shown-is, then-shown, then-unfit}
+use Rattle.evaluate.proofs.Laws.Shown.{answered-is, found-shown, limitable-shown, ready-shown, sane-ready, then-shown, then-unfit}
 use Rattle.walking.proofs.Steps.{below_other, more-done, more-next, node-read}
 
 -- ---- children
@@ -61,7 +61,7 @@ module _ {v : Values} {h : ℕ} {b : List ℕ} (long : length b ≤ record_lengt
     module _ (c : Option Valued) (l : Listed) (child : Shows c l (evaluate_node v h (drop (record_length * r.records) b))) where
       is-taken : with_next v k i (found_in r a) (answered_in c l) ≡ taken
       unfolding taken
-      is-taken = ap (with_next v k i (found_in r a)) (sym (shown-is c l child))
+      is-taken = ap (with_next v k i (found_in r a)) (answered-is c l child)
 
       pub next_fits : {t : Valued} {a' : Listed} {j m : ℕ} → Shows (Some t) a' (with_next v k i (found_in r a) (answered_in c l)) → j ≡ suc i → m ≡ n - 1 → Walked v h b e (rest k) j m t a'
       unfolding more
@@ -120,4 +120,4 @@ module _ (v : Values) (h : ℕ) (b : List ℕ) {k : Kind} (its-kind : k ≡ (fir
   pub node-shown : {e : Found} → e ≡ below → {l : Limit} → l ≡ (first_node b).limit → (r : Option Valued) (a : Listed) → Shows r a e
       → (t : Option Valued) (c : Listed) → Shows t c (and_then (answered_in r a) (limited v l)) → Shows t c (evaluate_node v h b)
   node-shown s i r a f t c g =
-      subst (Shows t c) (ap (λ l. and_then (answered_in r a) (limited v l)) i ∙ ap (λ c. and_then c (limited v (first_node b).limit)) (sym (shown-is r a f) ∙ s) ∙ sym node-is) g
+      subst (Shows t c) (ap (λ l. and_then (answered_in r a) (limited v l)) i ∙ ap (λ c. and_then c (limited v (first_node b).limit)) (answered-is r a f ∙ s) ∙ sym node-is) g

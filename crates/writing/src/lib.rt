@@ -54,9 +54,8 @@ pub fn repeat_records(out: &mut [u8], i: usize, n: usize, at: usize) -> usize
     requires { (i + n ≤ at) × (record_length * (at + n) ≤ length out.old) }
     ensures { Appended at out.old n (slice out.old i n) result out.new }
 {
-    let start = RECORD_LENGTH * i;
-    let len = RECORD_LENGTH * n;
-    out.copy_within(start..start + len, RECORD_LENGTH * at);
+    let (front, back) = out.split_at_mut(RECORD_LENGTH * at);
+    copy_records(front, i, n, back, 0);
     at + n
 }
 
