@@ -24,9 +24,9 @@ pub const NO_BRANCH: usize = 255;
 // With eight bytes for the records, the gap before them was copied with each option, and the figure call took a fifth longer.
 #[derive(Clone, Copy)]
 pub struct Valued {
-    pub named: u8,
-    pub records: u16,
+    pub records: usize,
     pub branch: usize,
+    pub named: u8,
 }
 
 // ---- Numbers
@@ -133,7 +133,7 @@ fn check_top(list: &List, found: Valued) -> Option<Valued>
 }
 
 // The list that repeats one value.
-fn repeat_in(value: u64, found: Valued, out: &mut List) -> Option<Valued>
+pub fn repeat_in(value: u64, found: Valued, out: &mut List) -> Option<Valued>
     ensures { Shows result out.new (checked (ever value) found.named found.records found.branch) }
 {
     out.repeat(value);

@@ -72,7 +72,7 @@ pub fn evaluate_children(
     };
     let mut seen_as = kind;
     for number in 0..count {
-        let at = RECORD_LENGTH * usize::from(done.records);
+        let at = RECORD_LENGTH * done.records;
         let child = evaluate_node(&table[at..], values, depth, &mut list, spare);
         done = evaluate::take_child(seen_as, values, number, done, out, child, &mut list, spare)?;
         seen_as = evaluate::rest_of(seen_as);

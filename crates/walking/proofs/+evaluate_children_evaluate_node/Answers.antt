@@ -13,17 +13,17 @@ evaluate_children-loop-number-init t c = none_yet c.requires c.args.kind c.args.
 pub evaluate_children-take_child-requires-clause-fact_2 : goal.evaluate_children-take_child-requires-clause-fact_2
 evaluate_children-take_child-requires-clause-fact_2 t c =
     let m = record_length * c.loop-number.done.records in
-    let shows = rw (c.from-at.ensures, part-from c.args.table.now m) at c.evaluate_node-child.ensures in
+    let shows = rw (part-from c.args.table.now m) at c.evaluate_node-child.ensures in
     child-ready (values_of c.args.values.now) c.args.depth m c.args.table.now _ _ c.requires shows
 
 pub evaluate_children-returns-in_err-done : goal.evaluate_children-returns-in_err-done
 evaluate_children-returns-in_err-done t c =
-    let shows = rw (c.from-at.ensures, part-from c.args.table.now (record_length * c.loop-number.done.records)) at c.evaluate_node-child.ensures in
+    let shows = rw (part-from c.args.table.now (record_length * c.loop-number.done.records)) at c.evaluate_node-child.ensures in
     rw c.from_residual.ensures (next-ends c.requires c.loop-number.invariant (omega (arith, c.loop-number-test.true)) _ _ shows c.in_err-done.ensures)
 
 pub evaluate_children-loop-number-preserved : goal.evaluate_children-loop-number-preserved
 evaluate_children-loop-number-preserved t c =
-    let shows = rw (c.from-at.ensures, part-from c.args.table.now (record_length * c.loop-number.done.records)) at c.evaluate_node-child.ensures in
+    let shows = rw (part-from c.args.table.now (record_length * c.loop-number.done.records)) at c.evaluate_node-child.ensures in
     rw c.rest_of-seen_as.ensures
     (next_fits c.requires c.loop-number.invariant (omega (arith, c.loop-number-test.true)) _ _ shows c.in_ok-done.ensures (omega arith) (omega arith))
 
