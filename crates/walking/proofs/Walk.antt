@@ -99,25 +99,17 @@ children-limitable v h k n m b r a long =
     let c = drop m b in
     limitable r a (omega (arith, length-drop m b)) (sane-is-below c _ (sane-more v (evaluate_node v h) (sane v h) k 0 n c _ (sane-none c)))
 
--- the node at the front of b, of kind k and limit l
-module _ (v : Values) (h : ℕ) (b : List ℕ) {k : Kind} (its-kind : k ≡ (first_node b).kind) (deep : h ≡ 0 → ⊥) (long : record_length ≤ length b) where
-  -- what is below it
-  abbrev pub below : Found
-  below = evaluate_below v (evaluate_node v (h - 1)) k (child_byte b) (drop record_length b)
+-- the node at the front of b, of kind k and limit l, which limits what the answer r found below it
+module _ (v : Values) (h : ℕ) (b : List ℕ) {k : Kind} {l : Limit} (its-kind : k ≡ (first_node b).kind) (its-limit : l ≡ (first_node b).limit) (deep : h ≡ 0 → ⊥) (long : record_length ≤ length b)
+    (r t : Option Valued) (a c : Listed) (shown : Shows t c (and_then (answered_in r a) (limited v l))) where
+  by-below : Shows r a (evaluate_below v (evaluate_node v (h - 1)) k (child_byte b) (drop record_length b)) → Shows t c (evaluate_node v h b)
+  by-below s =
+      let found = ap (λ e. and_then e (limited v l)) (answered-is r a s) in
+      subst (Shows t c) (found ∙ sym (rw (← its-kind, ← its-limit) at (node-read v h b deep long))) shown
 
-  node-is : evaluate_node v h b ≡ and_then below (limited v (first_node b).limit)
-  node-is = rw (← its-kind) at (node-read v h b deep long)
-
-  -- of a block, and of any other kind
-  pub block-below : (time : Number) → k ≡ Block time → checked (time_pairs v time) whole_run 0 no_branch ≡ below
+  pub block-shown : (time : Number) → k ≡ Block time → Shows r a (checked (time_pairs v time) whole_run 0 no_branch) → Shows t c (evaluate_node v h b)
   unfolding evaluate_below
-  block-below time i = rw i refl
+  block-shown time i s = by-below (rw i s)
 
-  pub children-below : (m : ℕ) → m ≡ child_byte b → ((time : Number) → k ≡ Block time → ⊥) → evaluate_children v (h - 1) k m (drop record_length b) ≡ below
-  children-below m q o = rw q (below_other v (evaluate_node v (h - 1)) k (child_byte b) (drop record_length b) o)
-
-  -- it is what its limit leaves of that
-  pub node-shown : {e : Found} → e ≡ below → {l : Limit} → l ≡ (first_node b).limit → (r : Option Valued) (a : Listed) → Shows r a e
-      → (t : Option Valued) (c : Listed) → Shows t c (and_then (answered_in r a) (limited v l)) → Shows t c (evaluate_node v h b)
-  node-shown s i r a f t c g =
-      subst (Shows t c) (ap (λ l. and_then (answered_in r a) (limited v l)) i ∙ ap (λ c. and_then c (limited v (first_node b).limit)) (answered-is r a f ∙ s) ∙ sym node-is) g
+  pub children-shown : (m : ℕ) → m ≡ child_byte b → ((time : Number) → k ≡ Block time → ⊥) → Shows r a (evaluate_children v (h - 1) k m (drop record_length b)) → Shows t c (evaluate_node v h b)
+  children-shown m q o s = by-below (rw (← q, ← below_other v (evaluate_node v (h - 1)) k m (drop record_length b) o) s)

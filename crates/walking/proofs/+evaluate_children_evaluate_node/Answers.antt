@@ -4,7 +4,7 @@ use Rattle.table.specs.Numbers.{record_length}
 use Rattle.table.proofs.Laws.Reading.{part-from}
 use Rattle.evaluate.specs.Evaluate.{values_of}
 use Rattle.walking.proofs.Steps.{node-deep, node-short}
-use Rattle.walking.proofs.Walk.{all_done, block-below, block-limitable, child-ready, children-below, children-limitable, next-ends, next_fits, node-shown, none_yet}
+use Rattle.walking.proofs.Walk.{all_done, block-limitable, block-shown, child-ready, children-limitable, children-shown, next-ends, next_fits, none_yet}
 use Rattle.walking.proofs.+evaluate_children_evaluate_node.Goals as goal
 
 pub evaluate_children-loop-number-init : goal.evaluate_children-loop-number-init
@@ -43,9 +43,9 @@ evaluate_node-limit_in-requires t c =
 
 pub evaluate_node-returns-in-Block : goal.evaluate_node-returns-in-Block
 evaluate_node-returns-in-Block t c =
-    let a = c.args in let v = values_of a.values.now in
-    let kind = c.read_kind-kind.ensures in let deep = c.if-depth-eq0.false in let long = c.if-table-lt-RECORD_LENGTH.false in
-    node-shown v a.depth a.table.now kind deep long (block-below v a.depth a.table.now kind deep long c.in-Block.time c.in-Block.is) c.read_limit.ensures _ _ c.block_in-below.ensures _ _ c.limit_in.ensures
+    let a = c.args in
+    block-shown (values_of a.values.now) a.depth a.table.now c.read_kind-kind.ensures c.read_limit.ensures c.if-depth-eq0.false c.if-table-lt-RECORD_LENGTH.false _ _ _ _ c.limit_in.ensures
+        c.in-Block.time c.in-Block.is c.block_in-below.ensures
 
 pub evaluate_node-limit_in-requires-2 : goal.evaluate_node-limit_in-requires-2
 evaluate_node-limit_in-requires-2 t c =
@@ -55,7 +55,7 @@ evaluate_node-limit_in-requires-2 t c =
 
 pub evaluate_node-returns : goal.evaluate_node-returns
 evaluate_node-returns t c =
-    let a = c.args in let v = values_of a.values.now in
-    let kind = c.read_kind-kind.ensures in let deep = c.if-depth-eq0.false in let long = c.if-table-lt-RECORD_LENGTH.false in
+    let a = c.args in
     let shows = rw (part-from a.table.now record_length) at c.evaluate_children-below.ensures in
-    node-shown v a.depth a.table.now kind deep long (children-below v a.depth a.table.now kind deep long _ c.child_count-count.ensures.0 c.in_default.not-Block) c.read_limit-2.ensures _ _ shows _ _ c.limit_in-2.ensures
+    children-shown (values_of a.values.now) a.depth a.table.now c.read_kind-kind.ensures c.read_limit-2.ensures c.if-depth-eq0.false c.if-table-lt-RECORD_LENGTH.false _ _ _ _ c.limit_in-2.ensures
+        _ c.child_count-count.ensures.0 c.in_default.not-Block shows
