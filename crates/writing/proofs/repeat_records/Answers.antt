@@ -1,14 +1,14 @@
 -- The records stand in the front part, and the back part gets them at its front.
-use mathlib.Core.Path.{◌≡◌, refl, sym, ap, ◌∙◌}
+use mathlib.Core.Path.{◌≡◌, refl, ap, ◌∙◌}
 use mathlib.Core.List.{◌++◌}
 use Prim.Native.Nat.{◌*◌, ◌+◌}
 use native.Mathlib.Nat.{zero-add}
 use native.Mathlib.Omega.{arith}
-use lib.ListN.{length, length-drop, take}
+use lib.ListN.{length-drop, take}
 use Rattle.std.proofs.Math.Seq.{take-append-add}
 use Rattle.std.proofs.lemmas.List.{drop-append-le, take-append-le}
 use Rattle.table.specs.Numbers.{record_length}
-use Rattle.writing.specs.Records.{front, slice}
+use Rattle.writing.specs.Records.{slice}
 use Rattle.writing.specs.Laws.Records.{front-add}
 use Rattle.writing.proofs.repeat_records.Goals as goal
 
