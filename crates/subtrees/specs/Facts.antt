@@ -106,6 +106,10 @@ pub record Known (b : List ℕ) (facts : List Facts) (i : ℕ) : Type 0 where
 abbrev pub Unchanged : ℕ → (facts facts' : List Facts) → Type 0
 Unchanged i facts facts' = (j : ℕ) → j < i → fact_at facts' j ≡ fact_at facts j
 
+-- n records' facts stand from place `to` on as they stood from place `from` on
+abbrev pub Moved : (from to n : ℕ) (facts facts' : List Facts) → Type 0
+Moved from to n facts facts' = (k : ℕ) → k < n → fact_at facts' (to + k) ≡ fact_at facts (from + k)
+
 -- so it is with each record before record i whose extent, as it stands there, ends at record `at` or before
 abbrev pub OwnBefore : (b : List ℕ) (facts : List Facts) (at i : ℕ) → Type 0
 OwnBefore b facts at i = (j : ℕ) → j < i → j + extent_at facts j ≤ at → Own (subtree b j) facts j
