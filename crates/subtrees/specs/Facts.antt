@@ -91,6 +91,13 @@ extent_at facts j = (fact_at facts j).records
 abbrev pub Own : Tree → List Facts → ℕ → Type 0
 Own t facts k = fact_at facts k ≡ facts_of t
 
+-- the facts say how many records each subtree has, whatever else they say
+pub record Sized (b : List ℕ) (facts : List Facts) : Type 0 where
+  pub table : IsTable b
+  pub room : record_count b ≤ length facts
+  pub each : (j : ℕ) → j < record_count b → extent_at facts j ≡ records (subtree b j)
+
+-- each subtree's own facts
 pub record Surveyed (b : List ℕ) (facts : List Facts) : Type 0 where
   pub table : IsTable b
   pub room : record_count b ≤ length facts

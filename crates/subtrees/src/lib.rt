@@ -7,7 +7,7 @@ ghost use Rattle.table.specs.Table.{record_count};
 ghost use Rattle.table.specs.Checking.{IsTable};
 ghost use Rattle.table.specs.Trees.{Tree};
 ghost use Rattle.subtrees.specs.Parts.{trees_at};
-ghost use Rattle.subtrees.specs.Facts.{Known, Moved, Outdated, OwnBefore, Surveyed, Unchanged, below_at, child_in, is_loop, limited_name, outer, paired_reach};
+ghost use Rattle.subtrees.specs.Facts.{Known, Moved, Outdated, OwnBefore, Sized, Surveyed, Unchanged, below_at, child_in, is_loop, limited_name, outer, paired_reach};
 ghost use Rattle.subtrees.specs.Children.{Tells, child_at};
 
 use table::{Kind, RECORD_LENGTH, WHOLE_RUN};
@@ -35,12 +35,13 @@ impl Facts {
     };
 }
 
-// A table and the facts of all its records, as the rules read them.
+// A table and the facts of its records, as the rules read them. That the facts say how many records each subtree has is known of every view; a function that
+// reads more of them asks for it.
 #[derive(Clone, Copy)]
 pub struct View<'a> {
     pub table: &'a [u8],
     pub facts: &'a [Facts],
-    pub ghost surveyed: { Surveyed table.now facts.now },
+    pub ghost sized: { Sized table.now facts.now },
 }
 
 // What a node's children come to: their records, whether no symbol stands in them, the innermost loop that a child's list names, and the outermost that a

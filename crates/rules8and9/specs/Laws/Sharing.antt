@@ -17,14 +17,14 @@ use Rattle.table.specs.Numbers.{record_length}
 use Rattle.table.specs.Table.{child_byte, encode, encodes, first_node, record_bytes, record_count}
 use Rattle.table.specs.Trees.{Forest, Tree, nil, node, ◌▸◌, ◌⧺◌, records, records_in, size}
 use Rattle.table.proofs.Laws.RoundTrip.{first-⧺}
-use Rattle.subtrees.specs.Facts.{Surveyed, extent_at, fact_at, reach}
+use Rattle.subtrees.specs.Facts.{Sized, Surveyed, extent_at, fact_at, reach}
 use Rattle.subtrees.specs.Children.{any, child_at}
 use Rattle.subtrees.specs.declared.Facts.{Facts}
 use Rattle.table.specs.Checking.{IsTable}
 use Rattle.subtrees.specs.Parts.{subtree, trees_at}
 use Rattle.subtrees.specs.Laws.Facts.{closed_at}
 use Rattle.table.proofs.Laws.Tables.{length-is}
-use Rattle.subtrees.specs.Laws.Parts.{Here, Next, Row, here-at, kids-row, next_row, node-extent, past-inside, past-node, records-at, row-end, row_last, sized, tail_at, top-at}
+use Rattle.subtrees.specs.Laws.Parts.{Here, Next, Row, here-at, kids-row, next_row, node-extent, past-inside, past-node, records-at, row-end, row_last, tail_at, top-at}
 use Rattle.subtrees.specs.Laws.Records.{count_at, node_at}
 use Rattle.table.specs.declared.Limit.{Limit}
 use Rattle.table.specs.declared.Limit.TheVariants.{Unlimited}
@@ -74,7 +74,7 @@ pub record PairAt (b : List ℕ) (facts : List Facts) (p : ℕ) : Type 0 where
   pub place : p + 1 + extent_at facts (p + 1) < record_count b
   pub second : subtree b (p + 1 + extent_at facts (p + 1)) ≡ second_of (subtree b p)
 
-module _ (b : List ℕ) (facts : List Facts) (s : Surveyed b facts) (p : ℕ) (l : p < record_count b) where
+module _ (b : List ℕ) (facts : List Facts) (s : Sized b facts) (p : ℕ) (l : p < record_count b) where
   pub pair-at : is_pair (subtree b p) ≡ true → PairAt b facts p
   unfolding first_of second_of head_of tail_of children
   pair-at e =
@@ -165,7 +165,7 @@ choice-shared : (i : ℕ) (n : Node) (t : Tree) (f g : Forest) → same_kind n.k
 unfolding shared_at shares head_of ◌and◌
 choice-shared i n t f g k l = rw (k, l) refl
 
-pub choice-at : (b : List ℕ) (facts : List Facts) → Surveyed b facts → (i : ℕ) → i < record_count b → other b i ≡ false → ChoiceAt b i
+pub choice-at : (b : List ℕ) (facts : List Facts) → Sized b facts → (i : ℕ) → i < record_count b → other b i ≡ false → ChoiceAt b i
 unfolding children
 choice-at b facts s i l e =
     let h = here-at b s.table i l in
@@ -256,7 +256,7 @@ first-pair : (t : Tree) (f : Forest) → T (pairs (t ▸ f)) → T (is_pair t) �
 unfolding pairs
 first-pair t f h = both _ _ h
 
-module _ (b : List ℕ) (facts : List Facts) (s : Surveyed b facts) (p n at : ℕ) (o : List ℕ) (q m to : ℕ) (out : List ℕ) (h : Copying b p n at o q m to out) (l : 0 < m) where
+module _ (b : List ℕ) (facts : List Facts) (s : Sized b facts) (p n at : ℕ) (o : List ℕ) (q m to : ℕ) (out : List ℕ) (h : Copying b p n at o q m to out) (l : 0 < m) where
   pub copying-turn : TurnAt b facts q m h.row
   copying-turn =
       let w = next_row b facts s q m h.row l in
@@ -393,7 +393,7 @@ fit_parts n f e =
     let (p, q) = both _ _ s in
     (leb→le 2 (size f) (both _ _ p).0, q)
 
-module _ (b : List ℕ) (facts : List Facts) (s : Surveyed b facts) (i x : ℕ) (l : i < record_count b) where
+module _ (b : List ℕ) (facts : List Facts) (s : Sized b facts) (i x : ℕ) (l : i < record_count b) where
   sim : IsTable b
   sim = s.table
 
@@ -415,7 +415,7 @@ module _ (b : List ℕ) (facts : List Facts) (s : Surveyed b facts) (i x : ℕ) 
       let (past, within) = past-node b facts s i l h in
       let count = records-at b sim i in
       let all : records_in (trees_at b i) ≡ suc (records_in h.kids) + records_in h.later = ap records_in h.here in
-      let size : extent_at facts x ≡ records (second_of (head_of h.kids)) = sized b facts s x inside ∙ ap records stand in
+      let size : extent_at facts x ≡ records (second_of (head_of h.kids)) = s.each x inside ∙ ap records stand in
       let few : 2 + records_in (firsts h.kids) + records (second_of (head_of h.kids)) ≤ records_in h.kids = shared-records h.kids ps two in
       record {
         table = sim;

@@ -16,11 +16,11 @@ use Rattle.evaluate.specs.Evaluate.{zeros}
 use Rattle.simplify.specs.Steps.{Made, also, is_none, onward, step, steps}
 use Rattle.simplify.proofs.Laws.Keeps.{Kept}
 use Rattle.simplify.proofs.Laws.Stepping.{Steps, ends, goes, last, step-steps}
-use Rattle.subtrees.specs.Facts.{Surveyed, extent_at}
+use Rattle.subtrees.specs.Facts.{Sized, Surveyed, extent_at}
 use Rattle.subtrees.specs.declared.Facts.{Facts}
 use Rattle.searching.specs.declared.Spot.{Spot}
 use Rattle.subtrees.specs.Parts.{Simplifiable}
-use Rattle.subtrees.specs.Laws.Parts.{extent-some}
+use Rattle.subtrees.specs.Laws.Parts.{extent-some, sized}
 use Rattle.writing.specs.Records.{front}
 use Rattle.searching.specs.Found.{Found, Placed, Settled}
 use Rattle.searching.specs.Rewritten.{Rewritten}
@@ -169,13 +169,13 @@ survey-ready work n facts s l f =
     rw (part-to work n) (s.table, omega arith)
 
 -- before the first step every subtree ends behind record 0
-none-settled : (b : List ℕ) (facts : List Facts) → Surveyed b facts → Settled b facts 0
+pub none-settled : (b : List ℕ) (facts : List Facts) → Sized b facts → Settled b facts 0
 none-settled b facts x j l o = absurd (omega (arith, o, extent-some b facts x j l))
 
 pub stage_start : (work : List ℕ) (n long : ℕ) (facts : List Facts) → Simplifiable (take long work) → long ≤ length work → Surveyed (part long work) facts → Stage (take long work) n work long 0 facts 0
 stage_start work n long facts s l v =
     let known : Surveyed (take long work) facts = rw (part-to work long) at v in
-    record { going = going_start _ n s; room = l; known = known; settled = none-settled _ facts known }
+    record { going = going_start _ n s; room = l; known = known; settled = none-settled _ facts (sized _ facts known) }
 
 module _ {b₀ : List ℕ} {n : ℕ} {work : List ℕ} {long k : ℕ} {facts : List Facts} {at : ℕ} (s : Stage b₀ n work long k facts at) where
   long-is : length (take long work) ≡ long
