@@ -28,6 +28,11 @@ pub zero_is : (n : ℕ) → eqb n 0 ≡ leb n 0
 zero_is zero = refl
 zero_is (suc n) = ne_eqb (suc n) 0 (λ e. omega arith) ∙ sym (lt-leb (suc n) 0 (omega arith))
 
+-- a number that is 0 where a test fails
+pub zero-no : (t : Bool) (n : ℕ) {x : ℕ} → 0 < n → x ≡ cond t n 0 → x ≡ 0 → t ≡ false
+zero-no true n l e z = absurd (omega arith)
+zero-no false n l e z = refl
+
 -- an answer that there is only where a test holds
 pub none-no : {A : Type 0} (t : Bool) (n : A) → None ≡ cond t (Some n) None → t ≡ false
 none-no true n e = absurd (none-some _ e)

@@ -371,6 +371,12 @@ module _ (k : Kind) (rule : Node → Forest → Option Tree) (made : Node → Fo
   rule-unfit out e =
       wrote_none _ out (tested ∙ rw (none-no (same_kind stands.own.kind k and leb 2 (bares stands.kids)) _ (e ∙ two-is b s i l k)) refl)
 
+  pub rule-other : (r : Bool) (out : List ℕ) → r ≡ same_kind (first_node (drop (record_length * i) b)).kind k → not r ≡ true → Wrote (rule_at rule (trees_at b i)) None out
+  rule-other r out e h = rule-unfit out (two-other b s i l k refl (ap not e) h)
+
+  pub rule-few : (found : Bares) (out : List ℕ) → found ≡ bares_at (trees_at b i) → found.count < 2 → Wrote (rule_at rule (trees_at b i)) None out
+  rule-few found out e h = rule-unfit out (two-few b s i l k found e h)
+
   pub rule_fits : (found : Bares) → Some found ≡ two_bares k (trees_at b i) → let w = here-at b s i l in rule_at rule (trees_at b i) ≡ some (made w.own w.kids ▸ w.later)
   unfolding also when stands bares_at
   rule_fits found e =
@@ -390,7 +396,7 @@ pub asks-6 : Asks Sequence rule6 (λ n f. node n (leaf (total f) Unlimited ▸ o
 unfolding rule6
 asks-6 n f = refl
 
-all-parted : (b : List ℕ) (s : IsTable b) (i : ℕ) (l : i < record_count b) (found : Bares) → found ≡ bares_at (trees_at b i) → 2 ≤ found.count
+pub all-parted : (b : List ℕ) (s : IsTable b) (i : ℕ) (l : i < record_count b) (found : Bares) → found ≡ bares_at (trees_at b i) → 2 ≤ found.count
     → Parted b i (i + 1) found.count
 unfolding ◌⧺◌ records_in
 all-parted b s i l found e m =

@@ -6,7 +6,7 @@ use Rattle.std.proofs.Common.{◌∙◌, append_assoc, append-nil, arith, leb→
 use Rattle.std.proofs.Math.Option.{none, some}
 use Prim.Native.Nat.{ℕ, suc, ◌+◌, ◌*◌, ◌-◌, ◌<◌, ◌≤◌}
 use Rattle.std.proofs.Math.Dec.{T}
-use borrow.Author.Tests.{eq-eqb, le-leb, lt-leb, ltb-false, ltb-true, ne_eqb}
+use borrow.Author.Tests.{eq-eqb, le-leb, lt-leb, ltb-false, ltb-true, ne_eqb, not-false, not-true}
 use Rattle.booleans.specs.Laws.{T-is, and-false, and_is, both, is_T, join-and}
 use Rattle.booleans.specs.Tests.{◌and◌}
 use Rattle.evaluate.specs.Closed.{closed, is_unlimited}
@@ -91,6 +91,39 @@ no-pair r x t e n = rw (← e, n) refl
 pub pair_same : (r q : Bool) (x t u : Tree) → q ≡ is_pair t → q ≡ true → u ≡ second_of t → r ≡ same u x → r ≡ sharing x t
 unfolding sharing ◌and◌
 pair_same r q x t u e n w h = rw (← e, n, ← w) h
+
+-- ---- children one after another
+
+-- the trees from record p on are left to be looked at, of the children of the node at record i
+pub record Shared (b : List ℕ) (i x p left : ℕ) : Type 0 where
+  pub row : Row b p left
+  pub still : all_pairs (subtree b x) (children (subtree b i)) ≡ all_pairs (subtree b x) row.trees
+
+pub shared_start : (b : List ℕ) → IsTable b → (i x c : ℕ) → i < record_count b → c ≡ child_byte (drop (record_length * i) b) → Shared b i x (i + 1) c
+unfolding children
+shared_start b s i x c l e =
+    let h = here-at b s i l in
+    rw (e ∙ count_at b i h) (record { row = kids-row b s i h; still = ap (λ t. all_pairs (subtree b x) (children t)) (top-at b i h.here) })
+
+module _ (b : List ℕ) (facts : List Facts) (s : Sized b facts) (i x p left : ℕ) (h : Shared b i x p left) (l : 0 < left) where
+  pub shared-turn : Next b facts p left h.row
+  shared-turn = next_row b facts s p left h.row l
+
+  shared-split : all_pairs (subtree b x) (children (subtree b i)) ≡ (sharing (subtree b x) (subtree b p) and all_pairs (subtree b x) shared-turn.others.trees)
+  unfolding all_pairs sharing
+  shared-split = h.still ∙ ap (all_pairs (subtree b x)) shared-turn.are
+
+  pub shared-next : (r : Bool) → r ≡ sharing (subtree b x) (subtree b p) → not r ≡ false → Shared b i x (p + extent_at facts p) (left - 1)
+  unfolding ◌and◌
+  shared-next r e n = record { row = shared-turn.others; still = shared-split ∙ rw (← e, not-false r n) refl }
+
+  pub shared-not : (r : Bool) → r ≡ sharing (subtree b x) (subtree b p) → not r ≡ true → false ≡ all_pairs (subtree b x) (children (subtree b i))
+  unfolding ◌and◌
+  shared-not r e n = sym (shared-split ∙ rw (← e, not-true r n) refl)
+
+pub shared-all : (b : List ℕ) (i x p left : ℕ) → Shared b i x p left → left ≤ 0 → true ≡ all_pairs (subtree b x) (children (subtree b i))
+unfolding all_pairs
+shared-all b i x p left h l = sym (h.still ∙ rw (row-end h.row l) refl)
 
 -- ---- all children share, where none is found that does not
 
