@@ -9,6 +9,7 @@ ghost use Rattle.table.specs.Table.{encodes, record_bytes, record_count};
 ghost use Rattle.table.specs.Trees.{records_in};
 ghost use Rattle.writing.specs.Records.{Appended};
 ghost use Rattle.simplify.specs.Rules.{gives, is_zero, rule2, rule3, rule4, rule5, rule6, rule7};
+ghost use Rattle.subtrees.specs.Facts.{Surveyed};
 ghost use Rattle.subtrees.specs.Parts.{Simplifiable, subtree, trees_at};
 ghost use Rattle.rewrite.specs.Wrote.{Wrote, rule_at};
 ghost use Rattle.rules2to7.specs.Children.{Left, relimited};
@@ -163,6 +164,7 @@ fn settled_value(table: &[u8], i: usize) -> u64
 pub fn rule4_at(view: View, i: usize, out: &mut [u8]) -> Option<usize>
     requires inside { i < record_count view.table.now }
     requires room { length view.table.now ≤ length out.old }
+    requires surveyed { Surveyed view.table.now view.facts.now }
     requires simplifiable { Simplifiable view.table.now }
     ensures { Wrote (rule_at rule4 (trees_at view.entry.table.now i)) result out.new }
 {

@@ -91,6 +91,13 @@ extent_at facts j = (fact_at facts j).records
 abbrev pub Own : Tree → List Facts → ℕ → Type 0
 Own t facts k = fact_at facts k ≡ facts_of t
 
+-- the facts say how many records each subtree has, whatever else they say
+pub record Sized (b : List ℕ) (facts : List Facts) : Type 0 where
+  pub table : IsTable b
+  pub room : record_count b ≤ length facts
+  pub each : (j : ℕ) → j < record_count b → extent_at facts j ≡ records (subtree b j)
+
+-- each subtree's own facts
 pub record Surveyed (b : List ℕ) (facts : List Facts) : Type 0 where
   pub table : IsTable b
   pub room : record_count b ≤ length facts
@@ -105,6 +112,10 @@ pub record Known (b : List ℕ) (facts : List Facts) (i : ℕ) : Type 0 where
 -- before place i nothing changes
 abbrev pub Unchanged : ℕ → (facts facts' : List Facts) → Type 0
 Unchanged i facts facts' = (j : ℕ) → j < i → fact_at facts' j ≡ fact_at facts j
+
+-- n records' facts stand from place `to` on as they stood from place `from` on
+abbrev pub Moved : (from to n : ℕ) (facts facts' : List Facts) → Type 0
+Moved from to n facts facts' = (k : ℕ) → k < n → fact_at facts' (to + k) ≡ fact_at facts (from + k)
 
 -- so it is with each record before record i whose extent, as it stands there, ends at record `at` or before
 abbrev pub OwnBefore : (b : List ℕ) (facts : List Facts) (at i : ℕ) → Type 0

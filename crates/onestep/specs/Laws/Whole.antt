@@ -25,11 +25,11 @@ use Rattle.lists.specs.Pairs.{top as top_pair}
 use Rattle.lists.specs.Reading.{value_at}
 use Rattle.simplify.specs.Rules.{bare, leaf, rule1, when}
 use Rattle.simplify.specs.Steps.{also, inside, inside_in, or_else, step}
-use Rattle.subtrees.specs.Facts.{Own, Surveyed, extent_at, fact_at}
+use Rattle.subtrees.specs.Facts.{Own, Sized, extent_at, fact_at}
 use Rattle.subtrees.specs.declared.Facts.{Facts}
 use Rattle.subtrees.specs.Parts.{Simplifiable, subtree, trees_at}
 use Rattle.table.proofs.Laws.Tables.{count-is, length-is}
-use Rattle.subtrees.specs.Laws.Parts.{root-at, sized, top-at}
+use Rattle.subtrees.specs.Laws.Parts.{root-at, top-at}
 use Rattle.writing.specs.Records.{front, node_of}
 use Rattle.rewrite.specs.Wrote.{Wrote}
 use Rattle.searching.specs.Found.{Placed}
@@ -110,11 +110,11 @@ module _ (b : List ℕ) (s : Simplifiable b) where
   by-search spot out mid w v = rw (whole_row (decode b)) (rule1-not b _ spot out mid (rule1 (decode b)) w (rw (root-at b s.table) at v))
 
   -- rule 1 leaves nothing behind the one tree
-  pub placed-whole : (facts : List Facts) → Surveyed b facts → (r : ℕ) (out : List ℕ) → Wrote (also (λ u. u ▸ nil) (rule1 (decode b))) (Some r) out → Placed b 0 (0 + extent_at facts 0) r out
+  pub placed-whole : (facts : List Facts) → Sized b facts → (r : ℕ) (out : List ℕ) → Wrote (also (λ u. u ▸ nil) (rule1 (decode b))) (Some r) out → Placed b 0 (0 + extent_at facts 0) r out
   placed-whole facts x r out w = go (rule1 (decode b)) w
     where
       past : record_count b ≤ 0 + extent_at facts 0
-      past = omega (arith, sized b facts x 0 (some-record b s), ap records (whole b s), count-is b s.table)
+      past = omega (arith, x.each 0 (some-record b s), ap records (whole b s), count-is b s.table)
 
       nothing : drop (record_length * (0 + extent_at facts 0)) b ≡ []
       nothing = let long : length b ≤ record_length * (0 + extent_at facts 0) = omega (arith, past, length-is b s.table) in drop_of_length-le b long
