@@ -31,7 +31,7 @@ fn rule1_at(view: View, out: &mut [u8]) -> Option<usize>
     if !view.facts[0].symbol_free {
         return None;
     }
-    if rewrite::is_bare(view, 0) {
+    if rewrite::is_bare(table, 0) {
         return None;
     }
     let zeros = [0; 0];

@@ -50,10 +50,10 @@ module _ (b : List ℕ) (s : Simplifiable b) where
   pub some-record : 0 < record_count b
   some-record = omega (arith, count-is b s.table, some-records (decode b))
 
-  free : (facts : List Facts) → Own (subtree b 0) facts 0 → symbol_free (decode b) ≡ (fact_at facts 0).symbol_free
-  free facts m = ap symbol_free (sym whole) ∙ sym (ap (λ f. f.symbol_free) m)
+  free : (facts : List Facts) → (fact_at facts 0).symbol_free ≡ symbol_free (subtree b 0) → symbol_free (decode b) ≡ (fact_at facts 0).symbol_free
+  free facts m = ap symbol_free (sym whole) ∙ sym m
 
-  pub has-symbol : (facts : List Facts) (out : List ℕ) → Own (subtree b 0) facts 0 → (fact_at facts 0).symbol_free ≡ false → Wrote (also (λ u. u ▸ nil) (rule1 (decode b))) None out
+  pub has-symbol : (facts : List Facts) (out : List ℕ) → (fact_at facts 0).symbol_free ≡ symbol_free (subtree b 0) → (fact_at facts 0).symbol_free ≡ false → Wrote (also (λ u. u ▸ nil) (rule1 (decode b))) None out
   unfolding ◌and◌
   has-symbol facts out m n = unfit (decode b) out (rw (free facts m ∙ n) refl)
 
@@ -73,7 +73,7 @@ module _ (b : List ℕ) (s : Simplifiable b) where
       let is = shown-fits r a _ w (e.holds s.fits).fits in
       sym (first-top is.proper) ∙ ap top_pair is.pairs ∙ e.figure s.fits
 
-  pub block_written : (facts : List Facts) (out : List ℕ) (x : Bool) (v r : ℕ) → Own (subtree b 0) facts 0 → (fact_at facts 0).symbol_free ≡ true → x ≡ bare (subtree b 0) → x ≡ false → v ≡ figure zeros (decode b)
+  pub block_written : (facts : List Facts) (out : List ℕ) (x : Bool) (v r : ℕ) → (fact_at facts 0).symbol_free ≡ symbol_free (subtree b 0) → (fact_at facts 0).symbol_free ≡ true → x ≡ bare (subtree b 0) → x ≡ false → v ≡ figure zeros (decode b)
       → r ≡ 1 → front r out ≡ record_bytes (node_of (Block (Plain v)) Unlimited 0) 0 → Wrote (also (λ u. u ▸ nil) (rule1 (decode b))) (Some r) out
   unfolding rule1 when also Wrote ◌and◌ records_in records encode encodes leaf size
   block_written facts out x v r m z e y f n w =

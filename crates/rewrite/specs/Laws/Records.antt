@@ -33,6 +33,10 @@ pub zero-no : (t : Bool) (n : ℕ) {x : ℕ} → 0 < n → x ≡ cond t n 0 → 
 zero-no true n l e z = absurd (omega arith)
 zero-no false n l e z = refl
 
+pub number-yes : (t : Bool) (n : ℕ) {x : ℕ} → x ≡ cond t n 0 → (x ≡ 0 → ⊥) → (t ≡ true) × (x ≡ n)
+number-yes true n e z = (refl, e)
+number-yes false n e z = absurd (z e)
+
 -- an answer that there is only where a test holds
 pub none-no : {A : Type 0} (t : Bool) (n : A) → None ≡ cond t (Some n) None → t ≡ false
 none-no true n e = absurd (none-some _ e)

@@ -468,18 +468,15 @@ pub asks-7 : Asks Choice rule7 (λ n f. node n (at_first (largest f) f))
 unfolding rule7
 asks-7 n f = refl
 
-module _ (b : List ℕ) (s : IsTable b) (i : ℕ) (l : i < record_count b) (found : Bares) (d : Some found ≡ two_bares Choice (trees_at b i)) where
+module _ (b : List ℕ) (s : IsTable b) (i : ℕ) (l : i < record_count b) (found : Bares) (e : found ≡ bares_at (trees_at b i)) (m : 2 ≤ found.count) where
   abbrev stood : Here b i
   stood = here-at b s i l
 
-  counted : 2 ≤ found.count
-  counted = (two-found b s i l Choice found d).1
-
   found-here : (found.count ≡ bares stood.kids) × (found.total ≡ total stood.kids) × (found.largest ≡ largest stood.kids)
-  found-here = found-is b i found stood (two-found b s i l Choice found d).0
+  found-here = found-is b i found stood e
 
   from_first : FirstBare stood.kids
-  from_first = first-bare stood.kids (omega (arith, found-here.0, counted))
+  from_first = first-bare stood.kids (omega (arith, found-here.0))
 
   bare-place : child_at bare i (trees_at b i) ≡ Some (i + 1 + records_in from_first.first)
   unfolding child_at
@@ -487,23 +484,24 @@ module _ (b : List ℕ) (s : IsTable b) (i : ℕ) (l : i < record_count b) (foun
 
   -- there is a first one
   pub some-bare : None ≡ child_at bare i (trees_at b i) → ⊥
-  some-bare e = none-some _ (e ∙ bare-place)
+  some-bare n = none-some _ (n ∙ bare-place)
 
-  module _ (q : ℕ) (j : Some q ≡ child_at bare i (trees_at b i)) where
-    pub two-parted : Parted b i q found.count
-    two-parted = record {
-      own = stood.own;
-      first = from_first.first;
-      second = from_first.second;
-      later = stood.later;
-      here = stood.here ∙ ap (λ f. node stood.own f ▸ stood.later) from_first.split;
-      place = same_Some _ _ (j ∙ bare-place);
-      some = omega (arith, counted);
-      number = omega (arith, from_first.number, found-here.0);
-      fewer = from_first.fewer;
-    }
+  pub two-parted : (q : ℕ) → Some q ≡ child_at bare i (trees_at b i) → Parted b i q found.count
+  two-parted q j = record {
+    own = stood.own;
+    first = from_first.first;
+    second = from_first.second;
+    later = stood.later;
+    here = stood.here ∙ ap (λ f. node stood.own f ▸ stood.later) from_first.split;
+    place = same_Some _ _ (j ∙ bare-place);
+    some = omega arith;
+    number = omega (arith, from_first.number, found-here.0);
+    fewer = from_first.fewer;
+  }
 
-    pub rule7-wrote : (n : ℕ) (out : List ℕ) → ((p : Parted b i q found.count) → Wrote (some (merged found.largest p)) (Some n) out) → Wrote (rule_at rule7 (trees_at b i)) (Some n) out
-    unfolding two-parted
-    rule7-wrote n out w =
-        rw (rule_fits Choice rule7 _ asks-7 b s i l found d, ← found-here.2, from_first.put found.largest) (w two-parted)
+pub rule7-wrote : (b : List ℕ) (s : IsTable b) (i : ℕ) (l : i < record_count b) (found : Bares) → Some found ≡ two_bares Choice (trees_at b i) → (q : ℕ) → Some q ≡ child_at bare i (trees_at b i)
+    → (n : ℕ) (out : List ℕ) → ((p : Parted b i q found.count) → Wrote (some (merged found.largest p)) (Some n) out) → Wrote (rule_at rule7 (trees_at b i)) (Some n) out
+unfolding two-parted
+rule7-wrote b s i l found d q j n out w =
+    let (e, m) = two-found b s i l Choice found d in
+    rw (rule_fits Choice rule7 _ asks-7 b s i l found d, ← (found-here b s i l found e m).2, (from_first b s i l found e m).put found.largest) (w (two-parted b s i l found e m q j))

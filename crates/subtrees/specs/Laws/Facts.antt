@@ -15,9 +15,19 @@ use Rattle.evaluate.specs.Closed.{closed, closed_in, stays, symbol_free, symbol_
 use Rattle.evaluate.specs.Evaluate.{name, name_in, outward, seen}
 use Rattle.evaluate.proofs.Laws.Monotone.{name_in-le}
 use Rattle.subtrees.specs.Nodes.{AtMost, Block, Choice, Kind, Limit, Loop, Sequence, Unlimited}
-use Rattle.subtrees.specs.Facts.{below_of, child_in, facts_of, is_loop, no_child, outer, paired_reach, passed, reach, reach_in}
+use Rattle.subtrees.specs.Facts.{below_of, child_in, facts_of, is_loop, no_child, outer, paired_reach, passed, reach, reach_in, symbols}
 use Rattle.subtrees.specs.declared.Below.{Below}
 use Rattle.subtrees.specs.Laws.Forests.{Sound}
+
+-- ---- symbols
+
+pub free-is : (t : Tree) → eqb (symbols t) 0 ≡ symbol_free t
+unfolding symbols
+free-is t = go (symbol_free t)
+  where
+    go : (x : Bool) → eqb (cond x 0 1) 0 ≡ x
+    go true = refl
+    go false = refl
 
 -- ---- closed, by the outermost loop that a limit names
 

@@ -15,7 +15,7 @@ use Rattle.table.specs.Trees.{Forest, node, ◌▸◌, records, records_in}
 use Rattle.evaluate.specs.Closed.{is_plain, plain_kind, plain_limit, symbol_free, symbol_free_in, plain_most}
 use Rattle.evaluate.specs.Evaluate.{inner, name, name_in}
 use Rattle.subtrees.specs.Nodes.{AtMost, Block, Choice, Kind, Limit, Loop, Node, Number, Plain, Sequence, Symbol, Unlimited, Most}
-use Rattle.subtrees.specs.Facts.{Known, Moved, Outdated, Own, OwnBefore, Surveyed, Unchanged, below_at, below_of, child_in, extent_at, fact_at, facts_of, is_loop, limited_name, no_child, paired_reach, reach, reach_below, reach_in}
+use Rattle.subtrees.specs.Facts.{Known, Moved, Outdated, Own, OwnBefore, SameFacts, Surveyed, Unchanged, below_at, below_of, child_in, extent_at, fact_at, facts_of, is_loop, limited_name, no_child, paired_reach, reach, reach_below, reach_in}
 use Rattle.subtrees.specs.declared.Facts.{Facts}
 use Rattle.table.specs.Checking.{IsTable}
 use Rattle.subtrees.specs.Parts.{subtree, trees_at}
@@ -140,14 +140,20 @@ name_of (AtMost j m) k h = rw (ne_eqb j 0 (λ e. omega (arith, limit-byte j (bot
 pub put-apart : (facts : List Facts) (i : ℕ) (x : Facts) (j : ℕ) → (j ≡ i → ⊥) → fact_at (set facts i x) j ≡ fact_at facts j
 put-apart facts i x j o = get_or-set_other facts i j x _ o
 
+pub still : (facts : List Facts) (j : ℕ) → SameFacts facts j facts j
+still facts j = refl
+
+pub then_same : (e f g : List Facts) (j k l : ℕ) → SameFacts e j f k → SameFacts f k g l → SameFacts e j g l
+then_same e f g j k l p q = q ∙ p
+
 -- k records' facts were moved from place `from` to place `to`, and the others from there on are as they were
 pub record Moving (from to k : ℕ) (facts facts' : List Facts) : Type 0 where
   pub moved : Moved from to k facts facts'
   pub before : Unchanged to facts facts'
-  pub behind : (j : ℕ) → from + k ≤ j → fact_at facts' j ≡ fact_at facts j
+  pub behind : (j : ℕ) → from + k ≤ j → SameFacts facts j facts' j
 
 pub none-moved : (from to : ℕ) (facts : List Facts) → Moving from to 0 facts facts
-none-moved from to facts = record { moved = λ k l. absurd (omega (arith, l)); before = λ j l. refl; behind = λ j l. refl }
+none-moved from to facts = record { moved = λ k l. absurd (omega (arith, l)); before = λ j l. still facts j; behind = λ j l. still facts j }
 
 -- the facts at place i, by those at place j
 abbrev copy_facts : List Facts → (i j : ℕ) → List Facts

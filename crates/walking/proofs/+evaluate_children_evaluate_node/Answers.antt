@@ -45,7 +45,7 @@ pub evaluate_node-returns-in-Block : goal.evaluate_node-returns-in-Block
 evaluate_node-returns-in-Block t c =
     let a = c.args in
     block-shown (values_of a.values.now) a.depth a.table.now c.read_kind-kind.ensures c.read_limit.ensures c.if-depth-eq0.false c.if-table-lt-RECORD_LENGTH.false _ _ _ _ c.limit_in.ensures
-        c.in-Block.time c.in-Block.is c.block_in-below.ensures
+    c.in-Block.time c.in-Block.is c.block_in-below.ensures
 
 pub evaluate_node-limit_in-requires-2 : goal.evaluate_node-limit_in-requires-2
 evaluate_node-limit_in-requires-2 t c =
@@ -58,4 +58,4 @@ evaluate_node-returns t c =
     let a = c.args in
     let shows = rw (part-from a.table.now record_length) at c.evaluate_children-below.ensures in
     children-shown (values_of a.values.now) a.depth a.table.now c.read_kind-kind.ensures c.read_limit-2.ensures c.if-depth-eq0.false c.if-table-lt-RECORD_LENGTH.false _ _ _ _ c.limit_in-2.ensures
-        _ c.child_count-count.ensures.0 c.in_default.not-Block shows
+    _ c.child_count-count.ensures.0 c.in_default.not-Block shows
