@@ -21,7 +21,6 @@ pub const NO_BRANCH: usize = 255;
 
 // What evaluating finds of a tree, or of a node's children so far, beside its list, which stands in what was lent: the loop that the list names, how many
 // records (of at most 512), and which child of a choice holds the largest first member. Where question 10 says no, a step answers None, and nothing is found.
-// With eight bytes for the records, the gap before them was copied with each option, and the figure call took a fifth longer.
 #[derive(Clone, Copy)]
 pub struct Valued {
     pub records: usize,
@@ -267,7 +266,9 @@ pub fn take_child(
     join_in(kind, number, done, out, turned, list, spare)
 }
 
-// A node's record, and its own limit, which may add a pair to the list below, if what is below fits.
+// A node's record, and its own limit, which may add a pair to the list below, if what is below fits. Inlined, or what is found would go through memory once more
+// for each node.
+#[inline(always)]
 pub fn limit_in(
     limit: Limit,
     values: &[u64],
