@@ -71,9 +71,9 @@ module _ (v : Values) (k : Kind) (i : ℕ) (s c : Found) where
 
   -- t, with its list a, is what is left of it when it has gone round
   module _ (fits : c.fits ≡ true) where
-    pub next-unfit-round : gone_round v k c ≡ unfit → with_next v k i s c ≡ unfit
+    pub next-unfit-round : (gone_round v k c).fits ≡ false → with_next v k i s c ≡ unfit
     unfolding with_next
-    next-unfit-round e = then-fits c (λ c. and_then (gone_round v k c) (joined k i s)) fits ∙ then-unfit e (joined k i s)
+    next-unfit-round e = then-fits c (λ c. and_then (gone_round v k c) (joined k i s)) fits ∙ ap (λ t. cond t (joined k i s (gone_round v k c)) unfit) e
 
     pub next-joined : {t : Valued} {a : Listed} → Shows (Some t) a (gone_round v k c) → with_next v k i s c ≡ joined k i s (found_in t a)
     unfolding with_next

@@ -1,5 +1,5 @@
 -- What does not fit ends the walk; a child that fits and has gone round is in range for the join.
-use mathlib.Core.Path.{refl}
+use mathlib.Core.Path.{ap, refl}
 use native.Mathlib.Omega.{arith}
 use Rattle.evaluate.specs.Evaluate.{values_of}
 use Rattle.evaluate.specs.Shown.{found_in}
@@ -12,7 +12,7 @@ returns-in_err-child c = rw (c.from_residual.ensures, c.in_err-child.was) (next-
 
 pub returns-in_err-turned : goal.returns-in_err-turned
 returns-in_err-turned c =
-    rw (c.from_residual-in_err-turned.ensures, c.in_ok-child.was) (next-unfit-round _ _ _ _ _ refl c.in_err-turned.ensures)
+    rw (c.from_residual-in_err-turned.ensures, c.in_ok-child.was) (next-unfit-round _ _ _ _ _ refl (ap (λ r. r.fits) c.in_err-turned.ensures))
 
 pub join_in-requires : goal.join_in-requires
 join_in-requires c =

@@ -25,7 +25,7 @@ use Rattle.lists.specs.Pairs.{top as top_pair}
 use Rattle.lists.specs.Reading.{value_at}
 use Rattle.simplify.specs.Rules.{bare, leaf, rule1, when}
 use Rattle.simplify.specs.Steps.{also, inside, inside_in, or_else, step}
-use Rattle.subtrees.specs.Facts.{Own, Sized, extent_at, fact_at}
+use Rattle.subtrees.specs.Facts.{Sized, extent_at, fact_at}
 use Rattle.subtrees.specs.declared.Facts.{Facts}
 use Rattle.subtrees.specs.Parts.{Simplifiable, subtree, trees_at}
 use Rattle.table.proofs.Laws.Tables.{count-is, length-is}

@@ -1,7 +1,7 @@
 -- The pass over a table that finds the facts of every record, from the last to the first.
 use Rattle.std.specs.Prelude.{◌≡◌, Bool, true, ◌&&◌, List, ℕ, ◌+◌, ◌*◌, ◌-◌, ◌<◌, ◌≤◌, max, zero, suc, T, eqb, ltb, drop, set}
 use Rattle.std.proofs.Math.Path.{refl, ap, sym}
-use Rattle.std.proofs.Common.{subst, ◌∙◌, add-one, ltb-false, ltb-true, ne_eqb}
+use Rattle.std.proofs.Common.{cond, subst, ◌∙◌, add-one, ltb-false, ltb-true, ne_eqb}
 use Rattle.std.proofs.Math.Bool.{false}
 use native.Mathlib.Omega.{arith}
 use Rattle.std.proofs.Math.ListN.{length}
@@ -11,11 +11,11 @@ use Rattle.booleans.specs.Tests.{◌and◌}
 use Rattle.table.specs.Numbers.{most_records, record_length}
 use Rattle.table.specs.Table.{child_byte, first_node, flag, flagless, limit_num, loop_byte, record_bytes, record_count, value_num, most_flags}
 use Rattle.table.specs.Questions.{limit_in_range, listed}
-use Rattle.table.specs.Trees.{Forest, node, ◌▸◌, records, records_in}
+use Rattle.table.specs.Trees.{Forest, Tree, node, ◌▸◌, records, records_in}
 use Rattle.evaluate.specs.Closed.{is_plain, plain_kind, plain_limit, symbol_free, symbol_free_in, plain_most}
 use Rattle.evaluate.specs.Evaluate.{inner, name, name_in}
 use Rattle.subtrees.specs.Nodes.{AtMost, Block, Choice, Kind, Limit, Loop, Node, Number, Plain, Sequence, Symbol, Unlimited, Most}
-use Rattle.subtrees.specs.Facts.{Known, Moved, Outdated, Own, OwnBefore, SameFacts, Surveyed, Unchanged, below_at, below_of, child_in, extent_at, fact_at, facts_of, is_loop, limited_name, no_child, paired_reach, reach, reach_below, reach_in}
+use Rattle.subtrees.specs.Facts.{Known, Moved, Outdated, Own, OwnBefore, SameFacts, Surveyed, Unchanged, below_at, below_of, child_in, extent_at, fact_at, facts_of, is_loop, limited_name, no_child, paired_reach, reach, reach_below, reach_in, symbols, symbols_in}
 use Rattle.subtrees.specs.declared.Facts.{Facts}
 use Rattle.table.specs.Checking.{IsTable}
 use Rattle.subtrees.specs.Parts.{subtree, trees_at}
@@ -130,6 +130,15 @@ free-of : (n : Node) (f : Forest) → ((plain_kind n.kind and plain_limit n.limi
 unfolding symbol_free
 free-of n f = and_is (plain_kind n.kind and plain_limit n.limit) (symbol_free_in f)
 
+-- a symbol of the node, or below it
+symbols-of : (n : Node) (f : Forest) → cond (plain_kind n.kind and plain_limit n.limit) (symbols_in f) 1 ≡ symbols (node n f)
+unfolding symbols symbols_in symbol_free
+symbols-of n f = go (plain_kind n.kind and plain_limit n.limit) (symbol_free_in f)
+  where
+    go : (x y : Bool) → ◌≡◌ {A = ℕ} (cond x (cond y 0 1) 1) (cond (x and y) 0 1)
+    go true y = unfold ◌and◌ in refl
+    go false y = unfold ◌and◌ in refl
+
 name_of : (l : Limit) (k : ℕ) → T (limit_in_range l) → limited_name (loop_byte l) k ≡ inner l k
 unfolding loop_byte inner limit_in_range
 name_of Unlimited k h = refl
@@ -146,6 +155,10 @@ still facts j = refl
 pub then_same : (e f g : List Facts) (j k l : ℕ) → SameFacts e j f k → SameFacts f k g l → SameFacts e j g l
 then_same e f g j k l p q = q ∙ p
 
+-- a tree's facts are its own wherever they stand
+own-moved : (t : Tree) (facts facts' : List Facts) (j k : ℕ) → SameFacts facts j facts' k → Own t facts j → Own t facts' k
+own-moved t facts facts' j k s w = s ∙ w
+
 -- k records' facts were moved from place `from` to place `to`, and the others from there on are as they were
 pub record Moving (from to k : ℕ) (facts facts' : List Facts) : Type 0 where
   pub moved : Moved from to k facts facts'
@@ -158,6 +171,9 @@ none-moved from to facts = record { moved = λ k l. absurd (omega (arith, l)); b
 -- the facts at place i, by those at place j
 abbrev copy_facts : List Facts → (i j : ℕ) → List Facts
 copy_facts facts i j = set facts i (fact_at facts j)
+
+copy-there : (facts : List Facts) (i j : ℕ) → i < length facts → SameFacts facts j (copy_facts facts i j) i
+copy-there facts i j l = get_or-set_same facts i _ _ l
 
 pub one-moved : (from to k : ℕ) (facts facts' : List Facts) → to ≤ from → to + k < length facts' → Moving from to k facts facts'
     → Moving from to (k + 1) facts (copy_facts facts' (to + k) (from + k))
