@@ -13,6 +13,11 @@ use Rattle.evaluate.specs.Evaluator.{Found, and_then, evaluate_more, evaluate_no
 abbrev pub found_in : Valued → Listed → Found
 found_in r a = found (pairs_of a) r.named r.records r.branch
 
+-- the same of an answer that may be None, where question 10 says no
+abbrev pub answered_in : Option Valued → Listed → Found
+answered_in None a = unfit
+answered_in (Some r) a = found_in r a
+
 -- The answer, with the lent list a, says what e says. Where it is None, question 10 says no, and a may hold anything.
 abbrev pub Shows : Option Valued → Listed → Found → Type 0
 Shows None a e = e ≡ unfit

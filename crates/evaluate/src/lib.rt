@@ -1,14 +1,14 @@
 // The evaluator's steps (document 01, "Evaluation"), each on the list that is lent.
 #![tactic(auto)]
 
-ghost use Rattle.std.specs.Prelude.{◌≡◌, min, get_or};
+ghost use Rattle.std.specs.Prelude.{◌≡◌, IfSome, min, get_or};
 ghost use Rattle.table.specs.Numbers.{whole_run};
 ghost use Rattle.table.specs.Trees.{rest};
 ghost use Rattle.lists.specs.Pairs.{ever};
 ghost use Rattle.lists.specs.Reading.{Addable, Is, Mergeable, Proper, pairs_of};
 ghost use Rattle.evaluate.specs.Evaluate.{amount, later, no_branch, outward, values_of};
-ghost use Rattle.evaluate.specs.Evaluator.{checked, gone_round, join_pairs, joined, limited, looked, looped, next_holder, time_pairs, triangle_in};
-ghost use Rattle.evaluate.specs.Shown.{Limitable, Ready, Shows, found_in, with_next};
+ghost use Rattle.evaluate.specs.Evaluator.{and_then, checked, gone_round, join_pairs, joined, limited, looked, looped, next_holder, time_pairs, triangle_in};
+ghost use Rattle.evaluate.specs.Shown.{Limitable, Ready, Shows, answered_in, found_in, with_next};
 
 use lists::{List, MOST_PAIRS};
 use table::{
@@ -21,12 +21,11 @@ pub const NO_BRANCH: usize = 255;
 
 // What evaluating finds of a tree, or of a node's children so far, beside its list, which stands in what was lent: the loop that the list names, how many
 // records (of at most 512), and which child of a choice holds the largest first member. Where question 10 says no, a step answers None, and nothing is found.
-// With eight bytes for the records, the gap before them was copied with each option, and the figure call took a fifth longer.
 #[derive(Clone, Copy)]
 pub struct Valued {
-    pub named: u8,
-    pub records: u16,
+    pub records: usize,
     pub branch: usize,
+    pub named: u8,
 }
 
 // ---- Numbers
@@ -133,7 +132,7 @@ fn check_top(list: &List, found: Valued) -> Option<Valued>
 }
 
 // The list that repeats one value.
-fn repeat_in(value: u64, found: Valued, out: &mut List) -> Option<Valued>
+pub fn repeat_in(value: u64, found: Valued, out: &mut List) -> Option<Valued>
     ensures { Shows result out.new (checked (ever value) found.named found.records found.branch) }
 {
     out.repeat(value);
@@ -248,30 +247,38 @@ fn join_in(
     check_top(out, found)
 }
 
-// The children so far and the next one, child `number`.
+// The children so far and the next one, child `number`, if that fits.
 pub fn take_child(
     kind: Kind,
     values: &[u64],
     number: usize,
     done: Valued,
     out: &mut List,
-    child: Valued,
+    child: Option<Valued>,
     list: &mut List,
     spare: &mut List,
 ) -> Option<Valued>
     requires fact_1 { Ready done out.old }
-    requires fact_2 { Ready child list.old }
-    ensures { Shows result out.new (with_next (values_of values.now) kind number (found_in done out.old) (found_in child list.old)) }
+    requires fact_2 { IfSome child (λ child. Ready child list.old) }
+    ensures { Shows result out.new (with_next (values_of values.now) kind number (found_in done out.old) (answered_in child list.old)) }
 {
-    let turned = go_round(kind, values, child, list, spare)?;
+    let turned = go_round(kind, values, child?, list, spare)?;
     join_in(kind, number, done, out, turned, list, spare)
 }
 
-// A node's record, and its own limit, which may add a pair to the list below.
-pub fn limit_in(limit: Limit, values: &[u64], below: Valued, list: &mut List) -> Option<Valued>
-    requires { Limitable below list.old }
-    ensures { Shows result list.new (limited (values_of values.now) limit (found_in below list.old)) }
+// A node's record, and its own limit, which may add a pair to the list below, if what is below fits. Inlined, or what is found would go through memory once more
+// for each node.
+#[inline(always)]
+pub fn limit_in(
+    limit: Limit,
+    values: &[u64],
+    below: Option<Valued>,
+    list: &mut List,
+) -> Option<Valued>
+    requires { IfSome below (λ below. Limitable below list.old) }
+    ensures { Shows result list.new (and_then (answered_in below list.old) (limited (values_of values.now) limit)) }
 {
+    let below = below?;
     let found = Valued {
         records: below.records + 1,
         ..below

@@ -6,11 +6,10 @@ use Prim.Native.Nat.{◌*◌, ◌+◌, ◌-◌, ◌<◌, ◌^◌, ◌≤◌, suc
 use native.Mathlib.Nat.{zero-add}
 use native.Mathlib.Numerals.{add-one}
 use native.Mathlib.Omega.{arith}
-use lib.Dec.{eqb, ltb}
-use lib.ListN.{get_or, length, set}
+use lib.Dec.{eqb, leb, ltb}
+use lib.ListN.{length, set}
 use lib.Seq.{get_or-set_other}
-use Rattle.std.specs.List.{CopiedTo, SameBelow}
-use borrow.Author.Tests.{eqb-false, eqb-true, lt-leb, ltb-false, ltb-true}
+use borrow.Author.Tests.{eqb-false, eqb-true, leb-false, leb-true, lt-leb, ltb-false, ltb-true}
 use Rattle.lists.specs.declared.List.{List as Listed}
 use Rattle.lists.specs.Pairs.{Canonical, Pairs, ever, places, run, top, width}
 use Rattle.lists.specs.Operations.{add_pairs, lead, merge_pairs, skip}
@@ -153,26 +152,71 @@ raise-last {a} {v} {ps} {k} {x = x} q e f d n =
 
 -- ---- a pair inserted
 
--- the pairs from k on are copied one place further, and pair k is stored over
-pub inserted : {old : List ℕ} (new : List ℕ) {len k v c : ℕ} → k < len → len < most_pairs → length new ≡ 2 * most_pairs
-    → CopiedTo old new (2 * k) (2 * k + 2) (2 * len - 2 * k) → SameBelow old new (2 * k + 2) → Inserted old (stored new k v c) len k v c
-unfolding value_at count_at
-inserted {old} new {len} {k} {v} {c} h r l f g =
-    let m : k < most_pairs = omega arith in
-    record {
-      long = length-stored new k v c ∙ l;
-      value = value-stored new k v c m l;
-      count = count-stored new k v c m l;
-      values-below = λ i b. value-below new k v c i b ∙ g (2 * i) 0 (omega arith);
-      counts-below = λ i b. count-below new k v c i b ∙ g (2 * i + 1) 0 (omega arith);
-      values-above = λ i a b. value-above new k v c (suc i) (omega arith) ∙ from (2 * suc i) (2 * i) (omega arith) (omega arith) (omega arith);
-      counts-above = λ i a b. count-above new k v c (suc i) (omega arith) ∙ from (2 * suc i + 1) (2 * i + 1) (omega arith) (omega arith) (omega arith);
-    }
+-- the pairs from j on stand one place further
+pub record Inserting (old : List ℕ) (len k : ℕ) (ps : List ℕ) (j : ℕ) : Type 0 where
+  pub low : k ≤ j
+  pub high : j ≤ len
+  pub room : len < most_pairs
+  pub long : length ps ≡ 2 * most_pairs
+  pub values-below : (i : ℕ) → i < j → value_at ps i ≡ value_at old i
+  pub counts-below : (i : ℕ) → i < j → count_at ps i ≡ count_at old i
+  pub values-above : (i : ℕ) → j ≤ i → i < len → value_at ps (suc i) ≡ value_at old i
+  pub counts-above : (i : ℕ) → j ≤ i → i < len → count_at ps (suc i) ≡ count_at old i
+
+pub insert-start : {old : List ℕ} {len k : ℕ} → length old ≡ 2 * most_pairs → k < len → len < most_pairs → Inserting old len k old len
+insert-start l h r = record {
+  low = omega arith;
+  high = omega arith;
+  room = r;
+  long = l;
+  values-below = λ i h. refl;
+  counts-below = λ i h. refl;
+  values-above = λ i h g. absurd (omega arith);
+  counts-above = λ i h g. absurd (omega arith);
+}
+
+-- what holds at j - 1 and from j on holds from j - 1 on
+from_less : (P : ℕ → Type 0) (j : ℕ) → P (j - 1) → ((i : ℕ) → j ≤ i → P i) → (i : ℕ) → j - 1 ≤ i → P i
+from_less P j here all i l = go (leb j i) refl
   where
-    from : (i j : ℕ) → i ≡ j + 2 → 2 * k ≤ j → j < 2 * len → get_or new i 0 ≡ get_or old j 0
-    from i j e a b =
-        let z : 2 * k + (i - (2 * k + 2)) ≡ j = omega arith in
-        rw z at (f i 0 (omega arith) (omega arith))
+    go : (b : Bool) → leb j i ≡ b → P i
+    go true e = all i (leb-true j i e)
+    go false e =
+        let z : j - 1 ≡ i = omega (arith, leb-false j i e) in
+        subst P z here
+
+pub insert-turn : {old : List ℕ} {len k : ℕ} {ps : List ℕ} {j x y : ℕ} → Inserting old len k ps j → k < j → x ≡ value_at ps (j - 1) → y ≡ count_at ps (j - 1)
+    → Inserting old len k (stored ps j x y) (j - 1)
+insert-turn {old} {len} {k} {ps} {j} {x} {y} t h d e =
+    let m : j < most_pairs = omega (arith, t.high, t.room) in
+    let z : suc (j - 1) ≡ j = omega arith in
+    record {
+      low = omega arith;
+      high = omega (arith, t.high);
+      room = t.room;
+      long = length-stored ps j x y ∙ t.long;
+      values-below = λ i l. value-below ps j x y i (omega arith) ∙ t.values-below i (omega arith);
+      counts-below = λ i l. count-below ps j x y i (omega arith) ∙ t.counts-below i (omega arith);
+      values-above = from_less (λ i. i < len → value_at (stored ps j x y) (suc i) ≡ value_at old i) j
+          (λ g. ap (value_at (stored ps j x y)) z ∙ value-stored ps j x y m t.long ∙ d ∙ t.values-below (j - 1) (omega arith))
+          (λ i l g. value-above ps j x y (suc i) (omega arith) ∙ t.values-above i l g);
+      counts-above = from_less (λ i. i < len → count_at (stored ps j x y) (suc i) ≡ count_at old i) j
+          (λ g. ap (count_at (stored ps j x y)) z ∙ count-stored ps j x y m t.long ∙ e ∙ t.counts-below (j - 1) (omega arith))
+          (λ i l g. count-above ps j x y (suc i) (omega arith) ∙ t.counts-above i l g);
+    }
+
+pub insert-last : {old : List ℕ} {len k : ℕ} {ps : List ℕ} {j v c : ℕ} → Inserting old len k ps j → j ≤ k → Inserted old (stored ps k v c) len k v c
+insert-last {old} {len} {k} {ps} {j} {v} {c} t h =
+    let m : k < most_pairs = omega (arith, t.low, t.high, t.room) in
+    record {
+      long = length-stored ps k v c ∙ t.long;
+      value = value-stored ps k v c m t.long;
+      count = count-stored ps k v c m t.long;
+      values-below = λ i l. value-below ps k v c i l ∙ t.values-below i (omega (arith, t.low));
+      counts-below = λ i l. count-below ps k v c i l ∙ t.counts-below i (omega (arith, t.low));
+      values-above = λ i l g. value-above ps k v c (suc i) (omega arith) ∙ t.values-above i (omega arith) g;
+      counts-above = λ i l g. count-above ps k v c (suc i) (omega arith) ∙ t.counts-above i (omega arith) g;
+    }
 
 then-shift : (old new : List ℕ) (len i n : ℕ) (r : Pairs) → i + n ≤ len → ((j : ℕ) → i ≤ j → j < len → value_at new (suc j) ≡ value_at old j) → ((j : ℕ) → i ≤ j → j < len → count_at new (suc j) ≡ count_at old j)
     → runs_then new (suc i) n r ≡ runs_then old i n r

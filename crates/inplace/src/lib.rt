@@ -60,8 +60,11 @@ fn insert_in(list: &mut List, k: usize, v: u64, c: u64)
     ensures fact_1 { Inserted list.old.pairs list.new.pairs list.old.len k v c }
     ensures fact_2 { list.new.len ≡ list.old.len + 1 }
 {
-    let used = 2 * list.len;
-    list.pairs.copy_within(2 * k..used, 2 * k + 2);
+    for j in (k..list.len).rev() {
+        let x = list.value_at(j);
+        let y = list.count_at(j);
+        list.put_pair(j + 1, x, y);
+    }
     list.put_pair(k, v, c);
     list.len += 1;
 }

@@ -11,7 +11,7 @@ use lib.ListN.{length}
 use borrow.Author.Tests.{le-leb, le-ltb, lt-leb, ltb-false, ne_eqb}
 use Rattle.lists.specs.declared.List.{List as Listed}
 use Rattle.lists.specs.Pairs.{Canonical, Pairs, ever, run, top}
-use Rattle.lists.specs.Operations.{cap_pairs, capped, count, some}
+use Rattle.lists.specs.Operations.{cap_pairs, capped, count, lead, some}
 use Rattle.lists.specs.Laws.Cap.{cap-facts}
 use Rattle.lists.specs.Laws.Group.{some-le-one}
 use Rattle.lists.specs.Reading.{Cappable, Is, count_at, ended, lasts_of, most_pairs, pairs_of, passes_of, runs_then, stored, value_at}
@@ -51,6 +51,19 @@ pub lasts-le-one : (v m : ℕ) → lasts_of v m ≤ 1
 unfolding lasts_of
 lasts-le-one zero m = omega arith
 lasts-le-one (suc v) m = some-le-one m
+
+-- ---- a limit of 0
+
+capped-none : (v m : ℕ) → m ≡ 0 → capped v m ≡ ever 0
+unfolding capped lead
+capped-none zero m e = refl
+capped-none (suc v) zero e = refl
+capped-none (suc v) (suc m) e = absurd (omega arith)
+
+pub cap-none : (m : ℕ) (r : Pairs) → m ≡ 0 → cap_pairs m r ≡ ever 0
+unfolding cap_pairs
+cap-none m (ever v) e = capped-none v m e
+cap-none m (run v c r) e = rw (le-leb m c (omega arith)) (capped-none v m e)
 
 -- ---- the loop
 

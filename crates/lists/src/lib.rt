@@ -123,13 +123,15 @@ impl List {
         self.len = k + 1;
     }
 
-    // Becomes the same list as another: as much is copied as that has pairs.
+    // Becomes the same list as another: as much is copied as that has pairs. Pair by pair: `copy_from_slice` is compiled to a call of memmove here, which is
+    // more than a caller from C is asked for.
     pub fn copy_from(&mut self, other: &List)
         requires { Proper other.now }
         ensures { Is self.new (pairs_of other.now) }
     {
-        let used = 2 * other.len;
-        self.pairs[..used].copy_from_slice(&other.pairs[..used]);
+        for k in 0..other.len {
+            self.put_pair(k, other.value_at(k), other.count_at(k));
+        }
         self.len = other.len;
     }
 }

@@ -16,6 +16,7 @@ pub const MARK_LENGTH: usize = 128;
 // ---- Marks written
 
 // Has a node's limit the symbol, and not its triangular number?
+#[tactic(auto, unfolding(table::specs::Table::limit_num, crate::specs::Marks::most_has))]
 fn limit_has(limit: Limit, symbol: u64) -> bool
     ensures { result ≡ most_has symbol (limit_num limit) }
 {

@@ -22,6 +22,7 @@ use table::{Kind, Limit, Node, Number, RECORD_LENGTH};
 
 // 1. A symbol-free table becomes one unlimited block of its figure, unless it is that already.
 fn rule1_at(view: View, out: &mut [u8]) -> Option<usize>
+    requires surveyed { Surveyed view.table.now view.facts.now }
     requires simplifiable { Simplifiable view.table.now }
     requires room { length view.table.now ≤ length out.old }
     ensures { Wrote (also (λ u. u ▸ nil) (rule1 (decode view.entry.table.now))) result out.new }
@@ -30,7 +31,7 @@ fn rule1_at(view: View, out: &mut [u8]) -> Option<usize>
     if !view.facts[0].symbol_free {
         return None;
     }
-    if rewrite::is_bare(view, 0) {
+    if rewrite::is_bare(table, 0) {
         return None;
     }
     let zeros = [0; 0];
@@ -48,6 +49,7 @@ fn rule1_at(view: View, out: &mut [u8]) -> Option<usize>
 // A step: rule 1 for the whole table, or the earliest record where a rule fits and there the lowest. `at` is the record from which on the last step changed
 // the table, 0 before the first.
 pub fn step_onto(view: View, at: usize, out: &mut [u8]) -> Option<Spot>
+    requires surveyed { Surveyed view.table.now view.facts.now }
     requires simplifiable { Simplifiable view.table.now }
     requires settled { Settled view.table.now view.facts.now at }
     requires room { length view.table.now ≤ length out.old }

@@ -4,12 +4,12 @@
 ghost use Rattle.std.specs.Prelude.{◌≡◌, ◌<◌, ◌≤◌, IfSome};
 ghost use Rattle.table.specs.Numbers.{most_time};
 ghost use Rattle.table.specs.Table.{record_count};
+ghost use Rattle.table.specs.Checking.{IsTable};
 ghost use Rattle.evaluate.specs.Closed.{is_unlimited};
 ghost use Rattle.simplify.specs.Rules.{bare, is_block, is_sum};
 ghost use Rattle.subtrees.specs.Parts.{subtree};
 ghost use Rattle.rewrite.specs.Bare.{bare_time, plain_time};
 
-use subtrees::View;
 use table::{Kind, Limit, Number};
 
 #[tactic(auto, unfolding(simplify::specs::Rules::is_block))]
@@ -47,12 +47,13 @@ fn plain_time(kind: Kind) -> Option<u64>
 }
 
 // The time of the tree at record p, where that is an unlimited plain block.
-pub fn bare_time(view: View, p: usize) -> Option<u64>
-    requires { p < record_count view.table.now }
-    ensures value { result ≡ bare_time (subtree view.entry.table.now p) }
+pub fn bare_time(table: &[u8], p: usize) -> Option<u64>
+    requires fact_1 { IsTable table.now }
+    requires fact_2 { p < record_count table.now }
+    ensures value { result ≡ bare_time (subtree table.now p) }
     ensures low { IfSome result (λ x. x ≤ most_time) }
 {
-    let node = table::node_at(view.table, p);
+    let node = table::node_at(table, p);
     if !is_unlimited(node.limit) {
         return None;
     }
@@ -60,9 +61,10 @@ pub fn bare_time(view: View, p: usize) -> Option<u64>
 }
 
 // Is it one?
-pub fn is_bare(view: View, p: usize) -> bool
-    requires { p < record_count view.table.now }
-    ensures { result ≡ bare (subtree view.entry.table.now p) }
+pub fn is_bare(table: &[u8], p: usize) -> bool
+    requires fact_1 { IsTable table.now }
+    requires fact_2 { p < record_count table.now }
+    ensures { result ≡ bare (subtree table.now p) }
 {
-    bare_time(view, p).is_some()
+    bare_time(table, p).is_some()
 }

@@ -9,6 +9,7 @@ ghost use Rattle.table.specs.Table.{encodes, record_bytes, record_count};
 ghost use Rattle.table.specs.Trees.{records_in};
 ghost use Rattle.writing.specs.Records.{Appended};
 ghost use Rattle.simplify.specs.Rules.{gives, is_zero, rule2, rule3, rule4, rule5, rule6, rule7};
+ghost use Rattle.subtrees.specs.Facts.{Surveyed};
 ghost use Rattle.subtrees.specs.Parts.{Simplifiable, subtree, trees_at};
 ghost use Rattle.rewrite.specs.Wrote.{Wrote, rule_at};
 ghost use Rattle.rules2to7.specs.Children.{Left, relimited};
@@ -47,7 +48,7 @@ fn is_zero(view: View, p: usize) -> bool
     requires { p < record_count view.table.now }
     ensures { result ≡ is_zero (subtree view.entry.table.now p) }
 {
-    match rewrite::bare_time(view, p) {
+    match rewrite::bare_time(view.table, p) {
         Some(time) => time == 0,
         None => false,
     }
@@ -163,6 +164,7 @@ fn settled_value(table: &[u8], i: usize) -> u64
 pub fn rule4_at(view: View, i: usize, out: &mut [u8]) -> Option<usize>
     requires inside { i < record_count view.table.now }
     requires room { length view.table.now ≤ length out.old }
+    requires surveyed { Surveyed view.table.now view.facts.now }
     requires simplifiable { Simplifiable view.table.now }
     ensures { Wrote (rule_at rule4 (trees_at view.entry.table.now i)) result out.new }
 {
@@ -225,7 +227,7 @@ fn with_child(found: Bares, view: View, p: usize) -> Bares
     requires few { (found.count < p) × (found.total ≤ most_time * found.count) }
     ensures { (result ≡ with_child found (subtree view.entry.table.now p)) × (result.count ≤ p) × (result.total ≤ most_time * result.count) }
 {
-    let Some(time) = rewrite::bare_time(view, p) else {
+    let Some(time) = rewrite::bare_time(view.table, p) else {
         return found;
     };
     Bares {
@@ -275,7 +277,7 @@ fn kept(view: View, p: usize) -> usize
     requires { p < record_count view.table.now }
     ensures { result ≡ kept_records (subtree view.entry.table.now p) }
 {
-    if rewrite::is_bare(view, p) {
+    if rewrite::is_bare(view.table, p) {
         return 0;
     }
     view.facts[p].records
@@ -339,6 +341,6 @@ pub fn rule7_at(view: View, i: usize, out: &mut [u8]) -> Option<usize>
     ensures { Wrote (rule_at rule7 (trees_at view.entry.table.now i)) result out.new }
 {
     let found = two_bares_in(view, i, Kind::Choice)?;
-    let first = view.first_child(i, |p| rewrite::is_bare(view, p))?;
+    let first = view.first_child(i, |p| rewrite::is_bare(view.table, p))?;
     Some(merge_bares(view, i, first, found.largest, found.count, out))
 }

@@ -8,6 +8,7 @@ ghost use Rattle.table.specs.Table.{record_count};
 ghost use Rattle.writing.specs.Records.{front};
 ghost use Rattle.simplify.specs.Rules.{all_pairs, children, is_pair, rule8, rule9};
 ghost use Rattle.simplify.specs.Same.{same};
+ghost use Rattle.subtrees.specs.Facts.{Surveyed};
 ghost use Rattle.subtrees.specs.Parts.{subtree, trees_at};
 ghost use Rattle.rewrite.specs.Wrote.{Wrote, rule_at};
 ghost use Rattle.rules8and9.specs.Sharing.{PairsAt, RoomFor, RowAppended, fields_at, firsts_at, idle, records_from, same_bytes, same_records, shared_at, sharing, top_bytes};
@@ -96,7 +97,8 @@ fn all_share(view: View, i: usize, second: usize) -> bool
 
 // The record of the second child that the children of the node at record i share, where rule 8 fits.
 fn shared_child(view: View, i: usize) -> Option<usize>
-    requires { i < record_count view.table.now }
+    requires inside { i < record_count view.table.now }
+    requires surveyed { Surveyed view.table.now view.facts.now }
     ensures { result ≡ shared_at i (trees_at view.entry.table.now i) }
 {
     let node = table::node_at(view.table, i);
@@ -163,6 +165,7 @@ fn put_tops(view: View, i: usize, out: &mut [u8]) -> usize
 pub fn rule8_at(view: View, i: usize, out: &mut [u8]) -> Option<usize>
     requires inside { i < record_count view.table.now }
     requires room { length view.table.now ≤ length out.old }
+    requires surveyed { Surveyed view.table.now view.facts.now }
     ensures { Wrote (rule_at rule8 (trees_at view.entry.table.now i)) result out.new }
 {
     let table = view.table;
@@ -190,6 +193,7 @@ fn is_idle(view: View, p: usize) -> bool
 pub fn rule9_at(view: View, i: usize, out: &mut [u8]) -> Option<usize>
     requires inside { i < record_count view.table.now }
     requires room { length view.table.now ≤ length out.old }
+    requires surveyed { Surveyed view.table.now view.facts.now }
     ensures { Wrote (rule_at rule9 (trees_at view.entry.table.now i)) result out.new }
 {
     if !is_idle(view, i) {

@@ -4,6 +4,7 @@
 ghost use Rattle.std.specs.Prelude.{◌<◌, ◌≤◌, length};
 ghost use Rattle.table.specs.Table.{record_count};
 ghost use Rattle.simplify.specs.Steps.{inside_in, rule};
+ghost use Rattle.subtrees.specs.Facts.{Surveyed};
 ghost use Rattle.subtrees.specs.Parts.{Simplifiable, trees_at};
 ghost use Rattle.rewrite.specs.Wrote.{Wrote, rule_at};
 ghost use Rattle.searching.specs.Found.{Found, Settled};
@@ -24,6 +25,7 @@ pub struct Spot {
 fn rule_at(view: View, i: usize, out: &mut [u8]) -> Option<usize>
     requires inside { i < record_count view.table.now }
     requires room { length view.table.now ≤ length out.old }
+    requires surveyed { Surveyed view.table.now view.facts.now }
     requires simplifiable { Simplifiable view.table.now }
     ensures { Wrote (rule_at rule (trees_at view.entry.table.now i)) result out.new }
 {
@@ -46,6 +48,7 @@ fn rule_at(view: View, i: usize, out: &mut [u8]) -> Option<usize>
 fn later_rule_at(view: View, i: usize, out: &mut [u8]) -> Option<usize>
     requires inside { i < record_count view.table.now }
     requires room { length view.table.now ≤ length out.old }
+    requires surveyed { Surveyed view.table.now view.facts.now }
     ensures { Wrote (rule_at later_rule (trees_at view.entry.table.now i)) result out.new }
 {
     if let Some(len) = rules2to7::rule5_at(view, i, out) {
@@ -67,6 +70,7 @@ fn later_rule_at(view: View, i: usize, out: &mut [u8]) -> Option<usize>
 // passed over, so none is before the first step, where it is 0.
 pub fn find(view: View, at: usize, out: &mut [u8]) -> Option<Spot>
     requires room { length view.table.now ≤ length out.old }
+    requires surveyed { Surveyed view.table.now view.facts.now }
     requires simplifiable { Simplifiable view.table.now }
     requires settled { Settled view.table.now view.facts.now at }
     ensures rewritten { Rewritten (inside_in (trees_at view.entry.table.now 0)) view.entry.table.now result out.new }

@@ -40,6 +40,13 @@ unfoldable mutual
 unfoldable pub reach_below : Tree → ℕ
 reach_below (node n f) = reach_in n.kind f
 
+-- 1 where there is a symbol, else 0
+unfoldable pub symbols : Tree → ℕ
+symbols t = cond (symbol_free t) 0 1
+
+unfoldable pub symbols_in : Forest → ℕ
+symbols_in f = cond (symbol_free_in f) 0 1
+
 -- ---- what children come to
 
 -- a loop sees its body, the first child, from outside
@@ -91,6 +98,13 @@ extent_at facts j = (fact_at facts j).records
 abbrev pub Own : Tree → List Facts → ℕ → Type 0
 Own t facts k = fact_at facts k ≡ facts_of t
 
+-- the facts say how many records each subtree has, whatever else they say
+pub record Sized (b : List ℕ) (facts : List Facts) : Type 0 where
+  pub table : IsTable b
+  pub room : record_count b ≤ length facts
+  pub each : (j : ℕ) → j < record_count b → extent_at facts j ≡ records (subtree b j)
+
+-- each subtree's own facts
 pub record Surveyed (b : List ℕ) (facts : List Facts) : Type 0 where
   pub table : IsTable b
   pub room : record_count b ≤ length facts
@@ -102,9 +116,17 @@ pub record Known (b : List ℕ) (facts : List Facts) (i : ℕ) : Type 0 where
 
 -- ---- the facts kept while a table changes
 
+-- at place j of the one and place k of the other the same facts stand
+abbrev pub SameFacts : (facts : List Facts) (j : ℕ) (facts' : List Facts) (k : ℕ) → Type 0
+SameFacts facts j facts' k = fact_at facts' k ≡ fact_at facts j
+
 -- before place i nothing changes
 abbrev pub Unchanged : ℕ → (facts facts' : List Facts) → Type 0
-Unchanged i facts facts' = (j : ℕ) → j < i → fact_at facts' j ≡ fact_at facts j
+Unchanged i facts facts' = (j : ℕ) → j < i → SameFacts facts j facts' j
+
+-- n records' facts stand from place `to` on as they stood from place `from` on
+abbrev pub Moved : (from to n : ℕ) (facts facts' : List Facts) → Type 0
+Moved from to n facts facts' = (k : ℕ) → k < n → SameFacts facts (from + k) facts' (to + k)
 
 -- so it is with each record before record i whose extent, as it stands there, ends at record `at` or before
 abbrev pub OwnBefore : (b : List ℕ) (facts : List Facts) (at i : ℕ) → Type 0

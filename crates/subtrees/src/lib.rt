@@ -7,7 +7,7 @@ ghost use Rattle.table.specs.Table.{record_count};
 ghost use Rattle.table.specs.Checking.{IsTable};
 ghost use Rattle.table.specs.Trees.{Tree};
 ghost use Rattle.subtrees.specs.Parts.{trees_at};
-ghost use Rattle.subtrees.specs.Facts.{Known, Outdated, OwnBefore, Surveyed, Unchanged, below_at, child_in, is_loop, limited_name, outer, paired_reach};
+ghost use Rattle.subtrees.specs.Facts.{Known, Moved, Outdated, OwnBefore, Sized, Surveyed, Unchanged, below_at, child_in, is_loop, limited_name, outer, paired_reach};
 ghost use Rattle.subtrees.specs.Children.{Tells, child_at};
 
 use table::{Kind, RECORD_LENGTH, WHOLE_RUN};
@@ -35,12 +35,13 @@ impl Facts {
     };
 }
 
-// A table and the facts of all its records, as the rules read them.
+// A table and the facts of its records, as the rules read them. That the facts say how many records each subtree has is known of every view; a function that
+// reads more of them asks for it.
 #[derive(Clone, Copy)]
 pub struct View<'a> {
     pub table: &'a [u8],
     pub facts: &'a [Facts],
-    pub ghost surveyed: { Surveyed table.now facts.now },
+    pub ghost sized: { Sized table.now facts.now },
 }
 
 // What a node's children come to: their records, whether no symbol stands in them, the innermost loop that a child's list names, and the outermost that a
@@ -215,6 +216,18 @@ pub fn survey(table: &[u8], facts: &mut [Facts])
 
 // ---- Records of a table that changed
 
+// Moves the facts of n records from place `from` on to place `to` and on, which is not behind it. No `copy_within`: it may be compiled to the C library's
+// `memmove`.
+fn move_facts(from: usize, to: usize, n: usize, facts: &mut [Facts])
+    requires { (to ≤ from) × (from + n ≤ length facts.old) }
+    ensures moved { Moved from to n facts.old facts.new }
+    ensures unchanged { Unchanged to facts.old facts.new }
+{
+    for k in 0..n {
+        facts[to + k] = facts[from + k];
+    }
+}
+
 // Keeps the facts of the nodes around record `at`: where what stands as a record's extent reaches no further, its facts are still right.
 fn mark_around(table: &[u8], at: usize, facts: &mut [Facts])
     requires table_1 { IsTable table.now }
@@ -239,7 +252,7 @@ pub fn resurvey(table: &[u8], at: usize, end: usize, rest: usize, facts: &mut [F
     ensures { Surveyed table.now facts.new }
 {
     let first = table.len() / RECORD_LENGTH - rest;
-    facts.copy_within(end..end + rest, first);
+    move_facts(end, first, rest, facts);
     mark_records(table, at, first, facts);
     mark_around(table, at, facts);
 }

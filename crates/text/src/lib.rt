@@ -2,6 +2,7 @@
 #![tactic(auto)]
 
 ghost use Rattle.std.specs.Prelude.{◌≡◌, ℕ, List, [], ◌++◌, ◌+◌, ◌≤◌, length, take};
+ghost use Rattle.io.specs.Counts.{IsPrefixLen};
 ghost use Rattle.text.specs.Texts.{Line, Numbered, TwoNumbers, longest_line, most_digits};
 
 use std::io::Error;
@@ -9,6 +10,74 @@ use std::marker::Model;
 
 // The most digits that a number has.
 pub const MOST_DIGITS: usize = 20;
+
+// ---- Text in a lent buffer
+
+// Puts a word after the buffer's first bytes, which are text already; answers the text's length. Each of these functions puts its text so.
+pub fn put_word(out: &mut [u8], at: usize, word: &[u8]) -> usize
+    requires { at + length word.now ≤ length out.old }
+    ensures prefix_len { IsPrefixLen result out.new }
+    ensures value { result ≡ at + length word.now }
+    ensures out_after { take result out.new ≡ take at out.old ++ word.now }
+{
+    let n = word.len();
+    writing::write_front(word, n, &mut out[at..]);
+    at + n
+}
+
+// Puts a number's decimal digits there.
+pub fn put_number(out: &mut [u8], at: usize, number: u64) -> usize
+    requires { at + most_digits ≤ length out.old }
+    ensures prefix_len { IsPrefixLen result out.new }
+    ensures upper_bound { result ≤ at + most_digits }
+    ensures numbered { Numbered (take at out.old) number (take result out.new) }
+{
+    let mut digits = [0u8; MOST_DIGITS];
+    let k = io::decimal(number, &mut digits);
+    put_word(out, at, &digits[..k])
+}
+
+// Puts a word and a number there.
+fn put_numbered(out: &mut [u8], at: usize, word: &[u8], number: u64) -> usize
+    requires { at + length word.now + most_digits ≤ length out.old }
+    ensures prefix_len { IsPrefixLen result out.new }
+    ensures upper_bound { result ≤ at + length word.now + most_digits }
+    ensures numbered { Numbered (take at out.old ++ word.now) number (take result out.new) }
+{
+    let named = put_word(out, at, word);
+    put_number(out, named, number)
+}
+
+// Puts a line there: a word, a number and the line's end.
+pub fn put_line(out: &mut [u8], at: usize, word: &[u8], number: u64) -> usize
+    requires { at + length word.now + most_digits + 1 ≤ length out.old }
+    ensures prefix_len { IsPrefixLen result out.new }
+    ensures line { Line (take at out.old ++ word.now) number (take result out.new) }
+{
+    let numbered = put_numbered(out, at, word, number);
+    put_word(out, numbered, b"\n")
+}
+
+// Puts two numbers there, each after its word, and then an ending.
+pub fn put_two_numbers(
+    out: &mut [u8],
+    at: usize,
+    word: &[u8],
+    first: u64,
+    between: &[u8],
+    second: u64,
+    ending: &[u8],
+) -> usize
+    requires { at + length word.now + most_digits + length between.now + most_digits + length ending.now ≤ length out.old }
+    ensures prefix_len { IsPrefixLen result out.new }
+    ensures two_numbers { TwoNumbers (take at out.old ++ word.now) first between.now second ending.now (take result out.new) }
+{
+    let front = put_numbered(out, at, word, first);
+    let numbers = put_numbered(out, front, between, second);
+    put_word(out, numbers, ending)
+}
+
+// ---- Text in a buffer of its own
 
 // A text that is put together in a fixed buffer of N bytes.
 #[derive(Drop)]
@@ -48,10 +117,7 @@ impl<const N: usize> Text<N> {
         requires { length self.old + length word.now ≤ N }
         ensures { self.new ≡ self.old ++ word.now }
     {
-        let n = word.len();
-        let bytes = &mut self.bytes[..];
-        writing::write_front(word, n, &mut bytes[self.len..]);
-        self.len += n;
+        self.len = put_word(&mut self.bytes, self.len, word);
     }
 
     // Puts a number's decimal digits.
@@ -60,19 +126,7 @@ impl<const N: usize> Text<N> {
         ensures upper_bound { length self.new ≤ length self.old + most_digits }
         ensures numbered { Numbered self.old number self.new }
     {
-        let mut digits = [0u8; MOST_DIGITS];
-        let k = io::decimal(number, &mut digits);
-        self.put_word(&digits[..k]);
-    }
-
-    // Puts a word and a number.
-    fn put_numbered(&mut self, word: &[u8], number: u64)
-        requires { length self.old + length word.now + most_digits ≤ N }
-        ensures upper_bound { length self.new ≤ length self.old + length word.now + most_digits }
-        ensures numbered { Numbered (self.old ++ word.now) number self.new }
-    {
-        self.put_word(word);
-        self.put_number(number);
+        self.len = put_number(&mut self.bytes, self.len, number);
     }
 
     // Puts a line: a word, a number and the line's end.
@@ -81,8 +135,7 @@ impl<const N: usize> Text<N> {
         ensures within { length self.new ≤ N }
         ensures line { Line (self.old ++ word.now) number self.new }
     {
-        self.put_numbered(word, number);
-        self.put_word(b"\n");
+        self.len = put_line(&mut self.bytes, self.len, word, number);
     }
 
     // Puts two numbers, each after its word, and then an ending.
@@ -98,11 +151,19 @@ impl<const N: usize> Text<N> {
         ensures within { length self.new ≤ N }
         ensures two_numbers { TwoNumbers (self.old ++ word.now) first between.now second ending.now self.new }
     {
-        self.put_numbered(word, first);
-        self.put_numbered(between, second);
-        self.put_word(ending);
+        self.len = put_two_numbers(
+            &mut self.bytes,
+            self.len,
+            word,
+            first,
+            between,
+            second,
+            ending,
+        );
     }
 }
+
+// ---- Lines that are said
 
 // Writes a line to standard output, or says on standard error why it cannot. The whole line goes to the system in one call: in pieces, another program's could come between.
 pub fn say(rt: &(impl Print + Eprint), line: &[u8]) {

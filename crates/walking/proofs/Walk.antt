@@ -11,16 +11,16 @@ use Rattle.table.specs.declared.Kind.{Kind}
 use Rattle.table.specs.declared.Kind.TheVariants.{Block}
 use Rattle.table.specs.declared.Number.{Number}
 use Rattle.table.specs.declared.Limit.{Limit}
-use Rattle.std.specs.Prelude.{Option, Some}
+use Rattle.std.specs.Prelude.{IfSome, None, Option, Some}
 use Rattle.lists.specs.declared.List.{List as Listed}
 use Rattle.lists.specs.Pairs.{ever}
 use Rattle.lists.specs.Reading.{Is}
 use Rattle.evaluate.specs.declared.Valued.{Valued}
 use Rattle.evaluate.specs.Evaluate.{Values, no_branch}
 use Rattle.evaluate.specs.Evaluator.{Found, and_then, checked, evaluate_below, evaluate_more, evaluate_node, found, gone_round, limited, time_pairs, unfit}
-use Rattle.evaluate.specs.Shown.{Limitable, Ready, Shows, evaluate_children, found_in, with_next}
-use Rattle.evaluate.proofs.Laws.Sane.{Sane, sane, sane-is-below, sane-more, sane-next, sane-none, sane-where}
-use Rattle.evaluate.proofs.Laws.Shown.{found-shown, limitable-shown, ready-shown, sane-ready, then-shown, then-unfit}
+use Rattle.evaluate.specs.Shown.{Limitable, Ready, Shows, answered_in, evaluate_children, found_in, with_next}
+use Rattle.evaluate.proofs.Laws.Sane.{Below, Sane, below-block, sane, sane-is-below, sane-more, sane-next, sane-none, sane-where}
+use Rattle.evaluate.proofs.Laws.Shown.{answered-is, found-shown, limitable-shown, ready-shown, sane-ready, then-shown, then-unfit}
 use Rattle.walking.proofs.Steps.{below_other, more-done, more-next, node-read}
 
 -- ---- children
@@ -44,80 +44,72 @@ module _ {v : Values} {h : ℕ} {b : List ℕ} (long : length b ≤ record_lengt
     more : Found → Found
     more = evaluate_more v (evaluate_node v h) (rest k) (suc i) (n - 1) b
 
-    whole : and_then (with_next v k i (found_in r a) (evaluate_node v h (drop (record_length * r.records) b))) more ≡ e
-    unfolding more
+    taken : Found
+    taken = with_next v k i (found_in r a) (evaluate_node v h (drop (record_length * r.records) b))
+
+    whole : and_then taken more ≡ e
+    unfolding more taken
     whole = sym (more-next v (evaluate_node v h) k i n b (found_in r a) p) ∙ q.left
 
-    pub child-ends : evaluate_node v h (drop (record_length * r.records) b) ≡ unfit → e ≡ unfit
-    unfolding more with_next
-    child-ends x = sym whole ∙ ap (λ c. and_then (with_next v k i (found_in r a) c) more) x
+    sane-taken : Sane b taken
+    unfolding taken with_next
+    sane-taken =
+        let c = evaluate_node v h (drop (record_length * r.records) b) in
+        sane-where b c.fits _ (λ x. sane-where b (gone_round v k c).fits _ (λ y. sane-next v k i b (found_in r a) c (sane-ready q.short q.ready) (sane v h _)))
 
-    -- found as c in the list l, and t in the list a' when it is taken
-    module _ {c : Valued} {l : Listed} (child : Shows (Some c) l (evaluate_node v h (drop (record_length * r.records) b))) where
-      taken : Found
-      taken = with_next v k i (found_in r a) (found_in c l)
-
-      after : and_then taken more ≡ e
+    -- answered as c with the list l, and t with the list a' when it is taken
+    module _ (c : Option Valued) (l : Listed) (child : Shows c l (evaluate_node v h (drop (record_length * r.records) b))) where
+      is-taken : with_next v k i (found_in r a) (answered_in c l) ≡ taken
       unfolding taken
-      after = ap (λ c. and_then (with_next v k i (found_in r a) c) more) (sym child.1) ∙ whole
+      is-taken = ap (with_next v k i (found_in r a)) (answered-is c l child)
 
-      sane-taken : Sane b taken
-      unfolding taken with_next
-      sane-taken =
-          let c = found_in c l in
-          sane-where b (gone_round v k c).fits _
-          (λ y. sane-next v k i b (found_in r a) c (sane-ready q.short q.ready) (subst (Sane (drop (record_length * r.records) b)) child.1 (sane v h _)))
+      pub next_fits : {t : Valued} {a' : Listed} {j m : ℕ} → Shows (Some t) a' (with_next v k i (found_in r a) (answered_in c l)) → j ≡ suc i → m ≡ n - 1 → Walked v h b e (rest k) j m t a'
+      unfolding more
+      next_fits {t} {a'} next y z =
+          let s = subst (Shows (Some t) a') is-taken next in
+          record {
+            ready = ready-shown long sane-taken s;
+            short = (subst (Sane b) s.1 sane-taken).short;
+            left = rw (y, z) (sym (then-shown s more) ∙ whole);
+          }
 
-      pub next_fits : {t : Valued} {a' : Listed} {j m : ℕ} → Shows (Some t) a' (with_next v k i (found_in r a) (found_in c l)) → j ≡ suc i → m ≡ n - 1 → Walked v h b e (rest k) j m t a'
-      unfolding more taken
-      next_fits {t} {a'} next y z = record {
-        ready = ready-shown long sane-taken next;
-        short = (subst (Sane b) next.1 sane-taken).short;
-        left = rw (y, z) (sym (then-shown next more) ∙ after);
-      }
-
-      pub next-ends : with_next v k i (found_in r a) (found_in c l) ≡ unfit → e ≡ unfit
-      unfolding taken
-      next-ends x = sym after ∙ then-unfit x more
+      pub next-ends : with_next v k i (found_in r a) (answered_in c l) ≡ unfit → e ≡ unfit
+      next-ends x = sym whole ∙ then-unfit (sym is-taken ∙ x) more
 
   pub all_done : {e : Found} {k : Kind} {i n : ℕ} {r : Valued} {a : Listed} → Walked v h b e k i n r a → n ≡ 0 → Shows (Some r) a e
   all_done {k = k} {i = i} {n = n} {r = r} {a = a} q z = (q.ready.proper, sym (sym (more-done v (evaluate_node v h) k i n b (found_in r a) z) ∙ q.left))
 
 -- what the steps may rely on of a child
-pub child-ready : (v : Values) (h m : ℕ) (b : List ℕ) {c : Valued} {l : Listed} → length b ≤ record_length * most_records → Shows (Some c) l (evaluate_node v h (drop m b)) → Ready c l
-child-ready v h m b long s = ready-shown (omega (arith, length-drop m b)) (sane v h (drop m b)) s
+pub child-ready : (v : Values) (h m : ℕ) (b : List ℕ) (c : Option Valued) (l : Listed) → length b ≤ record_length * most_records → Shows c l (evaluate_node v h (drop m b)) → IfSome c (λ c. Ready c l)
+child-ready v h m b None l long s = tt
+child-ready v h m b (Some c) l long s = ready-shown (omega (arith, length-drop m b)) (sane v h (drop m b)) s
 
 -- ---- a node
 
--- what its limit may rely on of its children
-pub children-limitable : (v : Values) (h : ℕ) (k : Kind) (n m : ℕ) (b : List ℕ) {r : Valued} {a : Listed} → length b ≤ record_length * most_records → Shows (Some r) a (evaluate_children v h k n (drop m b)) → Limitable r a
-children-limitable v h k n m b long s =
+-- what its limit may rely on of what is below it
+limitable : {b : List ℕ} {e : Found} (r : Option Valued) (a : Listed) → length b ≤ record_length * most_records → Below b e → Shows r a e → IfSome r (λ r. Limitable r a)
+limitable None a long q s = tt
+limitable (Some r) a long q s = limitable-shown long q s
+
+pub block-limitable : (v : Values) (t : Number) (b : List ℕ) (r : Option Valued) (a : Listed) → length b ≤ record_length * most_records → Shows r a (checked (time_pairs v t) whole_run 0 no_branch) → IfSome r (λ r. Limitable r a)
+block-limitable v t b r a long = limitable r a long (below-block v t b)
+
+pub children-limitable : (v : Values) (h : ℕ) (k : Kind) (n m : ℕ) (b : List ℕ) (r : Option Valued) (a : Listed) → length b ≤ record_length * most_records → Shows r a (evaluate_children v h k n (drop m b)) → IfSome r (λ r. Limitable r a)
+children-limitable v h k n m b r a long =
     let c = drop m b in
-    limitable-shown (omega (arith, length-drop m b)) (sane-is-below c _ (sane-more v (evaluate_node v h) (sane v h) k 0 n c _ (sane-none c))) s
+    limitable r a (omega (arith, length-drop m b)) (sane-is-below c _ (sane-more v (evaluate_node v h) (sane v h) k 0 n c _ (sane-none c)))
 
--- the node at the front of b, of kind k and limit l
-module _ (v : Values) (h : ℕ) (b : List ℕ) {k : Kind} (its-kind : k ≡ (first_node b).kind) (deep : h ≡ 0 → ⊥) (long : record_length ≤ length b) where
-  -- what is below it
-  abbrev pub below : Found
-  below = evaluate_below v (evaluate_node v (h - 1)) k (child_byte b) (drop record_length b)
+-- the node at the front of b, of kind k and limit l, which limits what the answer r found below it
+module _ (v : Values) (h : ℕ) (b : List ℕ) {k : Kind} {l : Limit} (its-kind : k ≡ (first_node b).kind) (its-limit : l ≡ (first_node b).limit) (deep : h ≡ 0 → ⊥) (long : record_length ≤ length b)
+    (r t : Option Valued) (a c : Listed) (shown : Shows t c (and_then (answered_in r a) (limited v l))) where
+  by-below : Shows r a (evaluate_below v (evaluate_node v (h - 1)) k (child_byte b) (drop record_length b)) → Shows t c (evaluate_node v h b)
+  by-below s =
+      let found = ap (λ e. and_then e (limited v l)) (answered-is r a s) in
+      subst (Shows t c) (found ∙ sym (rw (← its-kind, ← its-limit) at (node-read v h b deep long))) shown
 
-  node-is : evaluate_node v h b ≡ and_then below (limited v (first_node b).limit)
-  node-is = rw (← its-kind) at (node-read v h b deep long)
-
-  -- of a block, and of any other kind
-  pub block-below : (time : Number) → k ≡ Block time → checked (time_pairs v time) whole_run 0 no_branch ≡ below
+  pub block-shown : (time : Number) → k ≡ Block time → Shows r a (checked (time_pairs v time) whole_run 0 no_branch) → Shows t c (evaluate_node v h b)
   unfolding evaluate_below
-  block-below time i = rw i refl
+  block-shown time i s = by-below (rw i s)
 
-  pub children-below : (m : ℕ) → m ≡ child_byte b → ((time : Number) → k ≡ Block time → ⊥) → evaluate_children v (h - 1) k m (drop record_length b) ≡ below
-  children-below m q o = rw q (below_other v (evaluate_node v (h - 1)) k (child_byte b) (drop record_length b) o)
-
-  -- where what is below it does not fit, nor does the node
-  pub below-ends : {e : Found} → e ≡ below → e ≡ unfit → evaluate_node v h b ≡ unfit
-  below-ends s x = node-is ∙ then-unfit (sym s ∙ x) (limited v (first_node b).limit)
-
-  -- else it is what its limit leaves
-  pub node-shown : {e : Found} → e ≡ below → {l : Limit} → l ≡ (first_node b).limit → {r : Valued} {a : Listed} → Shows (Some r) a e
-      → (t : Option Valued) (c : Listed) → Shows t c (limited v l (found_in r a)) → Shows t c (evaluate_node v h b)
-  node-shown s i {r} {a} f t c g =
-      subst (Shows t c) (ap (λ l. limited v l (found_in r a)) i ∙ sym (then-shown f (limited v (first_node b).limit)) ∙ ap (λ c. and_then c (limited v (first_node b).limit)) s ∙ sym node-is) g
+  pub children-shown : (m : ℕ) → m ≡ child_byte b → ((time : Number) → k ≡ Block time → ⊥) → Shows r a (evaluate_children v (h - 1) k m (drop record_length b)) → Shows t c (evaluate_node v h b)
+  children-shown m q o s = by-below (rw (← q, ← below_other v (evaluate_node v (h - 1)) k m (drop record_length b) o) s)

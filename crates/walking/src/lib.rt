@@ -31,7 +31,7 @@ fn evaluate_node(
     }
     let kind = table::read_kind(table);
     if let Kind::Block(time) = kind {
-        let below = evaluate::block_in(time, values, out)?;
+        let below = evaluate::block_in(time, values, out);
         return evaluate::limit_in(table::read_limit(table), values, below, out);
     }
     let count = table::child_count(table);
@@ -43,7 +43,7 @@ fn evaluate_node(
         count,
         out,
         spare,
-    )?;
+    );
     evaluate::limit_in(table::read_limit(table), values, below, out)
 }
 
@@ -72,8 +72,8 @@ pub fn evaluate_children(
     };
     let mut seen_as = kind;
     for number in 0..count {
-        let at = RECORD_LENGTH * usize::from(done.records);
-        let child = evaluate_node(&table[at..], values, depth, &mut list, spare)?;
+        let at = RECORD_LENGTH * done.records;
+        let child = evaluate_node(&table[at..], values, depth, &mut list, spare);
         done = evaluate::take_child(seen_as, values, number, done, out, child, &mut list, spare)?;
         seen_as = evaluate::rest_of(seen_as);
     }

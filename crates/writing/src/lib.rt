@@ -20,13 +20,15 @@ pub fn write_front<T: Copy>(from: &[T], n: usize, out: &mut [T])
     out[..n].copy_from_slice(&from[..n]);
 }
 
-// Copies n bytes from byte `start` on to the buffer's byte `at` and on.
-#[tactic(auto, using(std::proofs::lemmas::Slice::overwrites))]
+// Copies n bytes from byte `start` on to the buffer's byte `at` and on. One by one: where it isn't seen that the two are apart, `copy_from_slice` is compiled to
+// a call of memmove, which is more than a caller from C is asked for.
 pub fn copy_bytes(from: &[u8], start: usize, n: usize, out: &mut [u8], at: usize)
     requires { (start + n ≤ length from.now) × (at + n ≤ length out.old) }
     ensures { (take (at + n) out.new ≡ take at out.old ++ take n (drop start from.now)) × (drop (at + n) out.new ≡ drop (at + n) out.old) }
 {
-    out[at..at + n].copy_from_slice(&from[start..start + n]);
+    for k in 0..n {
+        out[at + k] = from[start + k];
+    }
 }
 
 // ---- Records copied
@@ -54,9 +56,8 @@ pub fn repeat_records(out: &mut [u8], i: usize, n: usize, at: usize) -> usize
     requires { (i + n ≤ at) × (record_length * (at + n) ≤ length out.old) }
     ensures { Appended at out.old n (slice out.old i n) result out.new }
 {
-    let start = RECORD_LENGTH * i;
-    let len = RECORD_LENGTH * n;
-    out.copy_within(start..start + len, RECORD_LENGTH * at);
+    let (front, back) = out.split_at_mut(RECORD_LENGTH * at);
+    copy_records(front, i, n, back, 0);
     at + n
 }
 

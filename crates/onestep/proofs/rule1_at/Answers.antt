@@ -1,5 +1,5 @@
 -- By the two tests; the evaluator gives the block's time.
-use Rattle.std.proofs.Common.{◌∙◌, arith}
+use Rattle.std.proofs.Common.{ap, ◌∙◌, arith}
 use Rattle.table.proofs.Laws.Tables.{length-is, not-long}
 use Rattle.onestep.specs.Laws.Whole.{block_written, first-is, has-symbol, some-record, that-already}
 use Rattle.onestep.proofs.rule1_at.Goals as goal
@@ -7,13 +7,13 @@ use Rattle.onestep.proofs.rule1_at.Goals as goal
 pub returns-then-not-view : goal.returns-then-not-view
 returns-then-not-view c =
     let s = c.requires.simplifiable in
-    has-symbol _ s c.args.view.facts.now _ (c.args.view.surveyed.each 0 (some-record _ s)) c.if-not-view.true
+    has-symbol _ s c.args.view.facts.now _ (ap (λ f. f.symbol_free) (c.requires.surveyed.each 0 (some-record _ s))) c.if-not-view.true
 
 pub bounds-view-0 : goal.bounds-view-0
-bounds-view-0 c = omega (arith, some-record _ c.requires.simplifiable, c.args.view.surveyed.room)
+bounds-view-0 c = omega (arith, some-record _ c.requires.simplifiable, c.args.view.sized.room)
 
 pub is_bare-requires : goal.is_bare-requires
-is_bare-requires c = some-record _ c.requires.simplifiable
+is_bare-requires c = record { fact_1 = c.args.view.sized.table; fact_2 = some-record _ c.requires.simplifiable }
 
 pub returns-then-is_bare : goal.returns-then-is_bare
 returns-then-is_bare c = that-already _ c.requires.simplifiable _ _ c.is_bare.ensures c.if-is_bare.true
@@ -29,5 +29,5 @@ put_node-requires c =
 pub returns : goal.returns
 returns c =
     let s = c.requires.simplifiable in
-    block_written _ s c.args.view.facts.now _ _ _ _ (c.args.view.surveyed.each 0 (some-record _ s)) c.if-not-view.false c.is_bare.ensures c.if-is_bare.false
+    block_written _ s c.args.view.facts.now _ _ _ _ (ap (λ f. f.symbol_free) (c.requires.surveyed.each 0 (some-record _ s))) c.if-not-view.false c.is_bare.ensures c.if-is_bare.false
     (c.value_at.ensures ∙ first-is _ s _ _ c.evaluate.ensures) c.put_node.ensures.0 c.put_node.ensures.1

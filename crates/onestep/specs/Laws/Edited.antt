@@ -65,7 +65,7 @@ module _ (b : List ℕ) (facts : List Facts) (v : Surveyed b facts) (at n : ℕ)
   s = v.table
 
   end-inside : end ≤ record_count b
-  end-inside = past-inside b facts v at p.inside
+  end-inside = past-inside b facts (sized b facts v) at p.inside
 
   front_long : length (front at b) ≡ record_length * at
   front_long = length-take-le (record_length * at) b (omega (arith, p.inside, length-is b s))
@@ -100,7 +100,7 @@ module _ (b : List ℕ) (facts : List Facts) (v : Surveyed b facts) (at n : ℕ)
 
     before : (j : ℕ) → j < record_count b → j + extent_at facts j ≤ at → Own (subtree new j) facts j
     before j l o =
-        let size = sized b facts v j l in
+        let size = (sized b facts v).each j l in
         let same = same-before b new s u at (omega (arith, p.inside)) (omega (arith, count)) same-front j l (omega (arith, o, size)) in
         subst (λ t. Own t facts j) (sym same) (v.each j l)
 
@@ -115,7 +115,7 @@ module _ (b : List ℕ) (facts : List Facts) (v : Surveyed b facts) (at n : ℕ)
 
     settled : {facts' : List Facts} → Surveyed new facts' → Settled new facts' at
     settled {facts'} w j l o =
-        let size = sized new facts' w j l in
+        let size = (sized new facts' w).each j l in
         let same = same-before new b u s at (omega (arith, count)) (omega (arith, p.inside)) (sym same-front) j l (omega (arith, o, size)) in
         subst NoRule same (p.quiet j (omega (arith, o, size, some-records (subtree new j))))
 
@@ -127,7 +127,7 @@ module _ (work spare : List ℕ) (facts : List Facts) (len at m : ℕ) (v : Surv
   records-in = ap (λ n. n / record_length) (length-take-le len work o)
 
   pub end-within : at + extent_at facts at ≤ len / record_length
-  end-within = omega (arith, records-in, past-inside (take len work) facts v at p.inside)
+  end-within = omega (arith, records-in, past-inside (take len work) facts (sized (take len work) facts v) at p.inside)
 
   module _ (new : List ℕ) (r : ℕ) (w : front r new ≡ front at work ++ slice spare 0 m) where
     pub edited-is : front r new ≡ front at (take len work) ++ front m spare

@@ -25,11 +25,11 @@ use Rattle.lists.specs.Pairs.{top as top_pair}
 use Rattle.lists.specs.Reading.{value_at}
 use Rattle.simplify.specs.Rules.{bare, leaf, rule1, when}
 use Rattle.simplify.specs.Steps.{also, inside, inside_in, or_else, step}
-use Rattle.subtrees.specs.Facts.{Own, Surveyed, extent_at, fact_at}
+use Rattle.subtrees.specs.Facts.{Sized, extent_at, fact_at}
 use Rattle.subtrees.specs.declared.Facts.{Facts}
 use Rattle.subtrees.specs.Parts.{Simplifiable, subtree, trees_at}
 use Rattle.table.proofs.Laws.Tables.{count-is, length-is}
-use Rattle.subtrees.specs.Laws.Parts.{root-at, sized, top-at}
+use Rattle.subtrees.specs.Laws.Parts.{root-at, top-at}
 use Rattle.writing.specs.Records.{front, node_of}
 use Rattle.rewrite.specs.Wrote.{Wrote}
 use Rattle.searching.specs.Found.{Placed}
@@ -50,10 +50,10 @@ module _ (b : List ℕ) (s : Simplifiable b) where
   pub some-record : 0 < record_count b
   some-record = omega (arith, count-is b s.table, some-records (decode b))
 
-  free : (facts : List Facts) → Own (subtree b 0) facts 0 → symbol_free (decode b) ≡ (fact_at facts 0).symbol_free
-  free facts m = ap symbol_free (sym whole) ∙ sym (ap (λ f. f.symbol_free) m)
+  free : (facts : List Facts) → (fact_at facts 0).symbol_free ≡ symbol_free (subtree b 0) → symbol_free (decode b) ≡ (fact_at facts 0).symbol_free
+  free facts m = ap symbol_free (sym whole) ∙ sym m
 
-  pub has-symbol : (facts : List Facts) (out : List ℕ) → Own (subtree b 0) facts 0 → (fact_at facts 0).symbol_free ≡ false → Wrote (also (λ u. u ▸ nil) (rule1 (decode b))) None out
+  pub has-symbol : (facts : List Facts) (out : List ℕ) → (fact_at facts 0).symbol_free ≡ symbol_free (subtree b 0) → (fact_at facts 0).symbol_free ≡ false → Wrote (also (λ u. u ▸ nil) (rule1 (decode b))) None out
   unfolding ◌and◌
   has-symbol facts out m n = unfit (decode b) out (rw (free facts m ∙ n) refl)
 
@@ -73,7 +73,7 @@ module _ (b : List ℕ) (s : Simplifiable b) where
       let is = shown-fits r a _ w (e.holds s.fits).fits in
       sym (first-top is.proper) ∙ ap top_pair is.pairs ∙ e.figure s.fits
 
-  pub block_written : (facts : List Facts) (out : List ℕ) (x : Bool) (v r : ℕ) → Own (subtree b 0) facts 0 → (fact_at facts 0).symbol_free ≡ true → x ≡ bare (subtree b 0) → x ≡ false → v ≡ figure zeros (decode b)
+  pub block_written : (facts : List Facts) (out : List ℕ) (x : Bool) (v r : ℕ) → (fact_at facts 0).symbol_free ≡ symbol_free (subtree b 0) → (fact_at facts 0).symbol_free ≡ true → x ≡ bare (subtree b 0) → x ≡ false → v ≡ figure zeros (decode b)
       → r ≡ 1 → front r out ≡ record_bytes (node_of (Block (Plain v)) Unlimited 0) 0 → Wrote (also (λ u. u ▸ nil) (rule1 (decode b))) (Some r) out
   unfolding rule1 when also Wrote ◌and◌ records_in records encode encodes leaf size
   block_written facts out x v r m z e y f n w =
@@ -110,11 +110,11 @@ module _ (b : List ℕ) (s : Simplifiable b) where
   by-search spot out mid w v = rw (whole_row (decode b)) (rule1-not b _ spot out mid (rule1 (decode b)) w (rw (root-at b s.table) at v))
 
   -- rule 1 leaves nothing behind the one tree
-  pub placed-whole : (facts : List Facts) → Surveyed b facts → (r : ℕ) (out : List ℕ) → Wrote (also (λ u. u ▸ nil) (rule1 (decode b))) (Some r) out → Placed b 0 (0 + extent_at facts 0) r out
+  pub placed-whole : (facts : List Facts) → Sized b facts → (r : ℕ) (out : List ℕ) → Wrote (also (λ u. u ▸ nil) (rule1 (decode b))) (Some r) out → Placed b 0 (0 + extent_at facts 0) r out
   placed-whole facts x r out w = go (rule1 (decode b)) w
     where
       past : record_count b ≤ 0 + extent_at facts 0
-      past = omega (arith, sized b facts x 0 (some-record b s), ap records (whole b s), count-is b s.table)
+      past = omega (arith, x.each 0 (some-record b s), ap records (whole b s), count-is b s.table)
 
       nothing : drop (record_length * (0 + extent_at facts 0)) b ≡ []
       nothing = let long : length b ≤ record_length * (0 + extent_at facts 0) = omega (arith, past, length-is b s.table) in drop_of_length-le b long

@@ -11,7 +11,7 @@ use Rattle.table.specs.Table.{encode, encodes, first_node, record_count}
 use Rattle.table.specs.Trees.{Forest, Tree, nil, node, ◌▸◌, ◌⧺◌, records, records_in, size}
 use Rattle.simplify.specs.Rules.{is_sum}
 use Rattle.simplify.specs.Steps.{also}
-use Rattle.subtrees.specs.Facts.{Surveyed, extent_at}
+use Rattle.subtrees.specs.Facts.{Sized, extent_at}
 use Rattle.subtrees.specs.declared.Facts.{Facts}
 use Rattle.table.specs.Checking.{IsTable}
 use Rattle.subtrees.specs.Parts.{subtree, trees_at}
@@ -27,6 +27,15 @@ use Rattle.rewrite.specs.Wrote.{Wrote, rule_at}
 pub zero_is : (n : ℕ) → eqb n 0 ≡ leb n 0
 zero_is zero = refl
 zero_is (suc n) = ne_eqb (suc n) 0 (λ e. omega arith) ∙ sym (lt-leb (suc n) 0 (omega arith))
+
+-- a number that is 0 where a test fails
+pub zero-no : (t : Bool) (n : ℕ) {x : ℕ} → 0 < n → x ≡ cond t n 0 → x ≡ 0 → t ≡ false
+zero-no true n l e z = absurd (omega arith)
+zero-no false n l e z = refl
+
+pub number-yes : (t : Bool) (n : ℕ) {x : ℕ} → x ≡ cond t n 0 → (x ≡ 0 → ⊥) → (t ≡ true) × (x ≡ n)
+number-yes true n e z = (refl, e)
+number-yes false n e z = absurd (z e)
 
 -- an answer that there is only where a test holds
 pub none-no : {A : Type 0} (t : Bool) (n : A) → None ≡ cond t (Some n) None → t ≡ false
@@ -64,7 +73,7 @@ pub record TwoAt (b : List ℕ) (facts : List Facts) (i : ℕ) (h : Here b i) : 
   pub place : i + 1 + extent_at facts (i + 1) < record_count b
   pub after : trees_at b (i + 1 + extent_at facts (i + 1)) ≡ subtree b (i + 1 + extent_at facts (i + 1)) ▸ h.later
 
-pub two_at : (b : List ℕ) (facts : List Facts) → Surveyed b facts → (i : ℕ) (h : Here b i) → size h.kids ≡ 2 → TwoAt b facts i h
+pub two_at : (b : List ℕ) (facts : List Facts) → Sized b facts → (i : ℕ) (h : Here b i) → size h.kids ≡ 2 → TwoAt b facts i h
 unfolding ◌⧺◌
 two_at b facts x i h e =
     let q = i + 1 + extent_at facts (i + 1) in

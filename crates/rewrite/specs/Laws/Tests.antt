@@ -1,12 +1,12 @@
 -- Tests of the node at a record.
-use Rattle.std.specs.Prelude.{◌≡◌, refl, Bool, true, false, cond, List, ℕ, suc, ◌*◌, ◌≤◌, T, drop, is_some, IfSome, Some, None}
+use Rattle.std.specs.Prelude.{◌≡◌, refl, Bool, true, false, cond, ◌&&◌, List, ℕ, suc, ◌*◌, ◌≤◌, T, eqb, drop, is_some, IfSome, Some, None}
 use Rattle.std.proofs.Common.{ap, sym, ◌∙◌, subst, arith, leb→le}
 use Rattle.std.proofs.Math.Dec.{eqb-suc-zero}
 use Rattle.booleans.specs.Tests.{◌and◌}
-use Rattle.booleans.specs.Laws.{and-false, both}
+use Rattle.booleans.specs.Laws.{and-false, and_is, both}
 use Rattle.table.specs.Numbers.{most_time, record_length}
 use Rattle.table.specs.Questions.{arity, kind_in_range, listed, time_in_range}
-use Rattle.table.specs.Table.{first_node}
+use Rattle.table.specs.Table.{first_node, flag, kind_byte, raw, value_num}
 use Rattle.table.specs.Trees.{Forest, Tree, nil, node, ◌▸◌, size}
 use Rattle.evaluate.specs.Closed.{is_plain, is_unlimited, plain_kind}
 use Rattle.simplify.specs.Rules.{bare, is_block, time_of, time_of_kind}
@@ -49,6 +49,38 @@ equal-kinds (Loop (Plain m)) (Loop (Symbol n)) = refl
 equal-kinds (Loop (Symbol m)) (Loop (Plain n)) = refl
 equal-kinds (Loop (Symbol m)) (Loop (Symbol n)) = refl
 
+-- and by its byte, flag and field
+
+same-fields : (k j : Kind)
+    → (eqb (kind_byte k) (kind_byte j) && eqb (flag (value_num k)) (flag (value_num j)) && eqb (raw (value_num k)) (raw (value_num j))) ≡ same_kind k j
+unfolding kind_byte value_num flag same_kind same_number
+same-fields (Block (Plain m)) (Block (Plain n)) = refl
+same-fields (Block (Plain m)) (Block (Symbol n)) = refl
+same-fields (Block (Symbol m)) (Block (Plain n)) = refl
+same-fields (Block (Symbol m)) (Block (Symbol n)) = refl
+same-fields (Block v) Sequence = refl
+same-fields (Block v) Choice = refl
+same-fields (Block v) (Loop w) = refl
+same-fields Sequence (Block w) = refl
+same-fields Sequence Sequence = refl
+same-fields Sequence Choice = refl
+same-fields Sequence (Loop w) = refl
+same-fields Choice (Block w) = refl
+same-fields Choice Sequence = refl
+same-fields Choice Choice = refl
+same-fields Choice (Loop w) = refl
+same-fields (Loop v) (Block w) = refl
+same-fields (Loop v) Sequence = refl
+same-fields (Loop v) Choice = refl
+same-fields (Loop (Plain m)) (Loop (Plain n)) = refl
+same-fields (Loop (Plain m)) (Loop (Symbol n)) = refl
+same-fields (Loop (Symbol m)) (Loop (Plain n)) = refl
+same-fields (Loop (Symbol m)) (Loop (Symbol n)) = refl
+
+pub same_parts : (k j : Kind) {a b f g v w : ℕ} → a ≡ kind_byte k → b ≡ kind_byte j → f ≡ flag (value_num k) → g ≡ flag (value_num j)
+    → v ≡ raw (value_num k) → w ≡ raw (value_num j) → (eqb a b && eqb f g && eqb v w) ≡ same_kind k j
+same_parts k j ea eb ef eg ev ew = rw (ea, eb, ef, eg, ev, ew) (same-fields k j)
+
 -- ---- an unlimited plain block, by its kind and limit: it has no child
 
 no_block : (k : Kind) (c : ℕ) → T (arity k (suc c)) → is_block k ≡ false
@@ -63,6 +95,11 @@ unfolding bare
 bare-is n nil h = refl
 bare-is n (t ▸ f) h = rw (no_block n.kind (size f) (unfold listed in unfold size in (both _ _ (both _ _ h).0).1)) (unfold ◌and◌ in refl)
 
+pub bare-at : (b : List ℕ) (p : ℕ) (h : Here b p) {n : Node} {x y : Bool} → n ≡ first_node (drop (record_length * p) b) → x ≡ (is_block n.kind and plain_kind n.kind) → y ≡ is_unlimited n.limit
+    → (x && y) ≡ bare (subtree b p)
+bare-at b p h {x = x} {y = y} e d u =
+    and_is x y ∙ rw (d, u, e ∙ node_at b p h, top-at b p h.here) (bare-is h.own h.kids h.sound.fair.listed)
+
 block-time : (k : Kind) → plain_time k ≡ cond (is_block k and plain_kind k) (Some (time_of_kind k)) None
 unfolding plain_time is_block plain_kind is_plain time_of_kind ◌and◌
 block-time (Block (Plain x)) = refl
@@ -76,7 +113,7 @@ unfolding ◌and◌
 and-true true = refl
 and-true false = refl
 
-time-low : (k : Kind) → T (kind_in_range k) → time_of_kind k ≤ most_time
+pub time-low : (k : Kind) → T (kind_in_range k) → time_of_kind k ≤ most_time
 unfolding kind_in_range time_in_range time_of_kind
 time-low (Block (Plain x)) h = leb→le x most_time h
 time-low (Block (Symbol x)) h = omega arith

@@ -7,5 +7,5 @@ use Rattle.rules2to7.proofs.gives_way.Goals as goal
 
 pub returns : goal.returns
 returns c =
-    gives_at _ _ (here-at _ c.args.view.surveyed.table c.args.p c.requires) c.args.kind c.args.count
+    gives_at _ _ (here-at _ c.args.view.sized.table c.args.p c.requires) c.args.kind c.args.count
     c.node_at-own.ensures c.children_at-more.ensures.0 (c.eq.ensures ∙ equal-kinds _ _) c.is_unlimited.ensures c.has_room.ensures

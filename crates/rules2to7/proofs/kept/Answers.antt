@@ -1,4 +1,3 @@
-use Rattle.subtrees.specs.Laws.Parts.{sized}
 use Rattle.rules2to7.specs.Laws.Blocks.{kept-all, kept-none}
 use Rattle.rules2to7.proofs.kept.Goals as goal
 
@@ -6,4 +5,4 @@ pub returns-then-is_bare : goal.returns-then-is_bare
 returns-then-is_bare c = kept-none _ _ c.is_bare.ensures c.if-is_bare.true
 
 pub returns : goal.returns
-returns c = kept-all _ _ _ c.is_bare.ensures c.if-is_bare.false (sized _ _ c.args.view.surveyed _ c.requires)
+returns c = kept-all _ _ _ c.is_bare.ensures c.if-is_bare.false (c.args.view.sized.each _ c.requires)

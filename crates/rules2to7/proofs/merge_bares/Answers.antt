@@ -14,7 +14,7 @@ use Rattle.rules2to7.proofs.merge_bares.Goals as goal
 
 -- where the parts of the node stand
 stand : (s : Start) → Places s.args.view.table.now s.args.view.facts.now s.args.i s.args.q s.args.bares s.requires.parted
-stand s = places _ _ s.args.view.surveyed _ _ _ s.requires.inside s.requires.parted
+stand s = places _ _ s.args.view.sized _ _ _ s.requires.inside s.requires.parted
 
 kept : (s : Start) → records_in (others (spanning (trees_at s.args.view.table.now s.args.q) (s.args.i + extent_at s.args.view.facts.now s.args.i - s.args.q)))
     ≡ records_in (others s.requires.parted.second)
@@ -37,7 +37,7 @@ put_node-second-requires c =
     omega (arith, p.extent, p.inside, p.long, a.place, a.fewer, c.put_node-first.ensures.0, c.copy_records-block.ensures.0)
 
 pub overflow_add-end : goal.overflow_add-end
-overflow_add-end c = omega (arith, (stand (goal.at.overflow_add-end c).Start).inside, few-records c.args.view.table.now c.args.view.surveyed.table)
+overflow_add-end c = omega (arith, (stand (goal.at.overflow_add-end c).Start).inside, few-records c.args.view.table.now c.args.view.sized.table)
 
 pub copy_others-later-requires : goal.copy_others-later-requires
 copy_others-later-requires c =
@@ -60,7 +60,7 @@ copy_rest-requires c =
 
 pub returns : goal.returns
 returns c =
-    λ a. merge-wrote _ _ c.args.view.surveyed _ _ _ c.requires.inside a _ _ _ _ _ _ _ _ _ _ _ _ _
+    λ a. merge-wrote _ _ c.args.view.sized _ _ _ c.requires.inside a _ _ _ _ _ _ _ _ _ _ _ _ _
     c.node_at-node.ensures
     c.children_at.ensures.0
     c.children_at.ensures.1

@@ -5,10 +5,10 @@ use Rattle.rules2to7.specs.Laws.Blocks.{all-stand, asks-6, rule-unfit, rule6-wro
 use Rattle.rules2to7.proofs.rule6_at.Goals as goal
 
 pub returns-in_err-found : goal.returns-in_err-found
-returns-in_err-found c = rw c.from_residual.ensures (rule-unfit Sequence rule6 _ asks-6 _ c.args.view.surveyed.table _ c.requires.inside _ c.in_err-found.ensures)
+returns-in_err-found c = rw c.from_residual.ensures (rule-unfit Sequence rule6 _ asks-6 _ c.args.view.sized.table _ c.requires.inside _ c.in_err-found.ensures)
 
 pub merge_bares-requires-clause-parted : goal.merge_bares-requires-clause-parted
-merge_bares-requires-clause-parted c = all-stand _ c.args.view.surveyed.table _ c.requires.inside _ c.in_ok-found.ensures
+merge_bares-requires-clause-parted c = all-stand _ c.args.view.sized.table _ c.requires.inside _ c.in_ok-found.ensures
 
 pub returns : goal.returns
-returns c = rule6-wrote _ c.args.view.surveyed.table _ c.requires.inside _ c.in_ok-found.ensures _ _ c.merge_bares.ensures
+returns c = rule6-wrote _ c.args.view.sized.table _ c.requires.inside _ c.in_ok-found.ensures _ _ c.merge_bares.ensures

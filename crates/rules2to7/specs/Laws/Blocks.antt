@@ -15,7 +15,7 @@ use Rattle.simplify.specs.Rules.{at_first, bare, bares, largest, leaf, others, r
 use Rattle.simplify.specs.Same.{same_kind}
 use Rattle.simplify.specs.Steps.{also}
 use Rattle.simplify.proofs.Laws.Forests.{size-⧺}
-use Rattle.subtrees.specs.Facts.{Surveyed, extent_at}
+use Rattle.subtrees.specs.Facts.{Sized, extent_at}
 use Rattle.subtrees.specs.Children.{any, child_at, offset}
 use Rattle.subtrees.specs.declared.Facts.{Facts}
 use Rattle.table.specs.Checking.{IsTable}
@@ -48,7 +48,7 @@ pub record Turn (b : List ℕ) (facts : List Facts) (p e : ℕ) (s : Standing b 
   pub within : p + extent_at facts p ≤ e
   pub bound : e ≤ record_count b
 
-pub next-tree : (b : List ℕ) (facts : List Facts) → Surveyed b facts → (p e : ℕ) (s : Standing b p e) → p < e → Turn b facts p e s
+pub next-tree : (b : List ℕ) (facts : List Facts) → Sized b facts → (p e : ℕ) (s : Standing b p e) → p < e → Turn b facts p e s
 unfolding records_in
 next-tree b facts x p e s l =
     let z = x.table in
@@ -120,7 +120,7 @@ pub record Gathering (b : List ℕ) (i e p : ℕ) (found : Bares) : Type 0 where
   pub low : found.total ≤ most_time * found.count
   pub whole : gather left.trees found ≡ bares_at (trees_at b i)
 
-pub gather-start : (b : List ℕ) (facts : List Facts) → Surveyed b facts → (i : ℕ) → i < record_count b → Gathering b i (i + extent_at facts i) (i + 1) no_bares
+pub gather-start : (b : List ℕ) (facts : List Facts) → Sized b facts → (i : ℕ) → i < record_count b → Gathering b i (i + extent_at facts i) (i + 1) no_bares
 unfolding bares_at
 gather-start b facts x i l =
     let w = here-at b x.table i l in
@@ -131,7 +131,7 @@ gather-start b facts x i l =
       whole = gather-is w.kids no_bares ∙ bares-are _ _ _ _ _ _ (omega arith) (omega arith) (omega arith) ∙ sym (ap bares_at w.here);
     }
 
-pub gather-turn : (b : List ℕ) (facts : List Facts) → Surveyed b facts → (i e p : ℕ) (found more : Bares) (g : Gathering b i e p found) → p < e
+pub gather-turn : (b : List ℕ) (facts : List Facts) → Sized b facts → (i e p : ℕ) (found more : Bares) (g : Gathering b i e p found) → p < e
     → more ≡ with_child found (subtree b p) → more.count ≤ p → more.total ≤ most_time * more.count
     → Gathering b i e (p + extent_at facts p) more
 unfolding gather
@@ -198,7 +198,7 @@ copy_start b out start e at s =
       bytes = ap (λ f. front at out ++ encodes (others f)) (sym w);
     }
 
-pub copy-turn : (b : List ℕ) (facts : List Facts) → Surveyed b facts → (first out more : List ℕ) (w : Forest) (at e p to n r : ℕ) → Copying b first out w at e p to → p < e
+pub copy-turn : (b : List ℕ) (facts : List Facts) → Sized b facts → (first out more : List ℕ) (w : Forest) (at e p to n r : ℕ) → Copying b first out w at e p to → p < e
     → n ≡ kept_records (subtree b p) → length more ≡ length out → r ≡ to + n → front r more ≡ front to out ++ slice b p n
     → Copying b first more w at e (p + extent_at facts p) r
 copy-turn b facts x first out more w at e p to n r c l k m q h =
@@ -215,7 +215,7 @@ copy-turn b facts x first out more w at e p to n r c l k m q h =
     }
 
 -- the next ones fit
-pub copy-fits : (b : List ℕ) (facts : List Facts) → Surveyed b facts → (first out : List ℕ) (w : Forest) (at e p to : ℕ) → Copying b first out w at e p to → p < e
+pub copy-fits : (b : List ℕ) (facts : List Facts) → Sized b facts → (first out : List ℕ) (w : Forest) (at e p to : ℕ) → Copying b first out w at e p to → p < e
     → to + kept_records (subtree b p) ≤ at + records_in (others w)
 copy-fits b facts x first out w at e p to c l =
     let z = next-tree b facts x p e c.left l in
@@ -244,7 +244,7 @@ pub record Places (b : List ℕ) (facts : List Facts) (i q c : ℕ) (s : Parted 
   pub after : record_count b - (i + extent_at facts i) ≡ records_in s.later
   pub late : slice b (i + extent_at facts i) (records_in s.later) ≡ encodes s.later
 
-pub places : (b : List ℕ) (facts : List Facts) → Surveyed b facts → (i q c : ℕ) → i < record_count b → (s : Parted b i q c) → Places b facts i q c s
+pub places : (b : List ℕ) (facts : List Facts) → Sized b facts → (i q c : ℕ) → i < record_count b → (s : Parted b i q c) → Places b facts i q c s
 places b facts x i q c l s =
     let z = x.table in
     let h = here-is b z i s.own (s.first ⧺ s.second) s.later s.here in
@@ -276,7 +276,7 @@ merged-bytes : {b : List ℕ} {i q c : ℕ} (x : ℕ) (s : Parted b i q c) → e
 unfolding encode encodes leaf size
 merged-bytes x s = rw (size-⧺, encodes-⧺) (simp append_assoc)
 
-pub merge-wrote : (b : List ℕ) (facts : List Facts) → Surveyed b facts → (i q c : ℕ) → i < record_count b → (s : Parted b i q c)
+pub merge-wrote : (b : List ℕ) (facts : List Facts) → Sized b facts → (i q c : ℕ) → i < record_count b → (s : Parted b i q c)
     → (x m : ℕ) (n : Node) (o₁ o₂ o₃ o₄ o₅ : List ℕ) (r₁ r₂ r₃ r₄ r₅ : ℕ)
     → n ≡ first_node (drop (record_length * i) b) → m ≡ child_byte (drop (record_length * i) b) → m < 256
     → (r₁ ≡ 0 + 1) × (front r₁ o₁ ≡ record_bytes n (m - c + 1))
@@ -371,6 +371,12 @@ module _ (k : Kind) (rule : Node → Forest → Option Tree) (made : Node → Fo
   rule-unfit out e =
       wrote_none _ out (tested ∙ rw (none-no (same_kind stands.own.kind k and leb 2 (bares stands.kids)) _ (e ∙ two-is b s i l k)) refl)
 
+  pub rule-other : (r : Bool) (out : List ℕ) → r ≡ same_kind (first_node (drop (record_length * i) b)).kind k → not r ≡ true → Wrote (rule_at rule (trees_at b i)) None out
+  rule-other r out e h = rule-unfit out (two-other b s i l k refl (ap not e) h)
+
+  pub rule-few : (found : Bares) (out : List ℕ) → found ≡ bares_at (trees_at b i) → found.count < 2 → Wrote (rule_at rule (trees_at b i)) None out
+  rule-few found out e h = rule-unfit out (two-few b s i l k found e h)
+
   pub rule_fits : (found : Bares) → Some found ≡ two_bares k (trees_at b i) → let w = here-at b s i l in rule_at rule (trees_at b i) ≡ some (made w.own w.kids ▸ w.later)
   unfolding also when stands bares_at
   rule_fits found e =
@@ -390,7 +396,7 @@ pub asks-6 : Asks Sequence rule6 (λ n f. node n (leaf (total f) Unlimited ▸ o
 unfolding rule6
 asks-6 n f = refl
 
-all-parted : (b : List ℕ) (s : IsTable b) (i : ℕ) (l : i < record_count b) (found : Bares) → found ≡ bares_at (trees_at b i) → 2 ≤ found.count
+pub all-parted : (b : List ℕ) (s : IsTable b) (i : ℕ) (l : i < record_count b) (found : Bares) → found ≡ bares_at (trees_at b i) → 2 ≤ found.count
     → Parted b i (i + 1) found.count
 unfolding ◌⧺◌ records_in
 all-parted b s i l found e m =
@@ -462,18 +468,15 @@ pub asks-7 : Asks Choice rule7 (λ n f. node n (at_first (largest f) f))
 unfolding rule7
 asks-7 n f = refl
 
-module _ (b : List ℕ) (s : IsTable b) (i : ℕ) (l : i < record_count b) (found : Bares) (d : Some found ≡ two_bares Choice (trees_at b i)) where
+module _ (b : List ℕ) (s : IsTable b) (i : ℕ) (l : i < record_count b) (found : Bares) (e : found ≡ bares_at (trees_at b i)) (m : 2 ≤ found.count) where
   abbrev stood : Here b i
   stood = here-at b s i l
 
-  counted : 2 ≤ found.count
-  counted = (two-found b s i l Choice found d).1
-
   found-here : (found.count ≡ bares stood.kids) × (found.total ≡ total stood.kids) × (found.largest ≡ largest stood.kids)
-  found-here = found-is b i found stood (two-found b s i l Choice found d).0
+  found-here = found-is b i found stood e
 
   from_first : FirstBare stood.kids
-  from_first = first-bare stood.kids (omega (arith, found-here.0, counted))
+  from_first = first-bare stood.kids (omega (arith, found-here.0))
 
   bare-place : child_at bare i (trees_at b i) ≡ Some (i + 1 + records_in from_first.first)
   unfolding child_at
@@ -481,23 +484,24 @@ module _ (b : List ℕ) (s : IsTable b) (i : ℕ) (l : i < record_count b) (foun
 
   -- there is a first one
   pub some-bare : None ≡ child_at bare i (trees_at b i) → ⊥
-  some-bare e = none-some _ (e ∙ bare-place)
+  some-bare n = none-some _ (n ∙ bare-place)
 
-  module _ (q : ℕ) (j : Some q ≡ child_at bare i (trees_at b i)) where
-    pub two-parted : Parted b i q found.count
-    two-parted = record {
-      own = stood.own;
-      first = from_first.first;
-      second = from_first.second;
-      later = stood.later;
-      here = stood.here ∙ ap (λ f. node stood.own f ▸ stood.later) from_first.split;
-      place = same_Some _ _ (j ∙ bare-place);
-      some = omega (arith, counted);
-      number = omega (arith, from_first.number, found-here.0);
-      fewer = from_first.fewer;
-    }
+  pub two-parted : (q : ℕ) → Some q ≡ child_at bare i (trees_at b i) → Parted b i q found.count
+  two-parted q j = record {
+    own = stood.own;
+    first = from_first.first;
+    second = from_first.second;
+    later = stood.later;
+    here = stood.here ∙ ap (λ f. node stood.own f ▸ stood.later) from_first.split;
+    place = same_Some _ _ (j ∙ bare-place);
+    some = omega arith;
+    number = omega (arith, from_first.number, found-here.0);
+    fewer = from_first.fewer;
+  }
 
-    pub rule7-wrote : (n : ℕ) (out : List ℕ) → ((p : Parted b i q found.count) → Wrote (some (merged found.largest p)) (Some n) out) → Wrote (rule_at rule7 (trees_at b i)) (Some n) out
-    unfolding two-parted
-    rule7-wrote n out w =
-        rw (rule_fits Choice rule7 _ asks-7 b s i l found d, ← found-here.2, from_first.put found.largest) (w two-parted)
+pub rule7-wrote : (b : List ℕ) (s : IsTable b) (i : ℕ) (l : i < record_count b) (found : Bares) → Some found ≡ two_bares Choice (trees_at b i) → (q : ℕ) → Some q ≡ child_at bare i (trees_at b i)
+    → (n : ℕ) (out : List ℕ) → ((p : Parted b i q found.count) → Wrote (some (merged found.largest p)) (Some n) out) → Wrote (rule_at rule7 (trees_at b i)) (Some n) out
+unfolding two-parted
+rule7-wrote b s i l found d q j n out w =
+    let (e, m) = two-found b s i l Choice found d in
+    rw (rule_fits Choice rule7 _ asks-7 b s i l found d, ← (found-here b s i l found e m).2, (from_first b s i l found e m).put found.largest) (w (two-parted b s i l found e m q j))

@@ -33,7 +33,7 @@ use Rattle.subtrees.specs.Parts.{Simplifiable, trees_at}
 use Rattle.subtrees.specs.Laws.Facts.{closed_in-is}
 use Rattle.subtrees.specs.Laws.Forests.{Sound, encodes-⧺}
 use Rattle.table.proofs.Laws.Tables.{few-records, length-is}
-use Rattle.subtrees.specs.Laws.Parts.{Here, fits-at, here-at, past-node, records-at, tail_at, top-at}
+use Rattle.subtrees.specs.Laws.Parts.{Here, fits-at, here-at, past-node, records-at, sized, tail_at, top-at}
 use Rattle.subtrees.specs.Laws.Records.{count_at, node_at}
 use Rattle.rules2to7.specs.Nodes.{Block, Choice, Kind, Loop, Node, Plain, Sequence}
 use Rattle.rules2to7.specs.Settled.{before_at, block_at}
@@ -127,7 +127,7 @@ module _ (b : List ℕ) (facts : List Facts) (s : Surveyed b facts) (i : ℕ) (l
   settled-written x r out v e f n q =
       let end = i + extent_at facts i in
       let t = s.table in
-      let past : trees_at b end ≡ h.later = (past-node b facts s i l h).0 in
+      let past : trees_at b end ≡ h.later = (past-node b facts (sized b facts s) i l h).0 in
       wrote_as {p = some (leaf x (first_node (drop (record_length * i) b)).limit ▸ h.later)} (Some r) out (becomes ∙ rw (f, yes _ _ e, v) refl)
       (omega (arith, records-at b t end, ap records_in past), q ∙ rw (tail_at b t end, past, append-nil) refl)
     where

@@ -4,4 +4,4 @@ use Rattle.rules8and9.specs.Laws.Exit.{idle-at}
 use Rattle.rules8and9.proofs.is_idle.Goals as goal
 
 pub returns : goal.returns
-returns c = idle-at _ _ c.args.view.surveyed.table c.requires c.node_at-node.ensures (c.eq.ensures ∙ equal-kinds _ _) c.is_unlimited.ensures
+returns c = idle-at _ _ c.args.view.sized.table c.requires c.node_at-node.ensures (c.eq.ensures ∙ equal-kinds _ _) c.is_unlimited.ensures

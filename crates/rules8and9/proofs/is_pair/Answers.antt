@@ -5,4 +5,4 @@ use Rattle.rules8and9.proofs.is_pair.Goals as goal
 
 pub returns : goal.returns
 returns c =
-    pair-test _ _ c.args.view.surveyed.table c.requires c.node_at-node.ensures (c.eq.ensures ∙ equal-kinds _ _) c.is_unlimited.ensures c.children_at.ensures.0
+    pair-test _ _ c.args.view.sized.table c.requires c.node_at-node.ensures (c.eq.ensures ∙ equal-kinds _ _) c.is_unlimited.ensures c.children_at.ensures.0

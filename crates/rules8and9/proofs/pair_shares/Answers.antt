@@ -7,16 +7,16 @@ use Rattle.rules8and9.proofs.pair_shares.Goals as goal
 
 -- past the first test
 found : (c : Else-not-is_pair) → let a = c.args in PairAt a.view.table.now a.view.facts.now a.p
-found c = pair-at _ _ c.args.view.surveyed _ c.requires.pair (sym c.is_pair.ensures ∙ c.if-not-is_pair.false)
+found c = pair-at _ _ c.args.view.sized _ c.requires.pair (sym c.is_pair.ensures ∙ c.if-not-is_pair.false)
 
 pub returns-then-not-is_pair : goal.returns-then-not-is_pair
 returns-then-not-is_pair c = no-pair _ _ _ c.is_pair.ensures c.if-not-is_pair.true
 
 pub bounds-view-first : goal.bounds-view-first
-bounds-view-first c = (pair-at _ _ c.args.view.surveyed _ c.requires.pair (sym c.is_pair.ensures ∙ c.if-not-is_pair.false)).sized
+bounds-view-first c = (pair-at _ _ c.args.view.sized _ c.requires.pair (sym c.is_pair.ensures ∙ c.if-not-is_pair.false)).sized
 
 pub overflow_add-first-2 : goal.overflow_add-first-2
-overflow_add-first-2 c = let v = c.args.view in omega (arith, (found (goal.at.overflow_add-first-2 c).Else-not-is_pair).place, few-records v.table.now v.surveyed.table)
+overflow_add-first-2 c = let v = c.args.view in omega (arith, (found (goal.at.overflow_add-first-2 c).Else-not-is_pair).place, few-records v.table.now v.sized.table)
 
 pub same_subtrees-requires-clause-one : goal.same_subtrees-requires-clause-one
 same_subtrees-requires-clause-one c = (found (goal.at.same_subtrees-requires-clause-one c).Else-not-is_pair).place

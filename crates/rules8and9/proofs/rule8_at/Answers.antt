@@ -9,14 +9,14 @@ use Rattle.rules8and9.proofs.rule8_at.Goals.{After-copy_firsts-firsts}
 use Rattle.rules8and9.proofs.rule8_at.Goals as goal
 
 found : (c : In_ok-second) → let a = c.args in FitsAt a.view.table.now a.view.facts.now a.i c.in_ok-second.second
-found c = fits-at _ _ c.args.view.surveyed _ _ c.requires.inside c.in_ok-second.ensures
+found c = fits-at _ _ c.args.view.sized _ _ c.requires.inside c.in_ok-second.ensures
 
 -- and the record that the copies of the firsts reach
 firsts-end : (c : After-copy_firsts-firsts) (x : FitsAt c.args.view.table.now c.args.view.facts.now c.args.i c.in_ok-second.second) → c.copy_firsts-firsts.result ≡ 2 + records_in (firsts x.kids)
 firsts-end c x = omega (arith, c.copy_firsts-firsts.ensures.0, c.put_tops-tops.ensures.0, ap records_in (fits-firsts x _ c.children_at-count.ensures.0))
 
 pub returns-in_err-second : goal.returns-in_err-second
-returns-in_err-second c = rw c.from_residual.ensures (no_sharing _ c.args.view.surveyed.table _ _ c.requires.inside c.in_err-second.ensures)
+returns-in_err-second c = rw c.from_residual.ensures (no_sharing _ c.args.view.sized.table _ _ c.requires.inside c.in_err-second.ensures)
 
 pub put_tops-tops-requires-clause-room : goal.put_tops-tops-requires-clause-room
 put_tops-tops-requires-clause-room c =

@@ -7,10 +7,10 @@ use Rattle.rules8and9.proofs.rule9_at.Goals as goal
 
 -- past the first test, the loop has a body and an exit
 found : (c : Else-not-is_idle) → let a = c.args in ExitAt a.view.table.now a.view.facts.now a.i
-found c = exit-at _ _ c.args.view.surveyed _ c.requires.inside (sym c.is_idle.ensures ∙ c.if-not-is_idle.false)
+found c = exit-at _ _ c.requires.surveyed _ c.requires.inside (sym c.is_idle.ensures ∙ c.if-not-is_idle.false)
 
 pub returns-then-not-is_idle : goal.returns-then-not-is_idle
-returns-then-not-is_idle c = not-idle _ _ c.args.view.surveyed _ c.requires.inside _ _ c.is_idle.ensures c.if-not-is_idle.true
+returns-then-not-is_idle c = not-idle _ _ c.requires.surveyed _ c.requires.inside _ _ c.is_idle.ensures c.if-not-is_idle.true
 
 pub bounds-view-body : goal.bounds-view-body
 bounds-view-body c = (found (goal.at.bounds-view-body c).Else-not-is_idle).sized

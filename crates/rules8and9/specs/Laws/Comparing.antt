@@ -20,10 +20,10 @@ use Rattle.table.proofs.Laws.RoundTrip.{length-encode}
 use Rattle.table.specs.declared.Node.{Node}
 use Rattle.simplify.specs.Same.{same}
 use Rattle.simplify.proofs.Laws.Same.{bytes_same, same-is}
-use Rattle.subtrees.specs.Facts.{Surveyed, extent_at}
+use Rattle.subtrees.specs.Facts.{Sized, extent_at}
 use Rattle.subtrees.specs.declared.Facts.{Facts}
 use Rattle.subtrees.specs.Parts.{subtree}
-use Rattle.subtrees.specs.Laws.Parts.{back_at, here-at, past-inside, sized, top-at}
+use Rattle.subtrees.specs.Laws.Parts.{back_at, here-at, past-inside, top-at}
 use Rattle.rewrite.specs.Laws.Records.{subtree-sound}
 use Rattle.words.specs.Words.{Compared, SameWords, word}
 use Rattle.writing.specs.Records.{node_of}
@@ -175,7 +175,7 @@ starts-at : (b : List ℕ) (s : IsTable b) (i : ℕ) (l : i < record_count b) �
 unfolding encodes
 starts-at b s i l = let h = here-at b s i l in sym (back_at b s i) ∙ ap encodes h.here ∙ ap (λ t. encode t ++ encodes h.later) (sym (top-at b i h.here))
 
-module _ (b : List ℕ) (facts : List Facts) (s : Surveyed b facts) (i j : ℕ) (l : i < record_count b) (m : j < record_count b) where
+module _ (b : List ℕ) (facts : List Facts) (s : Sized b facts) (i j : ℕ) (l : i < record_count b) (m : j < record_count b) where
   abbrev ranged : (k : ℕ) → k < record_count b → T (listed (subtree b k))
   ranged k h = (subtree-sound b s.table k h).fair.listed
 
@@ -187,7 +187,7 @@ module _ (b : List ℕ) (facts : List Facts) (s : Surveyed b facts) (i j : ℕ) 
   other-sizes e =
       let t = subtree b i in
       let u = subtree b j in
-      never (same t u) (λ q. e (sized b facts s i l ∙ sym (records-unaddressed t) ∙ ap records (same-is t u q) ∙ records-unaddressed u ∙ sym (sized b facts s j m)))
+      never (same t u) (λ q. e (s.each i l ∙ sym (records-unaddressed t) ∙ ap records (same-is t u q) ∙ records-unaddressed u ∙ sym (s.each j m)))
 
   -- both have as many
   pub same-room : extent_at facts i ≡ extent_at facts j → (i + extent_at facts i ≤ record_count b) × (j + extent_at facts i ≤ record_count b)
@@ -197,4 +197,4 @@ module _ (b : List ℕ) (facts : List Facts) (s : Surveyed b facts) (i j : ℕ) 
       → r ≡ same_records (extent_at facts i) (records_from b i) (records_from b j) → r ≡ same (subtree b i) (subtree b j)
   same-bytes r e w =
       w ∙ ap₂ (same_records (extent_at facts i)) (starts-at b s.table i l) (starts-at b s.table j m)
-      ∙ trees-same (subtree b i) (subtree b j) (extent_at facts i) _ _ (ranged i l) (ranged j m) (sized b facts s i l) (e ∙ sized b facts s j m)
+      ∙ trees-same (subtree b i) (subtree b j) (extent_at facts i) _ _ (ranged i l) (ranged j m) (s.each i l) (e ∙ s.each j m)

@@ -18,7 +18,7 @@ use Rattle.subtrees.specs.Facts.{Surveyed, extent_at, fact_at}
 use Rattle.subtrees.specs.declared.Facts.{Facts}
 use Rattle.table.specs.Checking.{IsTable}
 use Rattle.subtrees.specs.Parts.{subtree, trees_at}
-use Rattle.subtrees.specs.Laws.Parts.{Here, here-at, top-at}
+use Rattle.subtrees.specs.Laws.Parts.{Here, here-at, sized, top-at}
 use Rattle.subtrees.specs.Laws.Records.{node_at}
 use Rattle.table.specs.declared.Number.TheVariants.{Plain}
 use Rattle.table.specs.declared.Kind.TheVariants.{Loop}
@@ -90,7 +90,7 @@ module _ (b : List ℕ) (facts : List Facts) (s : Surveyed b facts) (i : ℕ) (l
   exit-at e =
       let h = here-at b sim i l in
       let t = is_T _ (ap idle (sym (top-at b i h.here)) ∙ e) in
-      exit-from h (sym (idle-here h) ∙ e) (two_at b facts s i h (idle-shape h.own h.kids h.sound.fair.listed t))
+      exit-from h (sym (idle-here h) ∙ e) (two_at b facts (sized b facts s) i h (idle-shape h.own h.kids h.sound.fair.listed t))
 
   -- no such loop
   pub not-idle : (r : Bool) (out : List ℕ) → r ≡ idle (subtree b i) → r ≡ false → Wrote (rule_at rule9 (trees_at b i)) None out

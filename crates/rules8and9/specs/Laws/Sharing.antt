@@ -6,7 +6,7 @@ use Rattle.std.proofs.Common.{◌∙◌, append_assoc, append-nil, arith, leb→
 use Rattle.std.proofs.Math.Option.{none, some}
 use Prim.Native.Nat.{ℕ, suc, ◌+◌, ◌*◌, ◌-◌, ◌<◌, ◌≤◌}
 use Rattle.std.proofs.Math.Dec.{T}
-use borrow.Author.Tests.{eq-eqb, le-leb, lt-leb, ltb-false, ltb-true, ne_eqb}
+use borrow.Author.Tests.{eq-eqb, le-leb, lt-leb, ltb-false, ltb-true, ne_eqb, not-false, not-true}
 use Rattle.booleans.specs.Laws.{T-is, and-false, and_is, both, is_T, join-and}
 use Rattle.booleans.specs.Tests.{◌and◌}
 use Rattle.evaluate.specs.Closed.{closed, is_unlimited}
@@ -17,14 +17,14 @@ use Rattle.table.specs.Numbers.{record_length}
 use Rattle.table.specs.Table.{child_byte, encode, encodes, first_node, record_bytes, record_count}
 use Rattle.table.specs.Trees.{Forest, Tree, nil, node, ◌▸◌, ◌⧺◌, records, records_in, size}
 use Rattle.table.proofs.Laws.RoundTrip.{first-⧺}
-use Rattle.subtrees.specs.Facts.{Surveyed, extent_at, fact_at, reach}
+use Rattle.subtrees.specs.Facts.{Sized, Surveyed, extent_at, fact_at, reach}
 use Rattle.subtrees.specs.Children.{any, child_at}
 use Rattle.subtrees.specs.declared.Facts.{Facts}
 use Rattle.table.specs.Checking.{IsTable}
 use Rattle.subtrees.specs.Parts.{subtree, trees_at}
 use Rattle.subtrees.specs.Laws.Facts.{closed_at}
 use Rattle.table.proofs.Laws.Tables.{length-is}
-use Rattle.subtrees.specs.Laws.Parts.{Here, Next, Row, here-at, kids-row, next_row, node-extent, past-inside, past-node, records-at, row-end, row_last, sized, tail_at, top-at}
+use Rattle.subtrees.specs.Laws.Parts.{Here, Next, Row, here-at, kids-row, next_row, node-extent, past-inside, past-node, records-at, row-end, row_last, tail_at, top-at}
 use Rattle.subtrees.specs.Laws.Records.{count_at, node_at}
 use Rattle.table.specs.declared.Limit.{Limit}
 use Rattle.table.specs.declared.Limit.TheVariants.{Unlimited}
@@ -74,7 +74,7 @@ pub record PairAt (b : List ℕ) (facts : List Facts) (p : ℕ) : Type 0 where
   pub place : p + 1 + extent_at facts (p + 1) < record_count b
   pub second : subtree b (p + 1 + extent_at facts (p + 1)) ≡ second_of (subtree b p)
 
-module _ (b : List ℕ) (facts : List Facts) (s : Surveyed b facts) (p : ℕ) (l : p < record_count b) where
+module _ (b : List ℕ) (facts : List Facts) (s : Sized b facts) (p : ℕ) (l : p < record_count b) where
   pub pair-at : is_pair (subtree b p) ≡ true → PairAt b facts p
   unfolding first_of second_of head_of tail_of children
   pair-at e =
@@ -91,6 +91,39 @@ no-pair r x t e n = rw (← e, n) refl
 pub pair_same : (r q : Bool) (x t u : Tree) → q ≡ is_pair t → q ≡ true → u ≡ second_of t → r ≡ same u x → r ≡ sharing x t
 unfolding sharing ◌and◌
 pair_same r q x t u e n w h = rw (← e, n, ← w) h
+
+-- ---- children one after another
+
+-- the trees from record p on are left to be looked at, of the children of the node at record i
+pub record Shared (b : List ℕ) (i x p left : ℕ) : Type 0 where
+  pub row : Row b p left
+  pub still : all_pairs (subtree b x) (children (subtree b i)) ≡ all_pairs (subtree b x) row.trees
+
+pub shared_start : (b : List ℕ) → IsTable b → (i x c : ℕ) → i < record_count b → c ≡ child_byte (drop (record_length * i) b) → Shared b i x (i + 1) c
+unfolding children
+shared_start b s i x c l e =
+    let h = here-at b s i l in
+    rw (e ∙ count_at b i h) (record { row = kids-row b s i h; still = ap (λ t. all_pairs (subtree b x) (children t)) (top-at b i h.here) })
+
+module _ (b : List ℕ) (facts : List Facts) (s : Sized b facts) (i x p left : ℕ) (h : Shared b i x p left) (l : 0 < left) where
+  pub shared-turn : Next b facts p left h.row
+  shared-turn = next_row b facts s p left h.row l
+
+  shared-split : all_pairs (subtree b x) (children (subtree b i)) ≡ (sharing (subtree b x) (subtree b p) and all_pairs (subtree b x) shared-turn.others.trees)
+  unfolding all_pairs sharing
+  shared-split = h.still ∙ ap (all_pairs (subtree b x)) shared-turn.are
+
+  pub shared-next : (r : Bool) → r ≡ sharing (subtree b x) (subtree b p) → not r ≡ false → Shared b i x (p + extent_at facts p) (left - 1)
+  unfolding ◌and◌
+  shared-next r e n = record { row = shared-turn.others; still = shared-split ∙ rw (← e, not-false r n) refl }
+
+  pub shared-not : (r : Bool) → r ≡ sharing (subtree b x) (subtree b p) → not r ≡ true → false ≡ all_pairs (subtree b x) (children (subtree b i))
+  unfolding ◌and◌
+  shared-not r e n = sym (shared-split ∙ rw (← e, not-true r n) refl)
+
+pub shared-all : (b : List ℕ) (i x p left : ℕ) → Shared b i x p left → left ≤ 0 → true ≡ all_pairs (subtree b x) (children (subtree b i))
+unfolding all_pairs
+shared-all b i x p left h l = sym (h.still ∙ rw (row-end h.row l) refl)
 
 -- ---- all children share, where none is found that does not
 
@@ -165,7 +198,7 @@ choice-shared : (i : ℕ) (n : Node) (t : Tree) (f g : Forest) → same_kind n.k
 unfolding shared_at shares head_of ◌and◌
 choice-shared i n t f g k l = rw (k, l) refl
 
-pub choice-at : (b : List ℕ) (facts : List Facts) → Surveyed b facts → (i : ℕ) → i < record_count b → other b i ≡ false → ChoiceAt b i
+pub choice-at : (b : List ℕ) (facts : List Facts) → Sized b facts → (i : ℕ) → i < record_count b → other b i ≡ false → ChoiceAt b i
 unfolding children
 choice-at b facts s i l e =
     let h = here-at b s.table i l in
@@ -256,7 +289,7 @@ first-pair : (t : Tree) (f : Forest) → T (pairs (t ▸ f)) → T (is_pair t) �
 unfolding pairs
 first-pair t f h = both _ _ h
 
-module _ (b : List ℕ) (facts : List Facts) (s : Surveyed b facts) (p n at : ℕ) (o : List ℕ) (q m to : ℕ) (out : List ℕ) (h : Copying b p n at o q m to out) (l : 0 < m) where
+module _ (b : List ℕ) (facts : List Facts) (s : Sized b facts) (p n at : ℕ) (o : List ℕ) (q m to : ℕ) (out : List ℕ) (h : Copying b p n at o q m to out) (l : 0 < m) where
   pub copying-turn : TurnAt b facts q m h.row
   copying-turn =
       let w = next_row b facts s q m h.row l in
@@ -393,7 +426,7 @@ fit_parts n f e =
     let (p, q) = both _ _ s in
     (leb→le 2 (size f) (both _ _ p).0, q)
 
-module _ (b : List ℕ) (facts : List Facts) (s : Surveyed b facts) (i x : ℕ) (l : i < record_count b) where
+module _ (b : List ℕ) (facts : List Facts) (s : Sized b facts) (i x : ℕ) (l : i < record_count b) where
   sim : IsTable b
   sim = s.table
 
@@ -415,7 +448,7 @@ module _ (b : List ℕ) (facts : List Facts) (s : Surveyed b facts) (i x : ℕ) 
       let (past, within) = past-node b facts s i l h in
       let count = records-at b sim i in
       let all : records_in (trees_at b i) ≡ suc (records_in h.kids) + records_in h.later = ap records_in h.here in
-      let size : extent_at facts x ≡ records (second_of (head_of h.kids)) = sized b facts s x inside ∙ ap records stand in
+      let size : extent_at facts x ≡ records (second_of (head_of h.kids)) = s.each x inside ∙ ap records stand in
       let few : 2 + records_in (firsts h.kids) + records (second_of (head_of h.kids)) ≤ records_in h.kids = shared-records h.kids ps two in
       record {
         table = sim;

@@ -5,7 +5,7 @@ use Rattle.searching.specs.Laws.Search.{block_at, from3, from4, or-none, or_some
 use Rattle.searching.proofs.rule_at.Goals as goal
 
 pub returns-then-is_block : goal.returns-then-is_block
-returns-then-is_block c = block_at _ c.args.view.surveyed.table _ _ c.requires.inside c.node_at.ensures c.is_block.ensures c.if-is_block.true
+returns-then-is_block c = block_at _ c.args.view.sized.table _ _ c.requires.inside c.node_at.ensures c.is_block.ensures c.if-is_block.true
 
 pub returns-in-Some : goal.returns-in-Some
 returns-in-Some c = rw rule-is (or_some rule2 from3 _ _ _ c.in-Some.ensures)

@@ -8,11 +8,11 @@ use Rattle.table.specs.Trees.{Forest, nil, node, ◌▸◌, ◌⧺◌, records, 
 use Rattle.table.proofs.Laws.Trees.{some-records}
 use Rattle.table.specs.Checking.{IsTable}
 use Rattle.simplify.specs.Steps.{also, rule}
-use Rattle.subtrees.specs.Facts.{Surveyed, extent_at}
+use Rattle.subtrees.specs.Facts.{Sized, extent_at}
 use Rattle.subtrees.specs.declared.Facts.{Facts}
 use Rattle.subtrees.specs.Parts.{subtree, trees_at}
 use Rattle.subtrees.specs.Laws.Forests.{records-⧺}
-use Rattle.subtrees.specs.Laws.Parts.{back_at, here-at, next-at, past-node, records-at, sized, top-at}
+use Rattle.subtrees.specs.Laws.Parts.{back_at, here-at, next-at, past-node, records-at, top-at}
 use Rattle.rewrite.specs.Wrote.{Wrote, rule_at}
 use Rattle.rewrite.specs.Laws.Records.{⧺-assoc}
 use Rattle.searching.specs.Found.{NoRule, Placed, Quiet, Settled}
@@ -46,7 +46,7 @@ record Stands (b : List ℕ) (i n : ℕ) (others : Forest) : Type 0 where
   here : trees_at b i ≡ row ⧺ others
   count : records_in row ≡ n
 
-module _ (b : List ℕ) (facts : List Facts) (x : Surveyed b facts) where
+module _ (b : List ℕ) (facts : List Facts) (x : Sized b facts) where
   s : IsTable b
   s = x.table
 
@@ -70,7 +70,7 @@ module _ (b : List ℕ) (facts : List Facts) (x : Surveyed b facts) where
       go nil e c = absurd (unfold records_in in omega (arith, c))
       go (t ▸ r) e c = unfold ◌⧺◌ in unfold records_in in
           let l : i < record_count b = omega (arith, records-at b s i, ap records_in e, some-records t) in
-          (l, omega (arith, c, sized b facts x i l, ap records (top-at b i e)))
+          (l, omega (arith, c, x.each i l, ap records (top-at b i e)))
 
   module _ (at : ℕ) (d : Settled b facts at) where
     -- one after the other
@@ -87,11 +87,11 @@ module _ (b : List ℕ) (facts : List Facts) (x : Surveyed b facts) where
     passed_over i l o sought quiet =
         let h = here-at b s i l in
         let t = node h.own h.kids in
-        let count : records_in (t ▸ nil) ≡ extent_at facts i = (unfold records_in in omega (arith, sized b facts x i l, ap records (top-at b i h.here))) in
+        let count : records_in (t ▸ nil) ≡ extent_at facts i = (unfold records_in in omega (arith, x.each i l, ap records (top-at b i h.here))) in
         passed (extent_at facts i) i h.later (record { row = t ▸ nil; here = (unfold ◌⧺◌ in h.here); count = count }) o sought quiet
 
 -- a rule that fits at record i
-pub placed : (b : List ℕ) (facts : List Facts) → Surveyed b facts → (i r : ℕ) (out : List ℕ) → i < record_count b → Quiet b i → Wrote (rule_at rule (trees_at b i)) (Some r) out
+pub placed : (b : List ℕ) (facts : List Facts) → Sized b facts → (i r : ℕ) (out : List ℕ) → i < record_count b → Quiet b i → Wrote (rule_at rule (trees_at b i)) (Some r) out
     → Placed b i (i + extent_at facts i) r out
 unfolding Wrote records_in encodes
 placed b facts x i r out l q w =

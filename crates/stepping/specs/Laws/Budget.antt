@@ -1,7 +1,8 @@
 -- Steps up to an allowance, one after the other, each an edit of the table's bytes.
-use Rattle.std.specs.Prelude.{◌≡◌, refl, Bool, true, false, not, List, ◌++◌, ℕ, ◌+◌, ◌*◌, ◌-◌, ◌<◌, ◌≤◌, suc, zero, T, drop, length, take, is_some, Some, None}
+use Rattle.std.specs.Prelude.{◌≡◌, refl, Bool, true, false, not, ◌&&◌, List, ◌++◌, ℕ, ◌+◌, ◌*◌, ◌-◌, ◌<◌, ◌≤◌, suc, zero, T, ltb, drop, length, take, is_some, Some, None}
 use Rattle.std.specs.declared.option.Option.{Option as Maybe}
-use Rattle.std.proofs.Common.{ap, sym, subst, ◌∙◌, append-nil, add-zero, zero-add, arith, length-take-le}
+use Rattle.std.proofs.Common.{ap, sym, subst, ◌∙◌, append-nil, add-zero, zero-add, arith, length-take-le, ltb-false, ltb-true}
+use Rattle.std.proofs.lemmas.Option.{none-some}
 use Rattle.std.proofs.Math.Option.{Option, none, some}
 use Rattle.std.proofs.Math.Nat.{sub-zero}
 use Rattle.table.specs.Checking.{IsTable}
@@ -16,11 +17,11 @@ use Rattle.evaluate.specs.Evaluate.{zeros}
 use Rattle.simplify.specs.Steps.{Made, also, is_none, onward, step, steps}
 use Rattle.simplify.proofs.Laws.Keeps.{Kept}
 use Rattle.simplify.proofs.Laws.Stepping.{Steps, ends, goes, last, step-steps}
-use Rattle.subtrees.specs.Facts.{Surveyed, extent_at}
+use Rattle.subtrees.specs.Facts.{Sized, Surveyed, extent_at}
 use Rattle.subtrees.specs.declared.Facts.{Facts}
 use Rattle.searching.specs.declared.Spot.{Spot}
 use Rattle.subtrees.specs.Parts.{Simplifiable}
-use Rattle.subtrees.specs.Laws.Parts.{extent-some}
+use Rattle.subtrees.specs.Laws.Parts.{extent-some, sized}
 use Rattle.writing.specs.Records.{front}
 use Rattle.searching.specs.Found.{Found, Placed, Settled}
 use Rattle.searching.specs.Rewritten.{Rewritten}
@@ -168,14 +169,21 @@ survey-ready work n facts s l f =
     let long = length-take-le n work l in
     rw (part-to work n) (s.table, omega arith)
 
+-- and ready for a step
+pub step-ready : (work : List ℕ) (facts : List Facts) (n at out : ℕ) → Simplifiable (take n work) → n ≤ length work → Surveyed (take n work) facts → Settled (take n work) facts at → n ≤ out
+    → let b = part n work in Simplifiable b × (Surveyed b facts × (Settled b facts at × (length b ≤ out)))
+step-ready work facts n at out s l v q h =
+    let long = length-take-le n work l in
+    rw (part-to work n) (s, (v, (q, omega arith)))
+
 -- before the first step every subtree ends behind record 0
-none-settled : (b : List ℕ) (facts : List Facts) → Surveyed b facts → Settled b facts 0
+pub none-settled : (b : List ℕ) (facts : List Facts) → Sized b facts → Settled b facts 0
 none-settled b facts x j l o = absurd (omega (arith, o, extent-some b facts x j l))
 
 pub stage_start : (work : List ℕ) (n long : ℕ) (facts : List Facts) → Simplifiable (take long work) → long ≤ length work → Surveyed (part long work) facts → Stage (take long work) n work long 0 facts 0
 stage_start work n long facts s l v =
     let known : Surveyed (take long work) facts = rw (part-to work long) at v in
-    record { going = going_start _ n s; room = l; known = known; settled = none-settled _ facts known }
+    record { going = going_start _ n s; room = l; known = known; settled = none-settled _ facts (sized _ facts known) }
 
 module _ {b₀ : List ℕ} {n : ℕ} {work : List ℕ} {long k : ℕ} {facts : List Facts} {at : ℕ} (s : Stage b₀ n work long k facts at) where
   long-is : length (take long work) ≡ long
@@ -216,6 +224,10 @@ module _ {b₀ : List ℕ} {n : ℕ} {work : List ℕ} {long k : ℕ} {facts : L
     pub stage-next : k < n → Going b₀ n (front spot.at (take long work) ++ front spot.len out) (k + 1)
     stage-next l = going_next b₀ n (take long work) k s.going l next_one
 
+    -- the allowance is used, and a rule fits
+    pub stage-spent : n ≤ k → Ends b₀ n (take long work) k false
+    stage-spent l = ends-spent b₀ n (take long work) k s.going l next_one
+
     pub stage-placed : Found (part long work) facts (Some spot) out → Placed (take long work) spot.at (spot.at + extent_at facts spot.at) spot.len out
     stage-placed f = rw (part-to work long) at f
 
@@ -223,3 +235,30 @@ module _ {b₀ : List ℕ} {n : ℕ} {work : List ℕ} {long k : ℕ} {facts : L
     pub stage_made : k < n → (new : List ℕ) (r : ℕ) (facts' : List Facts) → take r new ≡ front spot.at (take long work) ++ front spot.len out → r ≤ length new
         → Surveyed (take r new) facts' → Settled (take r new) facts' spot.at → Stage b₀ n new r (k + 1) facts' spot.at
     stage_made l new r facts' e o v q = record { going = going-as e (stage-next l); room = o; known = v; settled = q }
+
+  -- by a loop's test
+  pub stage-ends : (next : Maybe Spot) (out : List ℕ) → Rewritten (stepped (decode (part long work))) (part long work) next out → (is_some next && ltb k n) ≡ false
+      → Ends b₀ n (take long work) k (not (is_some next))
+  stage-ends None out w e = stage-finished out w
+  stage-ends (Some spot) out w e = stage-spent spot out w (ltb-false k n e)
+
+  -- and where it goes on
+  pub stage-on : (next : Maybe Spot) → (is_some next && ltb k n) ≡ true → (next ≡ None → ⊥) × (k < n)
+  stage-on None e = absurd (subst T (sym e) tt)
+  stage-on (Some spot) e = (λ d. none-some _ (sym d), ltb-true k n e)
+
+-- what holds in a turn of the loop
+pub record Turn (b₀ : List ℕ) (n : ℕ) (work : List ℕ) (long k : ℕ) (facts : List Facts) (next : Maybe Spot) (out : List ℕ) : Type 0 where
+  pub spot : Spot
+  pub is : next ≡ Some spot
+  pub more : k < n
+  pub fewer : record_length * (spot.at + spot.len) ≤ long
+  pub placed : Placed (take long work) spot.at (spot.at + extent_at facts spot.at) spot.len out
+  pub going : Going b₀ n (front spot.at (take long work) ++ front spot.len out) (k + 1)
+
+pub turn-of : {b₀ : List ℕ} {n : ℕ} {work : List ℕ} {long k : ℕ} {facts : List Facts} {at : ℕ} → Stage b₀ n work long k facts at → (next : Maybe Spot) (out : List ℕ)
+    → Rewritten (stepped (decode (part long work))) (part long work) next out → Found (part long work) facts next out → (is_some next && ltb k n) ≡ true → Turn b₀ n work long k facts next out
+turn-of s None out w f e = absurd (subst T (sym e) tt)
+turn-of s (Some spot) out w f e =
+    let (z, o) = stage-on s (Some spot) e in
+    record { spot = spot; is = refl; more = o; fewer = stage-fewer s spot out w; placed = stage-placed s spot out w f; going = stage-next s spot out w o }

@@ -5,7 +5,7 @@ use Rattle.table.specs.Numbers.{record_length}
 use Rattle.table.specs.Table.{child_byte, record_count}
 use Rattle.table.specs.Trees.{Tree, records}
 use Rattle.subtrees.specs.Parts.{subtree, trees_at}
-use Rattle.subtrees.specs.Facts.{Surveyed, extent_at}
+use Rattle.subtrees.specs.Facts.{Sized, extent_at}
 use Rattle.subtrees.specs.Children.{Tells, any, child_at, offset}
 use Rattle.subtrees.specs.declared.Facts.{Facts}
 use Rattle.subtrees.specs.Laws.Parts.{Next, Row, here-at, kids-row, next_row, row-end}
@@ -16,7 +16,7 @@ pub record Looking (b : List ℕ) (answers : ℕ → Bool → Type 0) (i left p 
   pub row : Row b p left
   pub value : (q : Tree → Bool) → Tells b answers q → child_at q i (trees_at b i) ≡ cond (any q row.trees) (Some (p + offset q row.trees)) None
 
-module _ (b : List ℕ) (facts : List Facts) (x : Surveyed b facts) (answers : ℕ → Bool → Type 0) (i : ℕ) where
+module _ (b : List ℕ) (facts : List Facts) (x : Sized b facts) (answers : ℕ → Bool → Type 0) (i : ℕ) where
   pub look-first : (left : ℕ) → i < record_count b → left ≡ child_byte (drop (record_length * i) b) → Looking b answers i left (i + 1)
   unfolding child_at
   look-first left l e = let h = here-at b x.table i l in rw (e ∙ count_at b i h) (record { row = kids-row b x.table i h; value = λ q t. ap (child_at q i) h.here })

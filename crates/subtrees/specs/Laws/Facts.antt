@@ -15,9 +15,29 @@ use Rattle.evaluate.specs.Closed.{closed, closed_in, stays, symbol_free, symbol_
 use Rattle.evaluate.specs.Evaluate.{name, name_in, outward, seen}
 use Rattle.evaluate.proofs.Laws.Monotone.{name_in-le}
 use Rattle.subtrees.specs.Nodes.{AtMost, Block, Choice, Kind, Limit, Loop, Sequence, Unlimited}
-use Rattle.subtrees.specs.Facts.{below_of, child_in, facts_of, is_loop, no_child, outer, paired_reach, passed, reach, reach_in}
+use Rattle.subtrees.specs.Facts.{below_of, child_in, facts_of, is_loop, no_child, outer, paired_reach, passed, reach, reach_in, symbols, symbols_in}
 use Rattle.subtrees.specs.declared.Below.{Below}
 use Rattle.subtrees.specs.Laws.Forests.{Sound}
+
+-- ---- symbols
+
+pub free-is : (t : Tree) → eqb (symbols t) 0 ≡ symbol_free t
+unfolding symbols
+free-is t = go (symbol_free t)
+  where
+    go : (x : Bool) → eqb (cond x 0 1) 0 ≡ x
+    go true = refl
+    go false = refl
+
+symbols-more : (t : Tree) (f : Forest) → symbols_in (t ▸ f) ≡ max (symbols t) (symbols_in f)
+unfolding symbols symbols_in symbol_free_in
+symbols-more t f = go (symbol_free t) (symbol_free_in f)
+  where
+    go : (x y : Bool) → cond (x and y) 0 1 ≡ max (cond x 0 1) (cond y 0 1)
+    go true true = unfold ◌and◌ in refl
+    go true false = unfold ◌and◌ in refl
+    go false true = unfold ◌and◌ in refl
+    go false false = unfold ◌and◌ in refl
 
 -- ---- closed, by the outermost loop that a limit names
 

@@ -17,7 +17,7 @@ use Rattle.evaluate.specs.Evaluate.{fits, fits_in, zeros}
 use Rattle.subtrees.specs.Nodes.{Node}
 use Rattle.table.specs.Checking.{IsTable}
 use Rattle.subtrees.specs.Parts.{Simplifiable, subtree, trees_at}
-use Rattle.subtrees.specs.Facts.{Surveyed, extent_at}
+use Rattle.subtrees.specs.Facts.{Sized, Surveyed, extent_at}
 use Rattle.subtrees.specs.declared.Facts.{Facts}
 use Rattle.subtrees.specs.Laws.Forests.{Sound, SoundIn, below, drop-from, encodes-⧺, from, from-add, from-fits, from_next, from-records, from_row, from-sound, records-⧺, row_back}
 
@@ -189,9 +189,9 @@ module _ (b : List ℕ) (s : IsTable b) where
             inside = inside;
           }
 
--- how many records a subtree has, by the facts that are kept
-pub sized : (b : List ℕ) (facts : List Facts) → Surveyed b facts → (j : ℕ) → j < record_count b → extent_at facts j ≡ records (subtree b j)
-sized b facts x j l = ap (λ f. f.records) (x.each j l)
+-- how many records each subtree has, by the facts that are kept
+pub sized : (b : List ℕ) (facts : List Facts) → Surveyed b facts → Sized b facts
+sized b facts x = record { table = x.table; room = x.room; each = λ j l. ap (λ f. f.records) (x.each j l) }
 
 -- the same by the facts
 pub record Next (b : List ℕ) (facts : List Facts) (p left : ℕ) (r : Row b p left) : Type 0 where
@@ -203,31 +203,31 @@ pub record Next (b : List ℕ) (facts : List Facts) (p left : ℕ) (r : Row b p 
   pub extent : extent_at facts p ≡ records (subtree b p)
   pub within : p + extent_at facts p ≤ record_count b
 
-pub next_row : (b : List ℕ) (facts : List Facts) → Surveyed b facts → (p left : ℕ) (r : Row b p left) → 0 < left → Next b facts p left r
+pub next_row : (b : List ℕ) (facts : List Facts) → Sized b facts → (p left : ℕ) (r : Row b p left) → 0 < left → Next b facts p left r
 next_row b facts x p left r l =
     let f = first-row b x.table p left r l in
-    let e : extent_at facts p ≡ records f.tree = sized b facts x p f.start ∙ ap records f.here in
+    let e : extent_at facts p ≡ records f.tree = x.each p f.start ∙ ap records f.here in
     record {
       others = record { trees = f.others.trees; later = f.others.later; row = rw e f.others.row; many = f.others.many; last = omega (arith, f.others.last) };
       are = f.split ∙ ap (λ t. t ▸ f.others.trees) (sym f.here);
       same = f.same;
       inside = f.start;
       sized = omega (arith, f.start, x.room);
-      extent = sized b facts x p f.start;
+      extent = x.each p f.start;
       within = omega (arith, f.inside);
     }
 
 -- how long the subtree at record i is, and what stands past it
-module _ (b : List ℕ) (facts : List Facts) (x : Surveyed b facts) (i : ℕ) (l : i < record_count b) where
+module _ (b : List ℕ) (facts : List Facts) (x : Sized b facts) (i : ℕ) (l : i < record_count b) where
   pub node-extent : (h : Here b i) → extent_at facts i ≡ suc (records_in h.kids)
   unfolding records
-  node-extent h = sized b facts x i l ∙ ap records (top-at b i h.here)
+  node-extent h = x.each i l ∙ ap records (top-at b i h.here)
 
   pub past-node : (h : Here b i) → (trees_at b (i + extent_at facts i) ≡ h.later) × (i + extent_at facts i ≤ record_count b)
-  past-node h = rw (sized b facts x i l ∙ ap records (top-at b i h.here)) (past_first b x.table i (node h.own h.kids) h.later h.here)
+  past-node h = rw (x.each i l ∙ ap records (top-at b i h.here)) (past_first b x.table i (node h.own h.kids) h.later h.here)
 
   pub extent-some : 0 < extent_at facts i
-  extent-some = omega (arith, sized b facts x i l, some-records (subtree b i))
+  extent-some = omega (arith, x.each i l, some-records (subtree b i))
 
   pub past-inside : i + extent_at facts i ≤ record_count b
   past-inside = (past-node (here-at b x.table i l)).1

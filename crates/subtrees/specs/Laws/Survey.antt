@@ -1,7 +1,7 @@
 -- The pass over a table that finds the facts of every record, from the last to the first.
 use Rattle.std.specs.Prelude.{◌≡◌, Bool, true, ◌&&◌, List, ℕ, ◌+◌, ◌*◌, ◌-◌, ◌<◌, ◌≤◌, max, zero, suc, T, eqb, ltb, drop, set}
 use Rattle.std.proofs.Math.Path.{refl, ap, sym}
-use Rattle.std.proofs.Common.{subst, ◌∙◌, add-one, ltb-false, ltb-true, ne_eqb}
+use Rattle.std.proofs.Common.{cond, subst, ◌∙◌, add-one, ltb-false, ltb-true, ne_eqb}
 use Rattle.std.proofs.Math.Bool.{false}
 use native.Mathlib.Omega.{arith}
 use Rattle.std.proofs.Math.ListN.{length}
@@ -11,13 +11,12 @@ use Rattle.booleans.specs.Tests.{◌and◌}
 use Rattle.table.specs.Numbers.{most_records, record_length}
 use Rattle.table.specs.Table.{child_byte, first_node, flag, flagless, limit_num, loop_byte, record_bytes, record_count, value_num, most_flags}
 use Rattle.table.specs.Questions.{limit_in_range, listed}
-use Rattle.table.specs.Trees.{Forest, node, ◌▸◌, records, records_in}
+use Rattle.table.specs.Trees.{Forest, Tree, node, ◌▸◌, records, records_in}
 use Rattle.evaluate.specs.Closed.{is_plain, plain_kind, plain_limit, symbol_free, symbol_free_in, plain_most}
 use Rattle.evaluate.specs.Evaluate.{inner, name, name_in}
 use Rattle.subtrees.specs.Nodes.{AtMost, Block, Choice, Kind, Limit, Loop, Node, Number, Plain, Sequence, Symbol, Unlimited, Most}
-use Rattle.subtrees.specs.Facts.{Known, Outdated, Own, OwnBefore, Surveyed, Unchanged, below_at, below_of, child_in, extent_at, fact_at, facts_of, is_loop, limited_name, no_child, paired_reach, reach, reach_below, reach_in}
+use Rattle.subtrees.specs.Facts.{Known, Moved, Outdated, Own, OwnBefore, SameFacts, Surveyed, Unchanged, below_at, below_of, child_in, extent_at, fact_at, facts_of, is_loop, limited_name, no_child, paired_reach, reach, reach_below, reach_in, symbols, symbols_in}
 use Rattle.subtrees.specs.declared.Facts.{Facts}
-use Rattle.std.specs.List.{CopiedTo, SameBelow}
 use Rattle.table.specs.Checking.{IsTable}
 use Rattle.subtrees.specs.Parts.{subtree, trees_at}
 use Rattle.subtrees.specs.declared.Below.{Below}
@@ -131,6 +130,15 @@ free-of : (n : Node) (f : Forest) → ((plain_kind n.kind and plain_limit n.limi
 unfolding symbol_free
 free-of n f = and_is (plain_kind n.kind and plain_limit n.limit) (symbol_free_in f)
 
+-- a symbol of the node, or below it
+symbols-of : (n : Node) (f : Forest) → cond (plain_kind n.kind and plain_limit n.limit) (symbols_in f) 1 ≡ symbols (node n f)
+unfolding symbols symbols_in symbol_free
+symbols-of n f = go (plain_kind n.kind and plain_limit n.limit) (symbol_free_in f)
+  where
+    go : (x y : Bool) → ◌≡◌ {A = ℕ} (cond x (cond y 0 1) 1) (cond (x and y) 0 1)
+    go true y = unfold ◌and◌ in refl
+    go false y = unfold ◌and◌ in refl
+
 name_of : (l : Limit) (k : ℕ) → T (limit_in_range l) → limited_name (loop_byte l) k ≡ inner l k
 unfolding loop_byte inner limit_in_range
 name_of Unlimited k h = refl
@@ -140,6 +148,49 @@ name_of (AtMost j m) k h = rw (ne_eqb j 0 (λ e. omega (arith, limit-byte j (bot
 
 pub put-apart : (facts : List Facts) (i : ℕ) (x : Facts) (j : ℕ) → (j ≡ i → ⊥) → fact_at (set facts i x) j ≡ fact_at facts j
 put-apart facts i x j o = get_or-set_other facts i j x _ o
+
+pub still : (facts : List Facts) (j : ℕ) → SameFacts facts j facts j
+still facts j = refl
+
+pub then_same : (e f g : List Facts) (j k l : ℕ) → SameFacts e j f k → SameFacts f k g l → SameFacts e j g l
+then_same e f g j k l p q = q ∙ p
+
+-- a tree's facts are its own wherever they stand
+own-moved : (t : Tree) (facts facts' : List Facts) (j k : ℕ) → SameFacts facts j facts' k → Own t facts j → Own t facts' k
+own-moved t facts facts' j k s w = s ∙ w
+
+-- k records' facts were moved from place `from` to place `to`, and the others from there on are as they were
+pub record Moving (from to k : ℕ) (facts facts' : List Facts) : Type 0 where
+  pub moved : Moved from to k facts facts'
+  pub before : Unchanged to facts facts'
+  pub behind : (j : ℕ) → from + k ≤ j → SameFacts facts j facts' j
+
+pub none-moved : (from to : ℕ) (facts : List Facts) → Moving from to 0 facts facts
+none-moved from to facts = record { moved = λ k l. absurd (omega (arith, l)); before = λ j l. still facts j; behind = λ j l. still facts j }
+
+-- the facts at place i, by those at place j
+abbrev copy_facts : List Facts → (i j : ℕ) → List Facts
+copy_facts facts i j = set facts i (fact_at facts j)
+
+copy-there : (facts : List Facts) (i j : ℕ) → i < length facts → SameFacts facts j (copy_facts facts i j) i
+copy-there facts i j l = get_or-set_same facts i _ _ l
+
+pub one-moved : (from to k : ℕ) (facts facts' : List Facts) → to ≤ from → to + k < length facts' → Moving from to k facts facts'
+    → Moving from to (k + 1) facts (copy_facts facts' (to + k) (from + k))
+one-moved from to k facts facts' o l s = record {
+  moved = λ j p. moved j p (ltb j k) refl;
+  before = λ j p. apart j (λ d. omega (arith, d, p)) ∙ s.before j p;
+  behind = λ j p. apart j (λ d. omega (arith, d, p, o)) ∙ s.behind j (omega (arith, p));
+}
+  where
+    apart : (j : ℕ) → (j ≡ to + k → ⊥) → fact_at (copy_facts facts' (to + k) (from + k)) j ≡ fact_at facts' j
+    apart j d = put-apart facts' (to + k) _ j d
+
+    moved : (j : ℕ) → j < k + 1 → (x : Bool) → ltb j k ≡ x → fact_at (copy_facts facts' (to + k) (from + k)) (to + j) ≡ fact_at facts (from + j)
+    moved j p true t = apart (to + j) (λ d. omega (arith, d, ltb-true j k t)) ∙ s.moved j (ltb-true j k t)
+    moved j p false t =
+        let same : j ≡ k = omega (arith, p, ltb-false j k t) in
+        rw same (get_or-set_same facts' (to + k) _ _ l ∙ s.behind (from + k) (omega arith))
 
 -- one record more
 pub known_more : (b : List ℕ) (facts : List Facts) (i : ℕ) → Known b facts (i + 1) → Own (subtree b i) facts i → Known b facts i
@@ -209,7 +260,7 @@ module _ (b : List ℕ) (s : IsTable b) (i : ℕ) (l : i < record_count b) where
 
 module _ (b : List ℕ) (e : List Facts) (at end rest : ℕ) (o : Outdated b e at end rest) where
   -- the last records' facts, where they stand for the table as it is now
-  pub moved-known : {f : List Facts} → CopiedTo e f end (record_count b - rest) rest → Known b f (record_count b - rest)
+  pub moved-known : {f : List Facts} → Moved end (record_count b - rest) rest e f → Known b f (record_count b - rest)
   moved-known {f} w = record { each = own }
     where
       own : (j : ℕ) → record_count b - rest ≤ j → j < record_count b → Own (subtree b j) f j
@@ -217,7 +268,7 @@ module _ (b : List ℕ) (e : List Facts) (at end rest : ℕ) (o : Outdated b e a
           let k = j - (record_count b - rest) in
           let less : k < rest = omega (arith, p, q, o.changed) in
           let same : record_count b - rest + k ≡ j = omega (arith, p) in
-          w j _ p (omega (arith, q, o.changed)) ∙ subst (λ i. fact_at e (end + k) ≡ facts_of (subtree b i)) same (o.behind k less)
+          subst (λ i. Own (subtree b i) f i) same (w k less ∙ o.behind k less)
 
-  pub moved_before : (f : List Facts) → SameBelow e f (record_count b - rest) → OwnBefore b f at at
-  moved_before f u = before-still b e f at at at (omega arith) (λ j l. u j _ (omega (arith, l, o.changed))) o.before
+  pub moved_before : (f : List Facts) → Unchanged (record_count b - rest) e f → OwnBefore b f at at
+  moved_before f u = before-still b e f at at at (omega arith) (λ j l. u j (omega (arith, l, o.changed))) o.before
